@@ -12,7 +12,14 @@ use Rattle.bid_forms.specs.declared.form_text.FormFault.TheVariants as fault
 abbrev rules : Terms
 rules = record {
   step = 1;
-  categories = record { name = codes "A"; supply = 2; reserve = 10; points = 1; value = 0 } ∷ record { name = codes "B"; supply = 1; reserve = 5; points = 1; value = 0 } ∷ [];
+  categories = record { name = codes "A"; supply = 2; reserve = 10; points = 1; value = 0 } ∷ record {
+    name = codes "B";
+    supply = 1;
+    reserve =
+        5;
+    points = 1;
+    value = 0;
+  } ∷ [];
   bidders = record { name = codes "Alpha"; eligibility = 9; sessions = 2 } ∷ [];
   pools = [];
 }

@@ -29,7 +29,8 @@ pub record BidsSoFar (t : Terms) (eligibility : ℕ) (all rest : List Record) (p
   pub differ : PackagesDiffer bids
 
 -- the first fault of all checks is that of the first part with a fault
-pub checks-parts : (t : Terms) (eligibility place : ℕ) (before : List Bid) (r : Record) → first_failed (bid_checks t eligibility place before r) ≡ fault_of_bid t eligibility place before r
+pub checks-parts : (t : Terms) (eligibility place : ℕ) (before : List Bid) (r : Record)
+    → first_failed (bid_checks t eligibility place before r) ≡ fault_of_bid t eligibility place before r
 checks-parts t eligibility place before r =
     let lots = (parsed_bid r).package in
     let count = count_checks t place r in
@@ -49,7 +50,8 @@ checks-parts t eligibility place before r =
 -- the fault of the next record, by what was read so far
 bid_fault-is : (t : Terms) (eligibility : ℕ) (all ahead : List Record) (place : ℕ) (bids : List Bid) (r : Record) (so_far : BidsSoFar t eligibility all ahead place bids)
     → bid_fault t eligibility so_far.before r ≡ fault_of_bid t eligibility place bids r
-bid_fault-is t eligibility all ahead place bids r so_far = rw (so_far.place_is, so_far.bids_are) (checks-parts t eligibility (length so_far.before + 2) (map parsed_bid so_far.before) r)
+bid_fault-is t eligibility all ahead place bids r so_far =
+    rw (so_far.place_is, so_far.bids_are) (checks-parts t eligibility (length so_far.before + 2) (map parsed_bid so_far.before) r)
 
 -- one more record without a fault
 pub bids-more : (t : Terms) (eligibility : ℕ) (all ahead rest : List Record) (place : ℕ) (old new : List Bid) (r : Record) (bid : Bid)
@@ -61,7 +63,8 @@ bids-more t eligibility all ahead rest place old new r bid so_far next none is a
     let before = so_far.before in
     record {
       before = before ++ r ∷ [];
-      checked = checked-more (bid_fault t eligibility) all before ahead rest r so_far.checked next (bid_fault-is t eligibility all ahead place old r so_far ∙ none);
+      checked = checked-more (bid_fault t eligibility) all before ahead rest r so_far.checked next
+          (bid_fault-is t eligibility all ahead place old r so_far ∙ none);
       place_is = (let n = length-append before (r ∷ []) in let m = so_far.place_is in omega arith);
       bids_are = rw (added, so_far.bids_are, is) (sym (map-append parsed_bid before (r ∷ [])));
       few = rw added (let n = length-append old (bid ∷ []) in omega arith);
@@ -75,7 +78,8 @@ pub bids-fault : (t : Terms) (eligibility : ℕ) (all ahead rest : List Record) 
     → BidsSoFar t eligibility all ahead place bids → ahead ≡ r ∷ rest → fault_of_bid t eligibility place bids r ≡ Some f
     → first_fault (bid_fault t eligibility) [] all ≡ Some f
 bids-fault t eligibility all ahead rest place bids r f so_far next found =
-    checked-fault (bid_fault t eligibility) all so_far.before ahead rest r f so_far.checked next (bid_fault-is t eligibility all ahead place bids r so_far ∙ found)
+    checked-fault (bid_fault t eligibility) all so_far.before ahead rest r f so_far.checked next
+    (bid_fault-is t eligibility all ahead place bids r so_far ∙ found)
 
 -- no record is left
 pub bids-all : (t : Terms) (eligibility : ℕ) (all : List Record) (place : ℕ) (bids : List Bid) (so_far : BidsSoFar t eligibility all [] place bids)

@@ -37,7 +37,8 @@ pub names-more : (categories : List Category) (r : Record) (place : ℕ) (catego
     → pointwise bytes_eq (drop (place + 1) r) (map (λ c. c.name) (drop place categories))
     ≡ (bytes_eq (record_field (place + 2) r) category.name && pointwise bytes_eq (drop (place + 1 + 1) r) (map (λ c. c.name) (drop (place + 1) categories)))
 names-more categories r place category small wide at =
-    let next : drop place categories ≡ category ∷ drop (place + 1) categories = rw (add-one place) (drop-cons categories place category small ∙ ap (λ c. c ∷ drop (suc place) categories) (sym at)) in
+    let next : drop place categories ≡ category ∷ drop (place + 1) categories =
+    rw (add-one place) (drop-cons categories place category small ∙ ap (λ c. c ∷ drop (suc place) categories) (sym at)) in
     let field_next : drop (place + 1) r ≡ record_field (place + 1 + 1) r ∷ drop (place + 1 + 1) r = fields-more r (place + 1) wide in
     let two : place + 1 + 1 ≡ place + 2 = omega arith in
     rw (next, field_next, two) refl
@@ -58,13 +59,15 @@ quantities_from n r = map parsed_numeral (drop n r)
 abbrev pub QuantitiesSoFar : Record → ℕ → Bool → List ℕ → Type 0
 QuantitiesSoFar r n within items =
     (list_all (λ (text : List ℕ). is_some (number_of text)) (drop n r) ≡ list_all (λ (text : List ℕ). is_some (number_of text)) (drop 1 r))
-    × ((within && list_all (λ (quantity : ℕ). nat_le quantity GREATEST_QUANTITY) (quantities_from n r)) ≡ list_all (λ (quantity : ℕ). nat_le quantity GREATEST_QUANTITY) (quantities_from 1 r))
+    × ((within && list_all (λ (quantity : ℕ). nat_le quantity GREATEST_QUANTITY) (quantities_from n r))
+    ≡ list_all (λ (quantity : ℕ). nat_le quantity GREATEST_QUANTITY) (quantities_from 1 r))
     × (within ≡ true → items ++ quantities_from n r ≡ quantities_from 1 r)
     × All (λ quantity. quantity ≤ GREATEST_QUANTITY) items
     × (length items < n)
 
 -- the next field is no number
-pub quantities-none : (r : Record) (n : ℕ) (within : Bool) (items : List ℕ) → QuantitiesSoFar r n within items → n < length r → None ≡ number_of (record_field (n + 1) r)
+pub quantities-none : (r : Record) (n : ℕ) (within : Bool) (items : List ℕ) → QuantitiesSoFar r n within items → n < length r
+    → None ≡ number_of (record_field (n + 1) r)
     → list_all (λ (text : List ℕ). is_some (number_of text)) (drop 1 r) ≡ false
 quantities-none r n within items (texts, limits, are, each, few) small none =
     let parsed = rw (fields-more r n small, sym (ap is_some none)) at texts in

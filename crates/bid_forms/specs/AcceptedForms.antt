@@ -18,6 +18,8 @@ accepted_bids t eligibility entries = accepted_of (faults_by_record t eligibilit
 
 -- of a bidder's form each fault is a record's by the accepted ones before it, and the accepted ones alone have none. Of a form of an unknown bidder the header's is left
 pub record FormFaultsAreOfRecords (t : Terms) (header : Record) (entries : List Record) : Type 0 where
-  pub each : (bidder : ℕ) (f : Found FormFault) → parsed_bidder t header ≡ Ok bidder → Contains (all_form_faults t (header ∷ entries)) f ↔ IsOfItem (faults_by_record t (eligibility_of t bidder)) 2 entries f
+  pub each : (bidder : ℕ) (f : Found FormFault) → parsed_bidder t header ≡ Ok bidder
+      → Contains (all_form_faults t (header ∷ entries)) f ↔ IsOfItem (faults_by_record t (eligibility_of t bidder)) 2 entries f
   pub none : (bidder : ℕ) → parsed_bidder t header ≡ Ok bidder → all_form_faults t (header ∷ accepted_bids t (eligibility_of t bidder) entries) ≡ []
-  pub unknown : (f : FormFault) → parsed_bidder t header ≡ Err f → is_unknown_bidder f ≡ true → all_form_faults t (header ∷ accepted_bids t GREATEST_AMOUNT entries) ≡ found 1 f ∷ []
+  pub unknown : (f : FormFault) → parsed_bidder t header ≡ Err f → is_unknown_bidder f ≡ true
+      → all_form_faults t (header ∷ accepted_bids t GREATEST_AMOUNT entries) ≡ found 1 f ∷ []

@@ -18,7 +18,8 @@ fault_of_amount step place r = one_failed 1 (amount_checks step place r)
 
 -- the faults of its quantities, each at its field
 abbrev pub all_quantity_faults : ℕ → Record → List (Found FormFault)
-all_quantity_faults place r = each_failed is_quantity_text (fault.QuantityText place) 2 (drop 1 r) ++ each_failed is_quantity (fault.QuantityRange place) 2 (parsed_bid r).package
+all_quantity_faults place r =
+    each_failed is_quantity_text (fault.QuantityText place) 2 (drop 1 r) ++ each_failed is_quantity (fault.QuantityRange place) 2 (parsed_bid r).package
 
 -- the faults of its package, by the bids before it
 abbrev pub all_package_faults : Terms → ℕ → ℕ → List Bid → Record → List (Found FormFault)

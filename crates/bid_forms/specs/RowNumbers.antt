@@ -25,7 +25,8 @@ parsed_reserve t r = option_map (reserve_of t.categories) (parsed_package t r)
 
 -- the eligibility of the bidder that a header names
 abbrev pub parsed_eligibility : Terms → Record → Option ℕ
-parsed_eligibility t header = option_map (eligibility_of t) (option_map (λ place. place + 1) (position (λ bidder. bytes_eq bidder.name (record_field 1 header)) t.bidders))
+parsed_eligibility t header =
+    option_map (eligibility_of t) (option_map (λ place. place + 1) (position (λ bidder. bytes_eq bidder.name (record_field 1 header)) t.bidders))
 
 -- the record in which a fault is, 0 where it is that of the whole text
 abbrev pub form_place : FormFault → ℕ

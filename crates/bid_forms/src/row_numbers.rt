@@ -5,7 +5,7 @@ ghost use Rattle.csv.specs.Records.{fields_of};
 ghost use Rattle.bid_forms.specs.RowNumbers.{parsed_eligibility, parsed_package, parsed_points, parsed_reserve};
 
 use crate::form::eligibility_of;
-use crate::form_text::{count_fault, read_quantities};
+use crate::form_records::{count_fault, read_quantities};
 use crate::sums;
 use auction_terms::{GREATEST_QUANTITY, Quantities, Rules, field};
 use csv::ByteRecord;

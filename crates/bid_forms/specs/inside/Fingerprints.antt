@@ -10,7 +10,8 @@ prime = 2 ^ 61 - 1
 
 -- the quantities of four categories, from a place on, as one number; 0 past the last category
 abbrev pub four_from : List ℕ → ℕ → ℕ
-four_from lots place = ((slice_index lots place * 2 ^ 15 + slice_index lots (place + 1)) * 2 ^ 15 + slice_index lots (place + 2)) * 2 ^ 15 + slice_index lots (place + 3)
+four_from lots place =
+    ((slice_index lots place * 2 ^ 15 + slice_index lots (place + 1)) * 2 ^ 15 + slice_index lots (place + 2)) * 2 ^ 15 + slice_index lots (place + 3)
 
 -- the polynomial of these numbers so far, and of the next one, at a point
 abbrev pub next_sum : ℕ → List ℕ → ℕ → ℕ → ℕ

@@ -21,7 +21,8 @@ loop-bids-preserved c =
     let r = fields_of c.next.new.row in
     let next : c.loop-bids.reader ≡ r ∷ c.next.new.self = rw c.if-branch.true at c.in_ok-next.ensures.next in (
       so_far ++ all_bid_faults c.args.rules.now c.args.eligibility c.loop-bids.place c.loop-bids.bids.items r,
-      bids-taken-more c.args.rules.now c.args.eligibility c.args.reader.now c.loop-bids.reader c.next.new.self c.loop-bids.place c.loop-bids.bids.items c.take_bid.new.bids.items so_far r so next c.in_ok-take_bid.ensures.bids,
+      bids-taken-more c.args.rules.now c.args.eligibility c.args.reader.now c.loop-bids.reader c.next.new.self c.loop-bids.place
+          c.loop-bids.bids.items c.take_bid.new.bids.items so_far r so next c.in_ok-take_bid.ensures.bids,
       keeps-both _ _ _ _ _ keeps c.in_ok-take_bid.ensures.faults,
       c.in_ok-take_bid.ensures.few,
       c.in_ok-take_bid.ensures.seen,

@@ -13,7 +13,8 @@ returns-in_err-bid-clause-answer c =
     let parsed = rw c.deref.ensures.value at c.in_err-bid.ensures.answer in
     let bid = parsed_bid (fields_of c.next.new.row) in
     rw same (tells-err is_form_memory c.in_err-bid.field-0.0 _ _ bid bid
-    (λ f found. bids-fault c.args.rules.now c.args.eligibility c.args.reader.now c.loop-seen.reader c.next.new.self c.loop-seen.place c.loop-seen.bids.items (fields_of c.next.new.row) f so_far next found)
+    (λ f found. bids-fault c.args.rules.now c.args.eligibility c.args.reader.now c.loop-seen.reader c.next.new.self c.loop-seen.place
+    c.loop-seen.bids.items (fields_of c.next.new.row) f so_far next found)
     parsed)
 
 pub loop-seen-preserved : goal.loop-seen-preserved
@@ -25,7 +26,8 @@ loop-seen-preserved c =
     let room = rw c.deref.ensures.value at c.in_ok-bid.ensures.room in
     let seen = rw c.deref.ensures.value at c.in_ok-bid.ensures.seen in
     let added : c.push.new.self.items ≡ c.loop-seen.bids.items ++ c.in_ok-bid.bid ∷ [] = search rules in (
-      bids-more c.args.rules.now c.args.eligibility c.args.reader.now c.loop-seen.reader c.next.new.self c.loop-seen.place c.loop-seen.bids.items c.push.new.self.items (fields_of c.next.new.row) c.in_ok-bid.bid
+      bids-more c.args.rules.now c.args.eligibility c.args.reader.now c.loop-seen.reader c.next.new.self c.loop-seen.place c.loop-seen.bids.items
+          c.push.new.self.items (fields_of c.next.new.row) c.in_ok-bid.bid
           so_far next parsed.0 parsed.1 added c.in_ok-bid.ensures.limits c.in_ok-bid.ensures.allowed fresh room,
       rw added seen,
     )

@@ -13,7 +13,8 @@ returns c =
     let bids : c.deref.result.now ≡ o.bids = c.deref.ensures.value ∙ ap (λ x. x.bids) c.self.view_is in
     let bidder : c.self.inside.bidder ≡ o.bidder = ap (λ x. x.bidder) c.self.view_is in
     let answer : c.all_meet.result ≡ list_all test o.bids = rw (c.eligibility_of.ensures.value, bids, bidder) at c.all_meet.ensures in
-    let known : o.bidder ≤ length t.bidders = (let n = c.from.ensures in let v : length c.bidders.result.now ≡ length t.bidders = ap length c.bidders.ensures.value in let f = c.if-from-bidders.false in omega arith) in (
+    let known : o.bidder ≤ length t.bidders = (let n = c.from.ensures in let v : length c.bidders.result.now ≡ length t.bidders =
+    ap length c.bidders.ensures.value in let f = c.if-from-bidders.false in omega arith) in (
       λ yes. record {
         some_bidder = kept.some_bidder;
         known_bidder = known;
