@@ -25,8 +25,7 @@ from wdp.folder import INPUT, Folder
 from wdp.office.faults import counted
 from wdp.program import Limits, answer, found_program
 from wdp.publish import command as publishing
-from wdp.publish.names import read_names
-from wdp.publish.results import TITLE, Heading
+from wdp.publish.results import proved_of_prices
 from wdp.publish.tables import prices as prices_table
 from wdp.texts import accepted, answers
 from wdp.texts.refusals import NotSolved, Refused, WrongWords
@@ -238,15 +237,17 @@ def published(kept: Folder, asked: Asked, data: bytes, report: bytes, audit: byt
     """Has the program judge what was found, and makes the tables and the page."""
     page, names = asked.page or {}, kept.path("names.csv")
     rules = accepted.read(data, INPUT).rules
-    known = read_names(str(names), rules) if asked.page is not None and names.exists() else {}
-    heading = Heading(page.get("title") or TITLE, page.get("currency"), known)
+    is_named = asked.page is not None and names.exists()
+    known = publishing.read_names(str(names), rules) if is_named else {}
+    title = page.get("title") or publishing.TITLE
+    heading = {"title": title, "currency": page.get("currency"), "names": known}
     results, shown = publishing.results_from(asked.program, data, report, audit, heading)
     if asked.page is not None:
         publishing.publish(results, shown, str(kept.path(RESULTS)))
-    if results.prices:
-        for line in prices_table(results).text(results.currency).splitlines():
+    if results["prices"]:
+        for line in prices_table(results).text().splitlines():
             asked.shows(line)
-        say(f"proved: {results.proved_of_prices}")
+        say(f"proved: {proved_of_prices(results)}")
 
 
 # A run.

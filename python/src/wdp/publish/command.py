@@ -15,27 +15,28 @@ import argparse
 import re
 from collections.abc import Callable
 
-from wdp.texts.answers import Asked, read_report
-from wdp.texts.refusals import Refused, Unclear, WrongWords
-from wdp.texts.tables import digest_of
 from wdp.files import put, read, tell, write_folder
 from wdp.office import choices
+from wdp.office.faults import quoted
 from wdp.office.judge import explained
 from wdp.office.places import MOST_OF_AN_INPUT
+from wdp.office.sheets import fault_of_pair, pairs_of
 from wdp.prices import end_of_groups, groups_in, pieces_of, with_groups
-from wdp.publish.names import read_names
-from wdp.publish.page import page_of
-from wdp.publish.results import TITLE, Audit, Heading, LeftOut, Results, results_of
-from wdp.publish.tables import files_of, plain_text
-from wdp.results import Report, Tie
 from wdp.program import Limits, answer, found_program
+from wdp.publish.results import Figures, certified_words, results_of
+from wdp.publish.tables import files_of, page_of, plain_text
+from wdp.results import Report, Tie
 from wdp.texts import accepted
-from wdp.texts.accepted import Accepted
+from wdp.texts.accepted import Accepted, Rules
+from wdp.texts.answers import Asked, read_report
 from wdp.texts.parts import parts_of
+from wdp.texts.refusals import Refused, Unclear, WrongWords
+from wdp.texts.tables import digest_of
 
 # bytes of an audit: the input, and solutions and certificates of each group
 MOST_OF_AN_AUDIT = 2**31
-LONGEST_TITLE, LONGEST_UNIT = 200, 20
+LONGEST_TITLE, LONGEST_UNIT, LONGEST_NAME = 200, 20, 100
+TITLE = "Results of the auction"
 PAGE, AUDIT = "results.html", "audit.txt"
 FILES = ("bidders.csv", "categories.csv", "pools.csv", "groups.csv", "results.json", PAGE, AUDIT)
 SOURCES = ("the input", "the report", "the audit")
@@ -71,6 +72,22 @@ def add_words(parser: argparse.ArgumentParser) -> None:
     add("--audit", metavar="FILE", help=audit)
     drawn = "publish the tied award of the audit: the lot fell on it"
     add("--drawn", action="store_true", help=drawn)
+
+
+def read_names(path: str, rules: Rules) -> dict[str, str]:
+    """What an office calls bidders and categories, by their codes; Refused at the first row that isn't `code,name`."""
+    codes = {*rules.bidders, *(category.name for category in rules.categories)}
+    names: dict[str, str] = {}
+    for row in pairs_of(path, ["code", "name"], len(codes)).rows:
+        code, name = row.values[0], row.values[-1]
+        wanted, who = "a code and a name", "bidder and no category"
+        why = fault_of_pair(row, wanted, codes, names, who)
+        if not why and not (name.strip() and name.isprintable() and len(name) <= LONGEST_NAME):
+            why = f"{quoted(name)} isn't 1 to {LONGEST_NAME} printable characters"
+        if why:
+            raise Refused(f"{path}:{row.place()}: {why}")
+        names[code] = name.strip()
+    return names
 
 
 def solutions_of(report: Report, auction: Accepted) -> bytes:
@@ -170,12 +187,13 @@ def results_from(
     program: str,
     data: bytes,
     report: bytes,
-    audit: bytes | None = None,
-    heading: Heading = Heading(),
+    audit: bytes | None,
+    heading: Figures,
     is_drawn: bool = False,
     sources: tuple[str, str, str] = SOURCES,
-) -> tuple[Results, bytes | None]:
-    """The figures of an input and its report, and the audit that is published with them."""
+) -> tuple[Figures, bytes | None]:
+    """The figures of an input and its report, and the audit that is published with them. `heading` has the page's title and
+    currency, and the names that the office gives by their codes."""
     if is_drawn and audit is None:
         raise WrongWords("--drawn needs --audit, whose tie was drawn")
     found = explained(program, data, True)
@@ -195,24 +213,27 @@ def results_from(
         reports = [each for _, _, each in awards]
         audit, output, _ = awards[0]
         report = report_in(output, count)
-        sizes = len(data), end_of_groups(data), len(grown) - len(data)
-        shows = Audit(digest_of(audit), digest_of(data), digest_of(output), *sizes)
-    results = results_of(
-        auction,
-        reports[0],
-        reports[1] if reports[1:] else None,
-        **vars(heading),
-        is_drawn=is_drawn,
-        left_out=[LeftOut(bidder, why) for bidder, why in found.left_out],
-        input_sha256=digest_of(data),
-        report_sha256=digest_of(report),
-        audit=shows,
-        wdp=answer(program, ["--version"], b"", Limits(1_000)).decode().strip(),
-    )
-    return results, audit
+        shows = {
+            "sha256": digest_of(audit),
+            "input_sha256": digest_of(data),
+            "report_sha256": digest_of(output),
+            "input_bytes": len(data),
+            "bytes_before": end_of_groups(data),
+            "added_bytes": len(grown) - len(data),
+        }
+    about = {
+        "is_drawn": is_drawn,
+        "left_out": found.left_out,
+        "input_sha256": digest_of(data),
+        "report_sha256": digest_of(report),
+        "audit": shows,
+        "wdp": answer(program, ["--version"], b"", Limits(1_000)).decode().strip(),
+    }
+    other = reports[1] if reports[1:] else None
+    return results_of(auction, reports[0], other, heading, about), audit
 
 
-def publish(results: Results, audit: bytes | None, folder: str) -> dict[str, bytes]:
+def publish(results: Figures, audit: bytes | None, folder: str) -> dict[str, bytes]:
     """Writes the files, once all of them are made."""
     files = {**files_of(results), PAGE: page_of(results)}
     if audit is not None:
@@ -227,7 +248,7 @@ def run(given: argparse.Namespace) -> int:
     data, report = read(given.input, MOST_OF_AN_INPUT), read(given.report, MOST_OF_AN_INPUT)
     audit = read(given.audit, MOST_OF_AN_AUDIT) if given.audit else None
     names = read_names(given.names, accepted.read(data, given.input).rules) if given.names else {}
-    heading = Heading(given.title, given.currency, names)
+    heading = {"title": given.title, "currency": given.currency, "names": names}
     sources = given.input, given.report, given.audit or ""
     program = found_program(given.program)
     results, audit = results_from(program, data, report, audit, heading, given.drawn, sources)
@@ -236,6 +257,6 @@ def run(given: argparse.Namespace) -> int:
         tell(f"results: {len(files)} files in {given.output}\n")
     if given.text:
         put(plain_text(results).encode())
-    elif not results.certified:
-        tell(f"results: {results.certified_words}\n")
+    elif not results["certified"]:
+        tell(f"results: {certified_words(results)}\n")
     return 0

@@ -1,278 +1,184 @@
-"""The result of an auction in figures: what each bidder won, what is sold, and what each group costs."""
-from collections.abc import Mapping, Sequence
-from dataclasses import dataclass, field
+"""The result of an auction in figures, as docs/results.schema.json describes them, and what is said of them in sentences."""
+from collections.abc import Iterable
 from typing import Any
 
-from wdp.results import Group, Prices, Report
+from wdp.results import Group, Report
 from wdp.texts.accepted import Accepted
 
-TITLE = "Results of the auction"
+Figures = dict[str, Any]  # of the whole, or of a bidder, a group and so on
 
 
-@dataclass(frozen=True)
-class BidderResult:
-    """A bidder with its lots of each category, and how many bids its form has. Where it won nothing, `bid` is None and the
-    figures are 0; `price` is None where no prices are shown, `cost` if there is no group of it alone.
-    """
-
-    name: str
-    lots: list[int]
-    bids: int
-    bid: int | None
-    amount: int
-    price: int | None
-    reserve: int
-    cost: int | None
-    cost_group: int | None
-
-
-@dataclass(frozen=True)
-class CategoryResult:
-    """A category; `value` is that of an unsold lot, `value_left` that of all of them."""
-
-    name: str
-    supply: int
-    sold: int
-    unsold: int
-    reserve: int
-    value: int
-    value_left: int
-
-
-@dataclass(frozen=True)
-class PoolResult:
-    name: str
-    load: int
-    cap: int
-    left: int
-
-
-@dataclass(frozen=True)
-class Won:
-    name: str
-    bid: int
-    amount: int
-    lots: list[int]
-
-
-@dataclass(frozen=True)
-class GroupResult:
-    """A group; `paid` is None where no prices are shown, and `is_added` whether it was added for the prices."""
-
-    number: int
-    left_out: list[str]
-    winners: list[Won]
-    total: int
-    cost: int
-    paid: int | None
-    is_added: bool
-
-
-@dataclass(frozen=True)
-class PricesResult:
-    """The sum of the prices, whether it is shown to be the least, and which groups and reserves bind."""
-
-    total: int
-    is_least: bool
-    groups: list[int]
-    reserves: list[str]
-
-
-@dataclass(frozen=True)
-class TiedAward:
-    """Another award of the same total, and of each group the cost by it."""
-
-    winners: list[Won]
-    costs: list[int]
-
-
-@dataclass(frozen=True)
-class LeftOut:
-    bidder: str
-    why: str
-
-
-@dataclass(frozen=True)
-class Audit:
-    """By what anyone repeats the audit: the SHA-256 of what `wdp verify` reads, of the input, which is its end but for the
-    groups that were added after `bytes_before` bytes of it, and of what it prints."""
-
-    sha256: str
-    input_sha256: str
-    report_sha256: str
-    input_bytes: int
-    bytes_before: int
-    added_bytes: int
-
-    @property
-    def input_command(self) -> str:
-        """What prints the SHA-256 of the input."""
-        rest = self.input_bytes - self.bytes_before
-        command = f"tail -c {self.input_bytes + self.added_bytes} audit.txt"
-        if self.added_bytes:
-            command += f" | head -c {self.bytes_before}"
-            command = f"({command}; tail -c {rest} audit.txt)" if rest else command
-        return f"{command} | sha256sum"
-
-
-@dataclass(frozen=True)
-class Heading:
-    """What an office says of a page: `names` are what bidders and categories are called, by their codes."""
-
-    title: str = TITLE
-    currency: str | None = None
-    names: Mapping[str, str] = field(default_factory=dict)
-
-
-@dataclass(frozen=True)
-class Results:
-    """What is published. `proof` is what an audit shows of the winners: that they are the `only` ones, that a `tie` with
-    another award, or `none`; `is_drawn` is whether of two awards this one was drawn by lot."""
-
-    certified: bool
-    title: str
-    currency: str | None
-    total: int
-    amounts: int
-    value_left: int
-    bidders: list[BidderResult]
-    categories: list[CategoryResult]
-    pools: list[PoolResult]
-    groups: list[GroupResult]
-    prices: PricesResult | None
-    proof: str
-    is_drawn: bool
-    tied_award: TiedAward | None
-    left_out: list[LeftOut]
-    names: Mapping[str, str]
-    input_sha256: str
-    report_sha256: str
-    audit: Audit | None
-    wdp: str
-
-    @property
-    def winners(self) -> list[BidderResult]:
-        return [bidder for bidder in self.bidders if bidder.bid is not None]
-
-    def called(self, name: str) -> str:
-        return f"{name} ({self.names[name]})" if name in self.names else name
-
-    def lots_text(self, lots: Sequence[int]) -> str:
-        """Lots in words: `2 of A, 1 of B`."""
-        pairs = zip(lots, self.categories)
-        return ", ".join(f"{quantity:,} of {each.name}" for quantity, each in pairs if quantity)
-
-    def won_text(self, won: Won | None) -> str:
-        what = won and f"{won.amount:,} for {self.lots_text(won.lots)} (bid {won.bid:,})"
-        return what or "nothing"
-
-    @property
-    def paid(self) -> int | None:
-        return self.prices.total if self.prices else None
-
-    @property
-    def unit(self) -> str:
-        return f" {self.currency}" if self.currency else ""
-
-    @property
-    def certified_words(self) -> str:
-        if self.certified:
-            return f"Certified: each of the {len(self.groups):,} totals is shown to be the greatest one."
-        return "Not certified: that these totals are the greatest ones is a solver's word, and no certificate shows it."
-
-    @property
-    def sums_words(self) -> str:
-        unit = self.unit
-        words = f"{len(self.winners):,} of {len(self.bidders):,} bidders win. Their bids add up to {self.amounts:,}{unit}"
-        if self.value_left:
-            words += f", and the unsold lots have a value of {self.value_left:,}{unit}, in all {self.total:,}{unit}"
-        return words + "."
-
-    @property
-    def prices_words(self) -> str:
-        if self.prices is None:
-            return ""
-        words = f"Proved: {self.proved_of_prices}. Not proved: that of such prices these are the nearest to what each winner costs alone."
-        of_award = " They belong to the winners of this page; by the other award there are others."
-        return words + (of_award if self.tied_award else "")
-
-    @property
-    def proved_of_prices(self) -> str:
-        assert self.prices
-        words = "no group of bidders, listed or not, pays less than its opportunity cost, and nobody less than the reserve; "
-        words += f"the prices come to {self.prices.total:,}{self.unit}, and "
-        if self.prices.is_least:
-            return words + "no whole prices of which that is true come to less"
-        return words + "whether others come to less isn't shown"
-
-    @property
-    def proof_words(self) -> str:
-        if self.proof == "only":
-            return "Proved: these are the only winners. No other combination of bids reaches the same total. The audit shows it."
-        if self.tied_award is None:
-            return "Whether others reach the same total isn't shown."
-        shown = "Proved: another award reaches the same total, and none reaches more. The audit shows it."
-        if self.is_drawn:
-            return f"{shown} Which of the two holds was drawn by lot, and the lot fell on the award of this page."
-        return f"{shown} Which one holds, as by lot, is for the auction's rules to say."
-
-
-def won_in(group: Group, auction: Accepted) -> list[Won]:
-    lots = [auction.bids[winner.bidder][winner.bid - 1].lots for winner in group.winners]
-    return [Won(w.bidder, w.bid, w.amount, list(won)) for w, won in zip(group.winners, lots)]
-
-
-def bidder_result(name: str, won: Won | None, report: Report, auction: Accepted) -> BidderResult:
-    categories = auction.rules.categories
-    alone = next((group for group in report.groups if group.names == (name,)), None)
-    lots = won.lots if won else [0] * len(categories)
-    return BidderResult(
-        name=name,
-        lots=lots,
-        bids=len(auction.bids.get(name, ())),
-        bid=won.bid if won else None,
-        amount=won.amount if won else 0,
-        price=report.prices.paid.get(name, 0) if report.prices else None,
-        reserve=sum(quantity * category.reserve for quantity, category in zip(lots, categories)),
-        cost=alone.cost if alone else None,
-        cost_group=alone.number if alone else None,
-    )
-
-
-def group_result(group: Group, prices: Prices | None, auction: Accepted) -> GroupResult:
-    paid = sum(prices.paid.get(name, 0) for name in group.names) if prices else None
-    figures = group.total, group.cost, paid, group.number > len(auction.groups)
-    return GroupResult(group.number, list(group.names), won_in(group, auction), *figures)
-
-
-def results_of(auction: Accepted, report: Report, other: Report | None, **about: Any) -> Results:
-    """The figures of an auction from its input and its report, which may end with added groups. Where
-    the audit shows a tie `other` is the report by the other award; `about` has the other fields."""
-    rules, prices = auction.rules, report.prices
-    groups = [group_result(group, prices, auction) for group in report.groups]
-    won = {winner.name: winner for winner in groups[0].winners}
-    sold = [sum(each.lots[at] for each in won.values()) for at in range(len(rules.categories))]
-    unsold = [category.supply - lots for category, lots in zip(rules.categories, sold)]
-    categories = [
-        CategoryResult(c.name, c.supply, lots, left, c.reserve, c.value, left * c.value)
-        for c, lots, left in zip(rules.categories, sold, unsold)
+def won_in(group: Group, auction: Accepted) -> list[Figures]:
+    """Who wins what if a group is left out."""
+    bids = [(won, auction.bids[won.bidder][won.bid - 1]) for won in group.winners]
+    return [
+        {"name": won.bidder, "bid": won.bid, "amount": won.amount, "lots": list(bid.lots)}
+        for won, bid in bids
     ]
-    bidders = [bidder_result(name, won.get(name), report, auction) for name in rules.bidders]
-    loads = [(pool, rules.load(pool, sold)) for pool in rules.pools]
-    bound = [group.number for group in groups if group.left_out and group.paid == group.cost]
-    reserves = [each.name for each in bidders if each.bid and each.price == each.reserve]
+
+
+def bidders_of(won: list[Figures], report: Report, auction: Accepted) -> list[Figures]:
+    """A bidder that won nothing has the bid None; what isn't known is None too."""
+    categories, prices = auction.rules.categories, report.prices
+    by_name = {each["name"]: each for each in won}
+    nothing = {"bid": None, "amount": 0, "lots": [0] * len(categories)}
+    # (of a group that is listed twice the first one counts)
+    alone = {each.names: each for each in reversed(report.groups)}
+    bidders = []
+    for name in auction.rules.bidders:
+        own, group = by_name.get(name, nothing), alone.get((name,))
+        figures = {
+            "name": name,
+            "lots": own["lots"],
+            "bids": len(auction.bids.get(name, ())),
+            "bid": own["bid"],
+            "amount": own["amount"],
+            "price": prices.paid.get(name, 0) if prices else None,
+            "reserve": sum(lots * each.reserve for lots, each in zip(own["lots"], categories)),
+            "cost": group.cost if group else None,
+            "cost_group": group.number if group else None,
+        }
+        bidders.append(figures)
+    return bidders
+
+
+def categories_of(sold: list[int], auction: Accepted) -> list[Figures]:
+    return [
+        {
+            "name": each.name,
+            "supply": each.supply,
+            "sold": lots,
+            "unsold": each.supply - lots,
+            "reserve": each.reserve,
+            "value": each.value,
+            "value_left": (each.supply - lots) * each.value,
+        }
+        for lots, each in zip(sold, auction.rules.categories)
+    ]
+
+
+def groups_of(report: Report, auction: Accepted) -> list[Figures]:
+    """The groups; some may have been added for the prices to those of the input."""
+    paid = report.prices.paid if report.prices else None
+    return [
+        {
+            "number": group.number,
+            "left_out": list(group.names),
+            "winners": won_in(group, auction),
+            "total": group.total,
+            "cost": group.cost,
+            "paid": None if paid is None else sum(paid.get(name, 0) for name in group.names),
+            "is_added": group.number > len(auction.groups),
+        }
+        for group in report.groups
+    ]
+
+
+def results_of(
+    auction: Accepted, report: Report, other: Report | None, heading: Figures, sources: Figures
+) -> Figures:
+    """The figures of an auction from its input and its report. If the audit shows a tie, `other` is the report by the other
+    award; `sources` says what these are from, and whether one of two awards was drawn."""
+    groups, prices = groups_of(report, auction), report.prices
+    won = groups[0]["winners"]
+    bidders = bidders_of(won, report, auction)
+    sold = [sum(lots) for lots in zip(*(each["lots"] for each in bidders))]
+    categories = categories_of(sold, auction)
+    loads = [(pool, auction.rules.load(pool, sold)) for pool in auction.rules.pools]
+    bound = [each["number"] for each in groups if each["left_out"] and each["paid"] == each["cost"]]
+    reserves = [x["name"] for x in bidders if x["bid"] and x["price"] == x["reserve"]]
+    shown: Figures = {"groups": bound, "reserves": reserves}
     costs = [group.cost for group in other.groups] if other else []
-    return Results(
-        certified=report.is_certified,
-        total=report.groups[0].total,
-        amounts=sum(winner.amount for winner in won.values()),
-        value_left=sum(category.value_left for category in categories),
-        bidders=bidders,
-        categories=categories,
-        pools=[PoolResult(pool.name, load, pool.cap, pool.cap - load) for pool, load in loads],
-        groups=groups,
-        prices=PricesResult(prices.total, prices.is_least, bound, reserves) if prices else None,
-        proof="tie" if other else "only" if report.uniqueness == "only" else "none",
-        tied_award=TiedAward(won_in(other.groups[0], auction), costs) if other else None,
-        **about,
+    return {
+        "certified": report.is_certified,
+        "title": heading["title"],
+        "currency": heading["currency"],
+        "total": report.groups[0].total,
+        "amounts": sum(each["amount"] for each in won),
+        "value_left": sum(each["value_left"] for each in categories),
+        "bidders": bidders,
+        "categories": categories,
+        "pools": [
+            {"name": pool.name, "load": load, "cap": pool.cap, "left": pool.cap - load}
+            for pool, load in loads
+        ],
+        "groups": groups,
+        "prices": prices and {"total": prices.total, "is_least": prices.is_least, **shown},
+        "proof": "tie" if other else "only" if report.uniqueness == "only" else "none",
+        "is_drawn": sources["is_drawn"],
+        "tied_award": other and {"winners": won_in(other.groups[0], auction), "costs": costs},
+        "left_out": [{"bidder": bidder, "why": why} for bidder, why in sources["left_out"]],
+        "names": heading["names"],
+        **{name: sources[name] for name in ("input_sha256", "report_sha256", "audit", "wdp")},
+    }
+
+
+def winners_in(results: Figures) -> list[Figures]:
+    return [bidder for bidder in results["bidders"] if bidder["bid"]]
+
+
+def called(name: str, results: Figures) -> str:
+    """A name of the rules, with the longer one if the office gave it."""
+    return f"{name} ({results['names'][name]})" if name in results["names"] else name
+
+
+def lots_text(lots: Iterable[int], results: Figures) -> str:
+    """Lots in words: `2 of A, 1 of B`."""
+    pairs = zip(lots, results["categories"])
+    return ", ".join(f"{quantity:,} of {each['name']}" for quantity, each in pairs if quantity)
+
+
+def certified_words(results: Figures) -> str:
+    if results["certified"]:
+        return f"Certified: each of the {len(results['groups']):,} totals is shown to be the greatest one."
+    return "Not certified: that these totals are the greatest ones is a solver's word, and no certificate shows it."
+
+
+def sums_words(results: Figures) -> str:
+    unit = f" {results['currency']}" if results["currency"] else ""
+    words = f"{len(winners_in(results)):,} of {len(results['bidders']):,} bidders win. "
+    words += f"Their bids add up to {results['amounts']:,}{unit}"
+    if results["value_left"]:
+        words += f", and the unsold lots have a value of {results['value_left']:,}{unit}"
+        words += f", in all {results['total']:,}{unit}"
+    return words + "."
+
+
+def proved_of_prices(results: Figures) -> str:
+    unit = f" {results['currency']}" if results["currency"] else ""
+    words = "no group of bidders, listed or not, pays less than its opportunity cost, and nobody less than the reserve; "
+    words += f"the prices come to {results['prices']['total']:,}{unit}, and "
+    if results["prices"]["is_least"]:
+        return words + "no whole prices of which that is true come to less"
+    return words + "whether others come to less isn't shown"
+
+
+def prices_words(results: Figures) -> str:
+    if results["prices"] is None:
+        return ""
+    words = f"Proved: {proved_of_prices(results)}. Not proved: that of such prices these are the nearest to what each winner costs alone."
+    of_award = " They belong to the winners of this page; by the other award there are others."
+    return words + (of_award if results["tied_award"] else "")
+
+
+def proof_words(results: Figures) -> str:
+    if results["proof"] == "only":
+        return "Proved: these are the only winners. No other combination of bids reaches the same total. The audit shows it."
+    if results["proof"] == "none":
+        return "Whether others reach the same total isn't shown."
+    shown = (
+        "Proved: another award reaches the same total, and none reaches more. The audit shows it."
     )
+    if results["is_drawn"]:
+        return f"{shown} Which of the two holds was drawn by lot, and the lot fell on the award of this page."
+    return f"{shown} Which one holds, as by lot, is for the auction's rules to say."
+
+
+def input_command(audit: Figures) -> str:
+    """What prints the SHA-256 of the input: of the end of the audit, but for the groups that were added."""
+    rest = audit["input_bytes"] - audit["bytes_before"]
+    command = f"tail -c {audit['input_bytes'] + audit['added_bytes']} audit.txt"
+    if audit["added_bytes"]:
+        command += f" | head -c {audit['bytes_before']}"
+        command = f"({command}; tail -c {rest} audit.txt)" if rest else command
+    return f"{command} | sha256sum"
