@@ -11,28 +11,9 @@ from wdp.texts.mps import Matrix, Program
 from wdp.texts.refusals import Missing, NotFound, NotSolved, Refused, Unclear, WrongWords
 
 __version__ = "1.1.0"
-__all__ = [
-    "Allocation",
-    "Auction",
-    "Certified",
-    "Counts",
-    "Explained",
-    "Finding",
-    "Group",
-    "Matrix",
-    "Missing",
-    "NotFound",
-    "NotSolved",
-    "Prices",
-    "Program",
-    "Refused",
-    "Report",
-    "Solutions",
-    "Tie",
-    "Unclear",
-    "Winner",
-    "WrongWords",
-]
+__all__ = ["Allocation", "Auction", "Certified", "Counts", "Explained", "Finding", "Group"]
+__all__ += ["Matrix", "Missing", "NotFound", "NotSolved", "Prices", "Program", "Refused"]
+__all__ += ["Report", "Solutions", "Tie", "Unclear", "Winner", "WrongWords"]
 # (a traceback names them as they are imported)
 for _refusal in (Missing, NotFound, NotSolved, Refused, Unclear, WrongWords):
     _refusal.__module__ = __name__

@@ -14,6 +14,7 @@ from wdp.program import Limits, Path, answer, found_program
 from wdp.results import Allocation, Certified, Counts, Report, Solutions, joined
 from wdp.texts import answers, records
 from wdp.texts.mps import Program
+from wdp.texts.parts import with_groups
 from wdp.texts.refusals import NotFound, NotSolved, Refused, WrongWords
 
 MOST_OF_A_FILE = 134_217_728  # bytes that the program reads in all
@@ -250,7 +251,7 @@ class Auction:
         grown, parts = self, b""
         while more or not parts:
             listed += more
-            text = pricing.with_groups(self._given, listed[len(programs) :])
+            text = with_groups(self._given, listed[len(programs) :])
             grown = Auction.from_text(text, program=self._program, time_limit=self._time_limit)
             for program in grown.compile()[len(texts) :]:
                 begin = point_of(program, name, seconds).encode()

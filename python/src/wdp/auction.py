@@ -28,6 +28,7 @@ from wdp.publish import command as publishing
 from wdp.publish.results import proved_of_prices
 from wdp.publish.tables import prices as prices_table
 from wdp.texts import accepted, answers
+from wdp.texts.parts import groups_in, parts_of, with_groups
 from wdp.texts.refusals import NotSolved, Refused, WrongWords
 from wdp.texts.solution import read_solution, solution_text
 from wdp.texts.zero_one import read_program
@@ -90,7 +91,7 @@ def added_to(kept: Folder, asked: Asked) -> dict[int, str]:
     if not asked.is_priced or not kept.has(first):
         return {}
     if kept.has(PRICES):
-        added = prices.groups_in(kept.read(PRICES))
+        added = groups_in(kept.read(PRICES))
     else:
         winners = prices.winners_in(kept.read(INPUT), kept.read(first))
         added = [name for name in winners if name not in names.values()]
@@ -102,7 +103,7 @@ def compiled(kept: Folder, asked: Asked, added: dict[int, str]) -> None:
     groups = {**names_of(kept), **added} if kept.has(NAMES) else {}
     if groups and all(kept.has(of_group("program", group)) for group in groups):
         return
-    text = prices.with_groups(kept.read(INPUT), added.values())
+    text = with_groups(kept.read(INPUT), added.values())
     limits, names = Limits(answers.Asked(text).most_of_programs), list[str]()
 
     def number_of(line: bytes) -> int:
@@ -225,7 +226,7 @@ def audit_of(kept: Folder, asked: Asked, data: bytes, groups: list[int]) -> byte
         audit += part(kind, *(kept.read(of_group(kind, k)) for k in [*groups, *added]))
     audit += kept.read(PRICES).rpartition(b"%groups\n")[0] if is_priced else b""
     audit += kept.read(UNIQUE) if kept.has(UNIQUE) else b""
-    return audit + prices.with_groups(data, added.values())
+    return audit + with_groups(data, added.values())
 
 
 def part(head: str, *texts: bytes) -> bytes:
@@ -519,16 +520,16 @@ def of_input(kept: Folder) -> None:
 
 def of_audit(asked: Asked, audit: bytes, kept: Folder) -> None:
     """Puts what an audit has into a folder, as if steps had left it."""
-    pieces = prices.pieces_of(audit)
+    parts = list(parts_of(audit))
     publishing.judged(asked.program, "verify", audit)
-    kept.take_input(b"".join(head + text for k, head, text in pieces if k in accepted.KINDS))
+    kept.take_input(b"".join(it.head + it.text for it in parts if it.kind in accepted.KINDS))
     compiled(kept, asked, {})
     for kind in ("solution", "certificate"):
-        for group, text in enumerate((text for k, _, text in pieces if k == kind), 1):
+        for group, text in enumerate((it.text for it in parts if it.kind == kind), 1):
             if kind == "solution":
                 program = read_program(kept.read(of_group("program", group)), "the program")
                 text = solution_text(read_solution(text, program, "a solution"), program)
             kept.leave(of_group(kind, group), text)
-    for kind, _, text in pieces:
-        if kind in ("unique", "tie"):
-            kept.leave(UNIQUE, part(kind, text))
+    for it in parts:
+        if it.kind in ("unique", "tie"):
+            kept.leave(UNIQUE, it.head + it.text)

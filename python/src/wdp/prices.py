@@ -21,10 +21,8 @@ from typing import Any
 
 from wdp import certify, solve
 from wdp.texts import accepted
-from wdp.texts.parts import lines, parts_of
 from wdp.texts.refusals import NotSolved, Refused
 from wdp.texts.solution import read_solution
-from wdp.texts.tables import decoded
 from wdp.texts.zero_one import read_program
 
 COST = re.compile(rb"(?m)^( X([0-9]+)_[0-9]+ OBJ )(-?[0-9]+)$")
@@ -38,33 +36,6 @@ TRIES = 50  # of a solver that rounds
 
 Group = frozenset[int]  # winners, by their places in the order of the rules
 Prices = list[int]
-
-
-def groups_in(data: bytes) -> list[str]:
-    """The lines of an input's groups."""
-    parts = (decoded(part.text) for part in parts_of(data) if part.kind == "groups")
-    return [line for text in parts for line in lines(text)]
-
-
-def end_of_groups(data: bytes) -> int:
-    """How many bytes of an input go before what is added to its groups."""
-    return next((part.end for part in parts_of(data) if part.kind == "groups"), len(data))
-
-
-def with_groups(data: bytes, names: Iterable[str]) -> bytes:
-    """An input with more groups, after its own."""
-    more, end = "".join(f"{name}\n" for name in names).encode(), end_of_groups(data)
-    gap = b"" if not more or data.endswith(b"\n", 0, end) else b"\n"
-    return data[:end] + gap + more + data[end:]
-
-
-def pieces_of(data: bytes) -> list[tuple[str, bytes, bytes]]:
-    """The parts of an input: the kind of each, its head line, and its text."""
-    found, end = [], 0
-    for part in parts_of(data):
-        found.append((part.kind, data[end : part.begin], part.text))
-        end = part.end
-    return found
 
 
 @dataclass(frozen=True)

@@ -109,5 +109,5 @@ def read_forms(folder: str, auction: Auction) -> None:
             check_name(form, auction)
             by_bidder.setdefault(form.bidder, []).append(form)
     counting = [form for forms in by_bidder.values() for form in last_form(forms, auction)]
-    number_of = auction.rules.number_of
-    auction.counting = sorted(counting, key=lambda form: number_of(form.bidder) or len(bidders) + 1)
+    order = {name: at for at, name in enumerate(bidders)}
+    auction.counting = sorted(counting, key=lambda form: order.get(form.bidder, len(bidders)))

@@ -1,6 +1,5 @@
 """The receipt of an input: what went into it, what is in no program, and a table from which each bidder is read its form."""
 from collections.abc import Iterator, Sequence
-from dataclasses import astuple
 from itertools import groupby
 from operator import itemgetter
 
@@ -56,7 +55,7 @@ def of_rules(rules: Rules) -> Iterator[str]:
     """The rules as they are understood."""
     yield f"The rules: amounts are multiples of {rules.step:,}"
     of_lots = "Reserve of a lot", "Points of a lot", "Value of an unsold lot"
-    yield from aligned([("Category", "Supply", *of_lots), *map(astuple, rules.categories)])
+    yield from aligned([("Category", "Supply", *of_lots), *rules.categories])
     yield from (f"pool {pool.name}: a load of at most {pool.cap:,}" for pool in rules.pools)
 
 

@@ -21,7 +21,6 @@ from wdp.office.faults import quoted
 from wdp.office.judge import explained
 from wdp.office.places import MOST_OF_AN_INPUT
 from wdp.office.sheets import fault_of_pair, pairs_of
-from wdp.prices import end_of_groups, groups_in, pieces_of, with_groups
 from wdp.program import Limits, answer, found_program
 from wdp.publish.results import Figures, certified_words, results_of
 from wdp.publish.tables import files_of, page_of, plain_text
@@ -29,7 +28,7 @@ from wdp.results import Report, Tie
 from wdp.texts import accepted
 from wdp.texts.accepted import Accepted, Rules
 from wdp.texts.answers import Asked, read_report
-from wdp.texts.parts import parts_of
+from wdp.texts.parts import end_of_groups, groups_in, parts_of, with_groups
 from wdp.texts.refusals import Refused, Unclear, WrongWords
 from wdp.texts.tables import digest_of
 
@@ -92,12 +91,13 @@ def read_names(path: str, rules: Rules) -> dict[str, str]:
 
 def solutions_of(report: Report, auction: Accepted) -> bytes:
     """The solutions that a report's winners are."""
-    rules, lines = auction.rules, list[str]()
-    constant = ["K"] if any(each.supply * each.value for each in rules.categories) else []
+    numbers = {name: number for number, name in enumerate(auction.rules.bidders, 1)}
+    has_value = any(each.supply * each.value for each in auction.rules.categories)
+    text = ""
     for group in report.groups:
-        columns = [f"X{rules.number_of(winner.bidder)}_{winner.bid}" for winner in group.winners]
-        lines += ["%solution", *(f"{column} 1" for column in [*columns, *constant])]
-    return "".join(line + "\n" for line in lines).encode()
+        won = [f"X{numbers.get(each.bidder)}_{each.bid} 1\n" for each in group.winners]
+        text += "".join(["%solution\n", *won, "K 1\n" if has_value else ""])
+    return text.encode()
 
 
 def disproved(report: Report) -> str | None:
@@ -138,11 +138,11 @@ def of_report(program: str, data: bytes, auction: Accepted, text: bytes, source:
 
 def with_tie_first(audit: bytes) -> bytes:
     """The audit with group 1's solution and the one that ties in each other's place, without the first one's prices."""
-    pieces = [each for each in pieces_of(audit) if each[0] not in ("prices", "cover", "weights")]
-    kinds = [kind for kind, _, _ in pieces]
+    parts = [part for part in parts_of(audit) if part.kind not in ("prices", "cover", "weights")]
+    kinds, texts = [part.kind for part in parts], [part.text for part in parts]
     one, two = kinds.index("solution"), kinds.index("tie")
-    texts = {one: pieces[two][2], two: pieces[one][2]}
-    return b"".join(head + texts.get(at, text) for at, (_, head, text) in enumerate(pieces))
+    texts[one], texts[two] = texts[two], texts[one]
+    return b"".join(part.head + text for part, text in zip(parts, texts))
 
 
 def added_groups(audit: bytes, data: bytes, source: str) -> list[str]:

@@ -1,16 +1,16 @@
 """The auction of an input in which the program found no fault; nothing is judged here."""
-from dataclasses import dataclass, field
 from collections.abc import Iterable
+from dataclasses import dataclass, field
+from typing import NamedTuple
 
+from wdp.texts.parts import groups_in, parts_of
 from wdp.texts.refusals import Refused
-from wdp.texts.parts import Part, lines, parts_of
-from wdp.texts.tables import Row, decoded
+from wdp.texts.tables import Row
 
 KINDS = ("rules", "form", "groups")
 
 
-@dataclass(frozen=True)
-class Category:
+class Category(NamedTuple):
     name: str
     supply: int
     reserve: int
@@ -18,11 +18,15 @@ class Category:
     value: int = 0
 
 
-@dataclass(frozen=True)
-class Pool:
+class Pool(NamedTuple):
     name: str
     cap: int
-    weights: dict[str, int] = field(default_factory=dict)
+    weights: dict[str, int]
+
+
+class Bid(NamedTuple):
+    amount: int
+    lots: tuple[int, ...]
 
 
 @dataclass
@@ -34,23 +38,13 @@ class Rules:
     bidders: list[str] = field(default_factory=list)
     pools: list[Pool] = field(default_factory=list)
 
-    def number_of(self, name: str) -> int | None:
-        return self.bidders.index(name) + 1 if name in self.bidders else None
-
     def load(self, pool: Pool, lots: Iterable[int]) -> int:
         """What these lots of each category load a pool with."""
         pairs = zip(lots, self.categories)
         return sum(quantity * pool.weights.get(each.name, 0) for quantity, each in pairs)
 
 
-@dataclass(frozen=True)
-class Bid:
-    amount: int
-    lots: tuple[int, ...]
-
-
-@dataclass
-class Accepted:
+class Accepted(NamedTuple):
     """The rules, the bids of each bidder that has a form, by the last one, and the names that each group leaves out."""
 
     rules: Rules
@@ -59,7 +53,7 @@ class Accepted:
 
 
 def rules_of(rows: Iterable[Row]) -> Rules:
-    rules, weights = Rules(1), {}
+    rules = Rules(1)
     for kind, name, *values in (row.values for row in rows):
         if kind == "rules":
             rules.step = int(values[0])
@@ -68,10 +62,10 @@ def rules_of(rows: Iterable[Row]) -> Rules:
         elif kind == "bidder":
             rules.bidders.append(name)
         elif kind == "pool":
-            weights[name] = dict[str, int]()
-            rules.pools.append(Pool(name, int(values[0]), weights[name]))
+            rules.pools.append(Pool(name, int(values[0]), {}))
         else:
-            weights[name][values[0]] = int(values[1])
+            pool = next(pool for pool in rules.pools if pool.name == name)
+            pool.weights[values[0]] = int(values[1])
     return rules
 
 
@@ -83,18 +77,16 @@ def form_of(rows: Iterable[Row]) -> tuple[str, list[Bid]]:
 
 def read(data: bytes, source: str) -> Accepted:
     """The auction of an input that the program accepted; Refused if it can't be one."""
-    found: dict[str, list[Part]] = {kind: [] for kind in KINDS}
-    for part in parts_of(data):
-        if part.kind not in found:
+    parts = list(parts_of(data))
+    for part in parts:
+        if part.kind not in KINDS:
             raise Refused(f"{source}:{part.line}: a part %{part.kind} isn't of an auction's input")
-        found[part.kind].append(part)
     try:
-        rules = rules_of(found["rules"][0].rows())
-        forms = dict(form_of(part.rows()) for part in found["form"])
+        rules = rules_of(next(part.rows() for part in parts if part.kind == "rules"))
+        forms = dict(form_of(part.rows()) for part in parts if part.kind == "form")
         bids = {name: forms[name] for name in rules.bidders if name in forms}
-        listed = (line for part in found["groups"] for line in lines(decoded(part.text)))
-        named = [set(line.split("+")) for line in listed]
+        named = [set(line.split("+")) for line in groups_in(data)]
         groups = [[name for name in rules.bidders if name in group] for group in named]
         return Accepted(rules, bids, groups)
-    except (IndexError, KeyError, TypeError, ValueError):
+    except (IndexError, StopIteration, TypeError, ValueError):
         raise Refused(f"{source}: it isn't an input that wdp accepts") from None

@@ -8,8 +8,7 @@ from wdp.texts.refusals import Unclear, escaped
 from wdp.texts.mps import Program
 from wdp.results import Allocation, Counts, Group, Prices, Report, Tie, Winner
 from wdp.texts.accepted import Bid, form_of
-from wdp.texts.parts import lines, names_in, parts_of
-from wdp.texts.tables import decoded
+from wdp.texts.parts import groups_in, names_in, parts_of
 
 NAME = "[A-Za-z][A-Za-z0-9]{0,15}"
 HEAD = rf"([1-9][0-9]{{0,3}}) (-|{NAME}(?:\+{NAME})*)\n"
@@ -38,19 +37,16 @@ class Asked:
     def __init__(self, given: bytes) -> None:
         parts = list(parts_of(given))
         kinds = {part.kind for part in parts}
-        self.is_claimed: bool = bool({"unique", "tie"} & kinds)
-        self.is_priced: bool = "prices" in kinds
-        groups = next((part.text for part in parts if part.kind == "groups"), b"")
-        self.groups = [frozenset(names_of(line)) for line in lines(decoded(groups))]
+        self.is_claimed, self.is_priced = bool({"unique", "tie"} & kinds), "prices" in kinds
+        self.groups = [frozenset(names_of(line)) for line in groups_in(given)]
         count = len(self.groups) + 2
-        self.most_of_report: int = count * MOST_OF_GROUP
-        self.most_of_programs: int = count * (MOST_OF_GROUP + MOST_OF_BYTE * len(given))
-        rules = next((part.rows() for part in parts if part.kind == "rules"), ())
+        self.most_of_report = count * MOST_OF_GROUP
+        self.most_of_programs = count * (MOST_OF_GROUP + MOST_OF_BYTE * len(given))
+        rules = (row for part in parts if part.kind == "rules" for row in part.rows())
         self._categories = names_in(rules, "category")
-        forms = [
-            (part, row) for part in parts if part.kind == "form" for row in islice(part.rows(), 1)
-        ]
-        self._forms = {row.values[0]: part for part, row in forms}  # of a bidder's the last one
+        forms = [part for part in parts if part.kind == "form"]
+        heads = [(row.values[0], part) for part in forms for row in islice(part.rows(), 1)]
+        self._forms = dict(heads)  # of a bidder's the last one
         self._bids: dict[str, list[Bid]] = {}
 
     def winners(self, won: str) -> tuple[Winner, ...]:
@@ -78,10 +74,8 @@ class Answer:
         """The next lines, which must have this form."""
         found = form.match(self.text, self.at)
         if found is None:
-            number, line = (
-                self.text.count("\n", 0, self.at) + 1,
-                self.text[self.at :].split("\n")[0],
-            )
+            number = self.text.count("\n", 0, self.at) + 1
+            line = self.text[self.at :].split("\n")[0]
             raise unclear(f"from line {number} on, '{line}'")
         self.at = found.end()
         return found

@@ -1,8 +1,8 @@
 """The parts of one input by their head lines, and their records or lines with their places in the input."""
 import re
-from dataclasses import dataclass, field
 from collections.abc import Iterable, Iterator
 from itertools import chain, pairwise
+from typing import NamedTuple
 
 from wdp.texts.tables import BYTE_ORDER_MARK, Records, Row, decoded
 
@@ -10,15 +10,20 @@ HEAD = re.compile(rb"^%([^\n]*?)\r?(?:\n|\Z)", re.MULTILINE)
 LINE_END = re.compile(rb"\r\n|\r|\n")  # as records count lines
 
 
-@dataclass(frozen=True)
-class Part:
-    """A part: what its head line has after `%`, and where its text is in the input. Its head is line number `line`."""
+class Part(NamedTuple):
+    """A part: what its head line has after `%`, and where in the input that line and the text begin, and the text ends. Its
+    head is line number `line`."""
 
     kind: str
-    data: bytes = field(repr=False)
+    data: bytes
+    start: int
     begin: int
     end: int
     line: int
+
+    @property
+    def head(self) -> bytes:
+        return self.data[self.start : self.begin]
 
     @property
     def text(self) -> bytes:
@@ -30,6 +35,17 @@ class Part:
         if self.kind == "groups":
             return group_rows(enumerate(lines(text), self.line + 1))
         return Records(text.removeprefix(BYTE_ORDER_MARK), line=self.line + 1)
+
+
+def parts_of(data: bytes) -> Iterator[Part]:
+    """The parts of an input, one after the other."""
+    line = counted = 0
+    for head, following in pairwise(chain(HEAD.finditer(data), [None])):
+        assert head  # None is the last one
+        line += len(LINE_END.findall(data, counted, head.start()))
+        counted = head.start()
+        end = following.start() if following else len(data)
+        yield Part(decoded(head[1]), data, head.start(), head.end(), end, line + 1)
 
 
 def names_in(rules: Iterable[Row], kind: str) -> list[str]:
@@ -48,12 +64,19 @@ def group_rows(numbered: Iterable[tuple[int, str]]) -> Iterator[Row]:
     return (Row(line.split("+"), number) for number, line in numbered)
 
 
-def parts_of(data: bytes) -> Iterator[Part]:
-    """The parts of an input, one after the other."""
-    line = counted = 0
-    for head, following in pairwise(chain(HEAD.finditer(data), [None])):
-        assert head  # None is the last one
-        line += len(LINE_END.findall(data, counted, head.start()))
-        counted = head.start()
-        end = following.start() if following else len(data)
-        yield Part(decoded(head[1]), data, head.end(), end, line + 1)
+def groups_in(data: bytes) -> list[str]:
+    """The lines of an input's groups."""
+    texts = (decoded(part.text) for part in parts_of(data) if part.kind == "groups")
+    return [line for text in texts for line in lines(text)]
+
+
+def end_of_groups(data: bytes) -> int:
+    """How many bytes of an input go before what is added to its groups."""
+    return next((part.end for part in parts_of(data) if part.kind == "groups"), len(data))
+
+
+def with_groups(data: bytes, names: Iterable[str]) -> bytes:
+    """An input with more groups, after its own."""
+    more, end = "".join(f"{name}\n" for name in names).encode(), end_of_groups(data)
+    gap = b"" if not more or data.endswith(b"\n", 0, end) else b"\n"
+    return data[:end] + gap + more + data[end:]
