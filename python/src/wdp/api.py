@@ -123,15 +123,13 @@ class Auction:
         """The input followed by these parts, as the program reads it: with certificates it is an audit, which `wdp verify`
         judges anywhere. Raises WrongWords or Refused if a text would be more than its part.
         """
-        parts = [self._given]
-        for number, text in enumerate(solution_texts(solutions), 1):
-            parts.append(records.part("solution", text, number))
-        for number, text in enumerate(listed(certificates, "certificates"), 1):
-            parts.append(records.part("certificate", text, number))
+        shown = listed(certificates, "certificates")
+        parts = [records.part("solution", x, n) for n, x in enumerate(solution_texts(solutions), 1)]
+        parts += [records.part("certificate", text, n) for n, text in enumerate(shown, 1)]
         tie = None if tie is None else records.solution_text(tie, "tie")
         others = dict(unique=unique, tie=tie, prices=prices, cover=cover, weights=weights)
         parts += [records.part(head, text) for head, text in others.items() if text is not None]
-        return b"".join(parts)
+        return self._given + b"".join(parts)
 
     def _answer(self, words: list[str], given: bytes, most: int = answers.MOST_OF_GROUP) -> bytes:
         try:

@@ -29,7 +29,7 @@ from wdp.publish.results import proved_of_prices
 from wdp.publish.tables import prices as prices_table
 from wdp.texts import accepted, answers
 from wdp.texts.parts import groups_in, parts_of, with_groups
-from wdp.texts.refusals import NotSolved, Refused, WrongWords
+from wdp.texts.refusals import NotSolved, Refused, WrongWords, need
 from wdp.texts.solution import read_solution, solution_text
 from wdp.texts.zero_one import read_program
 
@@ -404,7 +404,7 @@ def asked_of(given: argparse.Namespace, **more: Any) -> Asked:
     program, solver = found_program(given.program), solve.checked_solver(given.solver)
     asked = Asked(program, solver, given.time_limit, jobs=given.jobs, quiet=given.quiet, **more)
     if asked.is_certified:
-        certify.need()
+        need("a certificate", *certify.LIBRARIES)
     return asked
 
 

@@ -21,7 +21,7 @@ COMMANDS = {
     ),
     "form": ("office.form", "writes a blank form for each bidder"),
     "solve": ("solve", "solves a program by a solver"),
-    "certify": ("certify.command", "certifies a solution as optimal, or as the only optimal one"),
+    "certify": ("certify", "certifies a solution as optimal, or as the only optimal one"),
     "auction": ("auction", "goes from the input to winners, opportunity costs and a page"),
     "prices": ("prices", "finds what the winners of an award pay"),
     "results": ("publish.command", "makes tables and a page of a report"),

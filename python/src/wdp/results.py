@@ -5,7 +5,7 @@ from dataclasses import dataclass, field
 from collections.abc import Iterator, Mapping, Sequence
 from typing import TYPE_CHECKING
 
-from wdp.frames import frame_of
+from wdp.texts.refusals import need
 
 if TYPE_CHECKING:
     import pandas
@@ -25,21 +25,23 @@ class Winner:
 class Table:
     """What a data frame or a notebook shows as a table, by columns."""
 
-    def _columns(self) -> dict[str, Sequence[object]]:
-        raise NotImplementedError
+    _caption = ""
 
-    def _caption(self) -> str:
-        return ""
+    def _columns(self) -> dict[str, list[object]]:
+        raise NotImplementedError
 
     def to_frame(self) -> pandas.DataFrame:
         """A data frame: of an allocation a row for each winner, with bidder, bid, amount in pounds, and lots by category; of a
         report a row for each group, with group, left_out (names joined by `+`, or `-`), total and cost in pounds. Raises
         Missing without pandas."""
-        return frame_of(self._columns())
+        need("to_frame", "pandas")
+        import pandas
+
+        return pandas.DataFrame(self._columns())
 
     def _repr_html_(self) -> str:
         # (numbers, and names that the program printed, have no sign that HTML reads)
-        columns, caption = self._columns(), self._caption()
+        columns, caption = self._columns(), self._caption
         rows = [columns, *zip(*columns.values())]
         cells = (("td" if at else "th", row) for at, row in enumerate(rows))
         lines = ["".join(f"<{kind}>{cell}</{kind}>" for cell in row) for kind, row in cells]
@@ -54,11 +56,9 @@ class Allocation(Table):
     winners: tuple[Winner, ...]
     total: int
 
-    def _columns(self) -> dict[str, Sequence[object]]:
-        columns: dict[str, Sequence[object]] = {
-            name: [getattr(winner, name) for winner in self.winners]
-            for name in ("bidder", "bid", "amount")
-        }
+    def _columns(self) -> dict[str, list[object]]:
+        named = ("bidder", "bid", "amount")
+        columns = {name: [getattr(winner, name) for winner in self.winners] for name in named}
         for name in dict.fromkeys(name for winner in self.winners for name in winner.lots):
             columns[name] = [winner.lots.get(name, 0) for winner in self.winners]
         return columns
@@ -114,16 +114,14 @@ class Report(Table):
     def __getitem__(self, place: int) -> Group:
         return self.groups[place]
 
-    def _caption(self) -> str:
+    @property
+    def _caption(self) -> str:  # type: ignore[override]
         return "certified" if self.is_certified else "not certified"
 
-    def _columns(self) -> dict[str, Sequence[object]]:
-        return {
-            "group": [group.number for group in self.groups],
-            "left_out": [joined(group.names) for group in self.groups],
-            "total": [group.total for group in self.groups],
-            "cost": [group.cost for group in self.groups],
-        }
+    def _columns(self) -> dict[str, list[object]]:
+        heads = "group", "left_out", "total", "cost"
+        rows = [(each.number, joined(each.names), each.total, each.cost) for each in self.groups]
+        return {head: [row[at] for row in rows] for at, head in enumerate(heads)}
 
 
 @dataclass(frozen=True)

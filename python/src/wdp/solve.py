@@ -15,10 +15,9 @@ from collections.abc import Callable
 from pathlib import Path
 
 from wdp import files, guard
-from wdp.certify import need
 from wdp.program import Limits, ran, signal_named
 from wdp.texts.mps import matrix_of
-from wdp.texts.refusals import NotFound, NotSolved, Refused, WrongWords
+from wdp.texts.refusals import NotFound, NotSolved, Refused, WrongWords, need
 from wdp.texts.solution import read_solution, solution_text
 from wdp.texts.zero_one import AT_LEAST, AT_MOST, ZeroOne, read_program
 
@@ -154,7 +153,7 @@ def of_cbc(answer: bytes) -> bytes:
 
 def by_highs(program: ZeroOne, seconds: int | None) -> set[int]:
     """The columns at 1 of the best point that HiGHS finds, as scipy has it."""
-    need("numpy", "scipy")
+    need("HiGHS", "numpy", "scipy")
     import numpy as np
     from scipy.optimize import Bounds, LinearConstraint, milp
 

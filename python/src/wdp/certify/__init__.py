@@ -1,19 +1,26 @@
-"""Certificates: that a solution of a 0-1 program is optimal, or the only optimal one. `wdp verify` is their judge."""
-import importlib
+"""`wdp-office certify`: certifies that a solution is optimal, or the only optimal one."""
+import argparse
 from collections.abc import Callable
-from dataclasses import dataclass
+from functools import partial
+from typing import NamedTuple
 
-from wdp.texts.refusals import Missing
+from wdp import files
+from wdp.solve import MOST_OF_ANSWER, MOST_OF_PROGRAM, SECONDS, nothing
+from wdp.texts.refusals import need
 from wdp.texts.solution import read_solution, solution_text
 from wdp.texts.zero_one import read_program
 
-PACKAGES = {"numpy": "python3-numpy", "scipy": "python3-scipy", "swiglpk": "python3-swiglpk"}
+LIBRARIES = "numpy", "scipy", "swiglpk"
+NOT_OPTIMAL, TIED = 3, 5
+EPILOG = """Whole numbers decide. If the solution isn't optimal the search goes on to an optimal one, which goes to
+--solution-output, and certifies that. Exit status: 0 the certificate is written; 1 a text is refused, or a package is
+missing; 2 the words are wrong; 3 the solution isn't optimal, and --solution-output isn't given; 4 the time is over; 5 with
+--unique: a tie, another point is as good."""
 
 Say = Callable[[str], None]
 
 
-@dataclass(frozen=True)
-class Certified:
+class Certified(NamedTuple):
     """A solution, the certificate that it is optimal, and by how much it is better than the one that was given."""
 
     solution: bytes
@@ -21,8 +28,7 @@ class Certified:
     gain: int
 
 
-@dataclass(frozen=True)
-class Only:
+class Only(NamedTuple):
     """What is claimed of a solution: `unique` with the certificate that no other point is as good, or `tie` with another one that
     is as good, or better by `gain`."""
 
@@ -31,26 +37,13 @@ class Only:
     gain: int = 0
 
 
-def need(*modules: str) -> None:
-    """Raises Missing, with the names of Debian's packages, if one of these modules isn't there, or of those of a search."""
-    missing = []
-    for module in modules or PACKAGES:
-        try:
-            importlib.import_module(module)
-        except ImportError:
-            missing.append(PACKAGES[module])
-    if missing:
-        names = " ".join(missing)
-        raise Missing(f"this needs Debian's packages {names}: apt-get install -y {names}")
-
-
 def certified(
     program: bytes, solution: bytes, seconds: float | None = None, say: Say = lambda text: None
 ) -> Certified:
     """An optimal solution of a program in MPS, and the certificate that shows it. The search begins at `solution`, and goes on
     at each better point that it finds. Raises Refused if a text isn't what it should be, LimitReached if the seconds are
     over, and Missing without numpy, scipy and swiglpk."""
-    need()
+    need("a certificate", *LIBRARIES)
     from wdp.certify.layout import Layout
     from wdp.certify.search import Search
 
@@ -66,7 +59,7 @@ def only(
     program: bytes, solution: bytes, seconds: float | None = None, say: Say = lambda text: None
 ) -> Only:
     """Whether an optimal solution is the only one. Raises what `certified` does."""
-    need()
+    need("a certificate", *LIBRARIES)
     from wdp.certify.search import Beaten, OnlySearch
 
     read = read_program(program, "the program")
@@ -75,3 +68,57 @@ def only(
         return Only("unique", search.certificate())
     except Beaten as beaten:
         return Only("tie", solution_text(search.ones, read), beaten.gain)
+
+
+def add_words(parser: argparse.ArgumentParser) -> None:
+    parser.epilog = EPILOG
+    add = parser.add_argument
+    add("mps", metavar="PROGRAM.mps")
+    begin = "by default the search begins from nothing"
+    add("solution", metavar="SOLUTION", nargs="?", help=begin)
+    unique = "certify that each other point has a higher objective"
+    add("--unique", action="store_true", help=unique)
+    add("--time-limit", type=SECONDS, metavar="SECONDS")
+    add("--output", metavar="FILE", help="the certificate; by default standard output")
+    better = "with --unique another one that is as good or better"
+    solution = f"the optimal solution that is certified; {better}"
+    add("--solution-output", metavar="FILE", help=solution)
+
+
+def leave(path: str | None, text: bytes) -> None:
+    """Writes a text to a file, or to standard output."""
+    if path:
+        files.write_all({path: text})
+    else:
+        files.put(text)
+
+
+def run(given: argparse.Namespace) -> int:
+    """Certifies that a solution is optimal, or with --unique that it is the only optimal one."""
+    say = partial(files.say, "certify")
+    program = files.read(given.mps, MOST_OF_PROGRAM)
+    solution = files.read(given.solution, MOST_OF_ANSWER) if given.solution else nothing(program)
+    if given.unique:
+        return show_only(given, only(program, solution, given.time_limit, say), say)
+    found = certified(program, solution, given.time_limit, say)
+    if found.gain:
+        say(f"the solution isn't optimal: its objective is {found.gain} above the least")
+        if not given.solution_output:
+            say("--solution-output takes the better one, and the certificate is then for that")
+            return NOT_OPTIMAL
+    if given.solution_output:
+        leave(given.solution_output, found.solution)
+    leave(given.output, found.certificate)
+    return 0
+
+
+def show_only(given: argparse.Namespace, found: Only, say: Say) -> int:
+    """Writes the certificate that there is no other point, or the other point."""
+    if found.claim == "unique":
+        leave(given.output, found.text)
+        return 0
+    if not found.gain or given.solution_output:
+        leave(given.solution_output, found.text)
+    below = f"another point's objective is {found.gain} below its own"
+    say(f"the solution isn't optimal: {below}" if found.gain else "a tie: another point is as good")
+    return NOT_OPTIMAL if found.gain else TIED

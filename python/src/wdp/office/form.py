@@ -7,7 +7,7 @@ import argparse
 import io
 import os
 
-from wdp.texts.refusals import Missing, Refused
+from wdp.texts.refusals import Refused, need
 from wdp.files import tell, write_folder
 from wdp.office import choices
 from wdp.office.faults import counted, printed
@@ -27,10 +27,9 @@ def add_words(parser: argparse.ArgumentParser) -> None:
 
 def workbook(values: list[str]) -> bytes:
     """A workbook with one row."""
-    try:
-        import openpyxl
-    except ImportError:
-        raise Missing("--workbooks needs openpyxl: apt-get install -y python3-openpyxl") from None
+    need("--workbooks", "openpyxl")
+    import openpyxl
+
     book, file = openpyxl.Workbook(), io.BytesIO()
     book.active.title = "Bids"
     book.active.append(values)

@@ -9,7 +9,7 @@ from typing import NamedTuple
 from wdp.office.receipt import Cell, aligned
 from wdp.publish import results as figures
 from wdp.publish.results import Figures, called, lots_text, winners_in
-from wdp.texts.refusals import Missing
+from wdp.texts.refusals import need
 from wdp.texts.tables import field_text
 
 # what parts fields, and the first signs by which spreadsheets know a formula
@@ -257,10 +257,9 @@ def part_of(number: int, greatest: int) -> str:
 
 def page_of(results: Figures) -> bytes:
     """The page: one HTML text that stands alone."""
-    try:
-        import jinja2
-    except ImportError:
-        raise Missing("the page needs jinja2: apt-get install -y python3-jinja2") from None
+    need("the page", "jinja2")
+    import jinja2
+
     environment = jinja2.Environment(
         loader=jinja2.FileSystemLoader(Path(__file__).parent),
         autoescape=True,

@@ -4,7 +4,7 @@ from __future__ import annotations
 from dataclasses import dataclass
 from typing import TYPE_CHECKING
 
-from wdp.texts.refusals import Missing, Refused, Unclear
+from wdp.texts.refusals import Refused, Unclear, need
 from wdp.texts.zero_one import ZeroOne, read_program
 
 if TYPE_CHECKING:
@@ -34,10 +34,9 @@ class Program:
 
 def matrix_of(program: ZeroOne) -> Matrix:
     """A program as a matrix; Missing without scipy."""
-    try:
-        import scipy.sparse
-    except ImportError:
-        raise Missing("matrix needs scipy, which isn't there: apt install python3-scipy") from None
+    need("a matrix", "scipy")
+    import scipy.sparse
+
     columns, rows = program.columns, program.rows
     entries = [(row, place, n) for place, each in enumerate(columns) for row, n in each.entries]
     at_rows, at_columns, numbers = zip(*entries) if entries else ((), (), ())

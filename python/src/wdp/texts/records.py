@@ -3,12 +3,12 @@
 Nothing is judged here that the program judges: records are written, and it says what is wrong with them.
 """
 import operator
-from contextlib import suppress
-from dataclasses import dataclass, replace
+import sys
 from collections.abc import Iterable, Mapping, Sequence
-from typing import Any, TypeGuard
+from contextlib import suppress
+from dataclasses import dataclass
+from typing import Any, NamedTuple, TypeGuard
 
-from wdp import frames
 from wdp.texts.parts import names_in
 from wdp.texts.refusals import Refused, WrongWords, escaped, shortened
 from wdp.texts.tables import BYTE_ORDER_MARK, Records, written
@@ -27,8 +27,7 @@ MOST_EXACT = 2**53  # floating point has each whole number up to this one
 TOO_LARGE = 10**40  # no number of the formats has so many digits
 
 
-@dataclass(frozen=True)
-class Where:
+class Where(NamedTuple):
     """The place of a value in what was given, for a message and for the exception; rows are counted from 0, as in Python."""
 
     text: str
@@ -157,10 +156,21 @@ def whole(number: int, what: str) -> int:
         raise WrongWords(f"{what}: {shown(number)} is no whole number of some digits") from None
 
 
+def is_frame(given: object) -> bool:
+    """Whether this is a data frame of pandas, which isn't imported for that: who has made one has imported it."""
+    kind = getattr(sys.modules.get("pandas"), "DataFrame", None)
+    return isinstance(kind, type) and isinstance(given, kind)
+
+
 def records_in(given: Any, what: str) -> list[Any]:
-    """A list of records, or the rows of a data frame."""
-    if frames.is_frame(given):
-        return frames.rows_of(given, what)
+    """A list of records, or the rows of a data frame by the names of its columns."""
+    if is_frame(given):
+        names = list(map(str, given.columns))
+        if len(set(names)) < len(names):
+            raise WrongWords(f"{what}: two columns of the data frame have the same name")
+        # (column by column, so that no value turns into another type by its neighbours)
+        columns = [given.iloc[:, place].tolist() for place in range(len(names))]
+        return [dict(zip(names, values)) for values in zip(*columns)]
     if isinstance(given, (Mapping, set, frozenset)) or not isinstance(given, Iterable):
         raise WrongWords(f"{what}: a list of records is asked for, and this is {of_type(given)}")
     return list(given)
@@ -169,10 +179,10 @@ def records_in(given: Any, what: str) -> list[Any]:
 def bids_in(given: Any, where: Where, names: Sequence[str]) -> list[Any]:
     """A list of bids, or the rows of a data frame, which must have a column for each category."""
     bids = records_in(given, where.text)
-    if frames.is_frame(given):
+    if is_frame(given):
         for name in ("amount", *names):
             if name not in map(str, given.columns):
-                raise replace(where, column=name).wrong("the data frame has no such column")
+                raise where._replace(column=name).wrong("the data frame has no such column")
     return bids
 
 
@@ -208,7 +218,7 @@ def rules_fields(record: Any, where: Where) -> list[str]:
     for name, value in record.items():
         if name not in ("record", *FIELDS[kind]) and not is_blank(value) and value != "":
             raise where.wrong(f"a record {kind} has no field {shown(name)}")
-    named = ((record.get(name), replace(where, column=name)) for name in FIELDS[kind])
+    named = ((record.get(name), where._replace(column=name)) for name in FIELDS[kind])
     fields = [kind, *(field(*each) for each in named)]
     return fields[:-1] if kind == "category" and not fields[-1] else fields
 
@@ -249,12 +259,12 @@ def form_of(form: Any, where: Where, names: Sequence[str], missing_as_zero: bool
     if not isinstance(pair, (tuple, list)) or len(pair) != 2 or not isinstance(pair[0], str):
         raise where.wrong("a text, or a pair of a bidder's name and its bids, is asked for")
     bidder, bids = pair
-    where = replace(where, bidder=bidder)
+    where = where._replace(bidder=bidder)
     if not isinstance(bids, Placed):
         bids = dict(enumerate(bids_in(bids, where, names)))
     lines = [[bidder, *names]]
     for number, (place, bid) in enumerate(bids.items(), 1):
-        at = replace(where, text=f"{where.text}, bid {number}", row=place)
+        at = where._replace(text=f"{where.text}, bid {number}", row=place)
         lines.append(bid_fields(bid, names, at, missing_as_zero))
     return Form("".join(map(written, lines)), bidder, list(bids), ["amount", *names])
 
@@ -273,7 +283,7 @@ def bid_fields(bid: Any, names: Sequence[str], where: Where, missing_as_zero: bo
         if name not in bid and not (missing_as_zero and "amount" in bid):
             hint = "" if name == "amount" else "; missing_as_zero=True has it count as 0"
             raise where.wrong(f"there is no {shown(name)}{hint}")
-    return [field(bid.get(name, 0), replace(where, column=name)) for name in columns]
+    return [field(bid.get(name, 0), where._replace(column=name)) for name in columns]
 
 
 def groups_text(groups: Any) -> Text:

@@ -1,4 +1,5 @@
 """Why something isn't done: refusals of the program, read from their documented lines, and those of this package."""
+import importlib
 import re
 
 LONGEST = 500  # signs of a text that a message shows
@@ -114,3 +115,16 @@ class NotSolved(Refused):
 
 class Missing(Refused, ImportError):
     """A library of Python that the call needs isn't there."""
+
+
+def need(what: str, *modules: str) -> None:
+    """Raises Missing, which says how to install them, if some of these modules aren't there."""
+    missing = []
+    for module in modules:
+        try:
+            importlib.import_module(module)
+        except ImportError:
+            missing.append(f"python3-{module}")
+    if missing:
+        names = " ".join(missing)
+        raise Missing(f"{what} needs Debian's packages {names}: apt-get install -y {names}")
