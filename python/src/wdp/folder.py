@@ -1,6 +1,4 @@
 """A folder that keeps what steps leave: each file whole or not at all, with its SHA-256 in `sums/`."""
-from __future__ import annotations
-
 import contextlib
 import fcntl
 import hashlib
@@ -8,6 +6,7 @@ import os
 import shutil
 import time
 from collections.abc import Iterator
+from dataclasses import dataclass
 from pathlib import Path
 
 from wdp import files
@@ -18,11 +17,11 @@ MOST = 2 * 1024 * 1024 * 1024  # bytes of a file that a step left
 WAITS = 3  # seconds for a run that is just ending
 
 
+@dataclass
 class Folder:
     """The folder of an auction. Its `input.txt` is the input, and one alone."""
 
-    def __init__(self, where: Path) -> None:
-        self.where = where
+    where: Path
 
     def path(self, name: str) -> Path:
         return self.where / name
