@@ -34,7 +34,6 @@ def path(text: str) -> str:
 
 
 def add_words(parser: argparse.ArgumentParser) -> None:
-    """The words of the choices."""
     add = parser.add_argument
     by = "by the numbers at the ends of their names, or by time of change"
     last = f"of several files of a bidder the last one counts: {by}"

@@ -13,10 +13,9 @@ from wdp.texts.refusals import Refused, WrongWords
 from wdp.files import Unreadable, put, read
 from wdp.office import choices
 from wdp.office.faults import Fault, all_counted, counted, printed
-from wdp.office.gathered import Auction
 from wdp.office.judge import explained
 from wdp.office.places import MOST_OF_AN_INPUT, faults_of_input
-from wdp.office.reading import read_auction
+from wdp.office.reading import Auction
 from wdp.program import found_program
 from wdp.texts import accepted
 
@@ -36,8 +35,7 @@ def left_out(counts: dict[str, int], bids: Sequence[tuple[str, str]]) -> list[st
     for name, count in counts.items():
         whys = [why for bidder, why in bids if bidder == name]
         kept = count - sum(why.startswith("bid ") for why in whys)
-        lines.append(f"{name}: {counted(count, 'bid')}, {kept} kept")
-        lines += [f"{name}: {why}" for why in whys]
+        lines += [f"{name}: {why}" for why in (f"{counted(count, 'bid')}, {kept} kept", *whys)]
     return lines
 
 
@@ -61,7 +59,7 @@ def of_input(path: str, with_bids: bool, program: str) -> tuple[list[Fault], boo
 def of_files(given: argparse.Namespace, program: str) -> tuple[list[Fault], bool, list[str]]:
     rules, folder, *groups = given.paths
     auction = Auction(program, choices.choices_of(given))
-    read_auction(auction, rules, folder, groups, given.bids)
+    auction.read_all(rules, folder, groups, given.bids)
     counts = {name: form.bids or 0 for name, form in auction.forms.items()}
     return auction.faults, bool(auction.rules.bidders), left_out(counts, auction.left_out)
 

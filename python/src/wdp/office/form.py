@@ -11,8 +11,7 @@ from wdp.texts.refusals import Refused, need
 from wdp.files import tell, write_folder
 from wdp.office import choices
 from wdp.office.faults import counted, printed
-from wdp.office.gathered import Auction
-from wdp.office.reading import read_rules
+from wdp.office.reading import Auction
 from wdp.program import found_program
 from wdp.texts.tables import encoded, written
 
@@ -40,7 +39,7 @@ def workbook(values: list[str]) -> bytes:
 
 def run(given: argparse.Namespace) -> int:
     auction = Auction(found_program(given.program), choices.Choices())
-    if not read_rules(given.rules, auction):
+    if not auction.read_rules(given.rules):
         raise Refused(printed(auction.faults).rstrip("\n"))
     if os.path.isdir(given.output) and os.listdir(given.output):
         raise Refused(f"{given.output}: it has files; name a new folder")

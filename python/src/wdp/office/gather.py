@@ -16,8 +16,7 @@ from wdp.texts.refusals import Refused, WrongWords
 from wdp.files import put, tell, write_all
 from wdp.office import choices
 from wdp.office.faults import all_counted, printed
-from wdp.office.gathered import Auction
-from wdp.office.reading import read_auction
+from wdp.office.reading import Auction
 from wdp.office.receipt import receipt
 from wdp.program import found_program
 
@@ -62,7 +61,7 @@ def check_words(given: argparse.Namespace) -> None:
 def run(given: argparse.Namespace) -> int:
     check_words(given)
     auction = Auction(found_program(given.program), choices.choices_of(given))
-    read_auction(auction, given.rules, given.forms, given.groups or [given.groups_file])
+    auction.read_all(given.rules, given.forms, given.groups or [given.groups_file])
     if auction.faults:
         tell(printed(auction.faults))
         is_old = given.output and os.path.exists(given.output)

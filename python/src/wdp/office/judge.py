@@ -43,7 +43,6 @@ class Explained:
     left_out: list[tuple[str, str]] = field(default_factory=list)
 
     def by_part(self) -> defaultdict[Key, list[Finding]]:
-        """The faults of each part."""
         found: defaultdict[Key, list[Finding]] = defaultdict(list)
         for each in self.findings:
             found[each.refused.part, each.refused.number].append(each)
@@ -66,7 +65,8 @@ def finding(line: str) -> Finding:
 
 def explained(program: str, text: bytes, with_bids: bool = False) -> Explained:
     """What `wdp explain` finds in an input; with bids, which of them are in no program."""
-    done = ran([program, "explain", *(["--bids"] if with_bids else [])], text, Limits(MOST))
+    words = ["explain", "--bids"] if with_bids else ["explain"]
+    done = ran([program, *words], text, Limits(MOST))
     lines = done.output.decode("ascii", "backslashreplace").splitlines()
     is_right = done.status == 0 and (with_bids or not lines) or done.status == 1 and lines
     if done.messages or not is_right:

@@ -6,8 +6,9 @@ template left alike have one line.
 import re
 from collections import defaultdict
 from collections.abc import Iterable, Sequence
-from dataclasses import dataclass
+from dataclasses import replace
 from itertools import islice
+from typing import NamedTuple
 
 from wdp.office.faults import Fault, counted, nearest, quoted, readable
 from wdp.office.judge import Explained, Finding, Key
@@ -48,8 +49,7 @@ ZEROS = (
 )
 
 
-@dataclass(frozen=True)
-class Source:
+class Source(NamedTuple):
     """What a part of the input was made of: a file, its rows, and the place in it where the part begins."""
 
     file: str
@@ -99,32 +99,24 @@ def faults_of(found: Sequence[Finding], source: Source) -> list[Fault]:
     numbered = enumerate(islice(source.rows, max(wanted)), 1)
     rows: dict[object, Row] = {number: row for number, row in numbered if number in wanted}
     width = len(rows[1].values) if rows else 0
-    lines: defaultdict[tuple[str, str], dict[int, None]] = defaultdict(dict)
-    placed = []
-    for each in found:
+    faults: dict[object, Fault] = {}
+    of_rows: defaultdict[tuple[str, str], dict[int, None]] = defaultdict(dict)
+    for number, each in enumerate(found):
         row = rows.get(each.refused.at)
         alike = alike_words(each, row, width)
         if alike and row:
-            lines[alike][row.line] = None
-        placed.append((each, row, alike))
-    faults = []
-    for each, row, alike in placed:
-        if alike and alike not in lines:
-            continue
-        said = words_of(each, row, source.bidders)
-        if alike:
-            said = words_of_rows(alike, list(lines.pop(alike)))
-        is_whole = row is None or each.refused.kind in ("NoCategory", "NoBidder")
-        at = ":" + row.place((each.field or 1) - 1) if row and not is_whole else source.head
-        faults.append(Fault(source.file + at, said, each.refusal))
-    return faults
-
-
-def words_of_rows(words: tuple[str, str], lines: list[int]) -> str:
-    """The words of a fault that the rows in these lines have."""
-    if len(lines) == 1:
-        return f"the row {words[0]}"
-    return f"{counted(len(lines), 'row')} from line {lines[0]} to line {lines[-1]} {words[1]}"
+            of_rows[alike][row.line] = None
+        if alike not in faults:
+            is_whole = row is None or each.refused.kind in ("NoCategory", "NoBidder")
+            at = ":" + row.place((each.field or 1) - 1) if row and not is_whole else source.head
+            said = words_of(each, row, source.bidders)
+            faults[alike or number] = Fault(source.file + at, said, each.refusal)
+    for (one, many), lines in of_rows.items():
+        first, *_, last = [*lines, *lines]
+        rows_of = f"{counted(len(lines), 'row')} from line {first} to line {last} {many}"
+        said = f"the row {one}" if len(lines) == 1 else rows_of
+        faults[one, many] = replace(faults[one, many], words=said)
+    return list(faults.values())
 
 
 def first_of(faults: list[Fault], file: str, more: int = 0) -> list[Fault]:
@@ -153,21 +145,15 @@ def of_parts(finding: Finding, data: bytes, source: str) -> Fault:
 
 def faults_of_input(explained: Explained, data: bytes, source: str) -> list[Fault]:
     """The faults of one input."""
-    findings, found = explained.findings, explained.by_part()
+    findings, forms, parts = explained.findings, 0, dict[Key, Part]()
     if findings and findings[0].refused.part == "input":
         return [of_parts(findings[0], data, source)]
-    parts: dict[Key, Part] = {}
-    bidders: list[str] = []
-    forms = 0
     for part in parts_of(data):
         forms += part.kind == "form"
-        if part.kind == "rules":
-            bidders = names_in(part.rows(), "bidder")
-        key = part.kind, forms if part.kind == "form" else None
-        if key in found:
-            parts[key] = part
+        parts[part.kind, forms if part.kind == "form" else None] = part
+    bidders = names_in(parts["rules", None].rows(), "bidder") if findings else []
     faults: list[Fault] = []
-    for wanted, of_part in found.items():
-        part = parts[wanted]
-        faults += faults_of(of_part, Source(source, part.rows(), bidders, f":{part.line}"))
+    for key, found in explained.by_part().items():
+        part = parts[key]
+        faults += faults_of(found, Source(source, part.rows(), bidders, f":{part.line}"))
     return first_of(faults, source, explained.more)

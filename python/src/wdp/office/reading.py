@@ -2,23 +2,33 @@
 
 They are joined into one input, in which the program finds the faults; here is what only files have.
 """
+import os
 import re
-from collections.abc import Sequence
+from collections.abc import Iterable, Iterator, Sequence
+from contextlib import contextmanager
+from dataclasses import dataclass, field
+from pathlib import PurePath
 
-from wdp.files import Unreadable, read
+from wdp.files import Unreadable, at, read
+from wdp.office.choices import Choices
 from wdp.office.faults import Fault, counted, nearest, quoted
-from wdp.office.forms import MOST_OF_A_FORM, read_forms
-from wdp.office.gathered import Auction
 from wdp.office.judge import Finding, explained
 from wdp.office.places import MOST_OF_AN_INPUT, Source, faults_of, first_of, hint, of_parts
 from wdp.office.sheets import MOST_OF_A_FILE, File, fault_of_pair, lines_of, pairs_of, table_of
-from wdp.texts.accepted import rules_of
+from wdp.office.versions import Undecided, last_of
+from wdp.office.workbook import workbook_of
+from wdp.texts.accepted import Rules, rules_of
 from wdp.texts.answers import WON
 from wdp.texts.parts import group_rows
 from wdp.texts.tables import Row, decoded, encoded
 
-# records of rules, and lines of groups, with one that is too many: what follows is a fault whatever it says
-MOST_OF_RULES, MOST_OF_GROUPS = 1 + 32 + 256 + 16 + 16 * 32 + 1, 1_024 + 1
+WORKBOOK = ".xlsx"
+FORMS = (".csv", ".tsv", ".txt", WORKBOOK)
+OTHER_WORKBOOKS = (".xlsm", ".xlsb", ".xls", ".ods", ".numbers")
+LOCK = "~$"
+# records of rules and of a form, and lines of groups, with one that is too many: what follows is a fault whatever it says
+MOST_OF_RULES, MOST_OF_A_FORM = 1 + 32 + 256 + 16 + 16 * 32 + 1, 1 + 4_000 + 1
+MOST_OF_GROUPS = 1_024 + 1
 # fields of a record of the rules, by their version
 WIDTHS = {"1": 5, "2": 6, "3": 6}
 # the first group of a report, or an allocation as `wdp map` prints it
@@ -26,172 +36,299 @@ FIRST_GROUP = re.compile(rf"(?:group 1 .*\n)?{WON}")
 NO_WINNERS = "it doesn't begin with winners and a total, as reports do; perhaps it was cut off"
 COUNT = re.compile("[0-9]{1,18}")
 NOBODY_FIRST = "the first line has to be -, the group of nobody: costs are measured against it"
+UNENDED = "the last {} has no line end, as in a file that was cut off; say --allow-unended {} if it is complete"
 
 
-def read_rules(path: str, auction: Auction) -> bool:
-    """Reads the rules; whether nothing is wrong with them."""
-    with auction.reading():
-        data = read(path, MOST_OF_A_FILE)
-        first = [row.values for row in table_of(path, data, 1).rows]
-        version = first[0][1] if first and first[0][1:] else ""
-        width = WIDTHS.get(version, len(first[0]) if first else 0)
-        file = auction.rules_file = table_of(path, data, MOST_OF_RULES, width)
-        auction.faults += file.faults
-        if not file.faults:
-            found = explained(auction.program, b"%rules\n" + file.text)
-            faults = faults_of(found.findings, Source(path, file.rows))
-            auction.faults += first_of(faults, path, found.more)
-            auction.check_end(file, "rules")
-        if not auction.faults:
-            auction.rules = rules_of(file.rows)
-    return not auction.faults
+def named_in(path: str, bidders: list[str]) -> set[str]:
+    """The bidders whose names are words of a file's name, in any case if no bidder's name is written so."""
+    named: set[str] = set()
+    for word in re.split(r"[^A-Za-z0-9]+", PurePath(path).stem):
+        alike = {name for name in bidders if name.lower() == word.lower()}
+        named |= {word} if word in alike else alike
+    return named
 
 
-def rows_of_groups(words: Sequence[str], auction: Auction) -> list[Row]:
-    """The groups, by a file, or by a rule: `each`, or `winners FILE`."""
-    path, names = words[-1], auction.rules.bidders
-    if words[0] not in ("each", "winners"):
-        file = auction.groups_file = lines_of(path, read(path, MOST_OF_A_FILE))
-        auction.check_end(file, "groups", "line")
-        return file.rows
-    if words[0] == "winners":
-        file = auction.groups_file = File(path, read(path, MOST_OF_AN_INPUT))
-        file.changes = ["each winner alone"]
-        found = FIRST_GROUP.match(decoded(file.data))
-        if not found:
-            raise Unreadable(path, NO_WINNERS)
-        names = [line.split()[0] for line in found[1].splitlines()]
-    return list(group_rows(enumerate(["-", *names], 1)))
+@dataclass
+class Auction:
+    """What an auction's files say, as far as they could be read, and everything that is wrong with them."""
 
+    program: str
+    choices: Choices
+    rules_file: File | None = None
+    rules: Rules = field(default_factory=lambda: Rules(1))
+    # the forms that count, in the order of the input: by their bidders' numbers, then those of unknown bidders
+    counting: list[File] = field(default_factory=list)
+    # each file that a later one replaces, that one, and by what they were compared
+    replaced: list[tuple[File, File, str]] = field(default_factory=list)
+    # names in the folder that aren't taken for forms, and bidders whose files can't be read
+    passed_over: list[str] = field(default_factory=list)
+    unread: list[str] = field(default_factory=list)
+    groups_file: File | None = None
+    groups: list[Row] = field(default_factory=list)
+    faults: list[Fault] = field(default_factory=list)
+    left_out: list[tuple[str, str]] = field(default_factory=list)
+    text: bytes = b""  # the input that the program explained
 
-def read_groups(words: Sequence[str], auction: Auction) -> None:
-    """Reads the groups, the first of which has to be that of nobody."""
-    path = words[-1]
-    with auction.reading():
-        rows = rows_of_groups(words, auction)
-        if not rows or rows[0].values != ["-"]:
-            auction.fault(path + ":1", NOBODY_FIRST)
-        for row in rows[:MOST_OF_GROUPS]:
-            if row.values[0].startswith("%"):
-                why = "the line begins with %, as the heads of parts do"
-                auction.fault(f"{path}:{row.line}", why)
+    @property
+    def forms(self) -> dict[str, File]:
+        """The form of each bidder that has one."""
+        return {form.bidder: form for form in self.counting if form.bidder in self.rules.bidders}
+
+    def fault(self, place: str, words: str) -> None:
+        self.faults.append(Fault(place, words))
+
+    @contextmanager
+    def reading(self, bidders: Iterable[str] = ()) -> Iterator[None]:
+        """That a file can't be used is a fault of it, and of these bidders it isn't known whether they have a form."""
+        try:
+            yield
+        except Unreadable as error:
+            self.fault(error.path, error.why)
+            self.unread += bidders
+
+    def check_end(self, file: File, name: str, what: str = "row") -> None:
+        """The words have to name a file whose last line may have been cut off, and no other."""
+        is_allowed = name in self.choices.allow_unended
+        if file.rows and not file.is_ended and not is_allowed:
+            self.fault(f"{file.path}:{file.rows[-1].line}", UNENDED.format(what, name[:40]))
+        elif file.rows and file.is_ended and is_allowed:
+            why = f"the last {what} has its line end; --allow-unended names {name}"
+            self.fault(file.path, why)
+
+    def read_rules(self, path: str) -> bool:
+        """Reads the rules; whether nothing is wrong with them."""
+        with self.reading():
+            data = read(path, MOST_OF_A_FILE)
+            first = [row.values for row in table_of(path, data, 1).rows]
+            version = first[0][1] if first and first[0][1:] else ""
+            width = WIDTHS.get(version, len(first[0]) if first else 0)
+            file = self.rules_file = table_of(path, data, MOST_OF_RULES, width)
+            self.faults += file.faults
+            if not file.faults:
+                found = explained(self.program, b"%rules\n" + file.text)
+                faults = faults_of(found.findings, Source(path, file.rows))
+                self.faults += first_of(faults, path, found.more)
+                self.check_end(file, "rules")
+            if not self.faults:
+                self.rules = rules_of(file.rows)
+        return not self.faults
+
+    def form_paths(self, folder: str) -> list[str]:
+        """The files of a folder that are taken for forms; the receipt names hidden ones, locks, and those that end in ~."""
+        with at(folder):
+            names = sorted(os.listdir(folder))
+        paths = []
+        for name in names:
+            path, ending = os.path.join(folder, name), PurePath(name).suffix.lower()
+            if name.startswith(LOCK):
+                locked = f"{name} (a spreadsheet's lock: the workbook is open, or was)"
+                self.passed_over.append(locked)
+            elif name.startswith(".") or name.endswith("~"):
+                self.passed_over.append(name)
+            elif ending in FORMS:
+                paths.append(path)
+            elif ending in OTHER_WORKBOOKS:
+                why = f"it is a workbook {ending}, which isn't read; save it as .xlsx or CSV"
+                self.fault(path, why)
             else:
-                auction.groups.append(row)
+                why = f"its name doesn't end in {', '.join(FORMS)}; remove it if it is no form"
+                self.fault(path, why)
+        # all together have at most what an input may have, as UTF-16
+        sizes = [os.path.getsize(path) for path in paths if os.path.isfile(path)]
+        size, most = sum(min(each, MOST_OF_A_FILE) for each in sizes), 2 * MOST_OF_AN_INPUT
+        if size > most:
+            raise Unreadable(folder, f"its files have {size:,} bytes together, more than {most:,}")
+        return paths
 
+    def read_form(self, path: str) -> File:
+        """The form of a file, whose name has to name the bidder of its first row, and no other; Unreadable if there is none."""
+        width = len(self.rules.categories) + 1
+        data = read(path, MOST_OF_A_FILE, regular=True)
+        if path.lower().endswith(WORKBOOK):
+            form = workbook_of(path, data, MOST_OF_A_FORM, width, self.choices.sheet)
+        else:
+            form = table_of(path, data, MOST_OF_A_FORM, width)
+        own, bidders = form.bidder, self.rules.bidders
+        named = named_in(form.path, bidders)
+        others = " and ".join(name for name in bidders if name in named - {own})
+        whose = f"{own}, whose form its first row says it is"
+        why = ""
+        if own in named and others:
+            why = f"the file's name names {others} beside {whose}"
+        elif others:
+            why = f"the file's name doesn't name {whose}, but {others}"
+        elif not named and not self.choices.any_file_name:
+            why = f"the file's name doesn't name {whose}; say --any-file-name if it is right"
+        if why and own in bidders:
+            self.fault(f"{form.path}:{form.rows[0].place()}", why)
+        return form
 
-def joined(auction: Auction, has_groups: bool) -> bytes:
-    """The input: the rules, the forms that count, and the groups."""
-    assert auction.rules_file
-    parts = [b"%rules\n" + auction.rules_file.text]
-    parts += [b"%form\n" + form.text for form in auction.counting]
-    lines = ["+".join(row.values) + "\n" for row in auction.groups]
-    return b"".join(parts) + (encoded("%groups\n" + "".join(lines)) if has_groups else b"")
+    def last_form(self, forms: list[File]) -> list[File]:
+        """The file of a bidder that counts, by the order that was chosen; all, with faults, if that can't be known."""
+        way, name = self.choices.last_wins, forms[0].bidder
+        if len(forms) == 1 or name not in self.rules.bidders:
+            return forms
+        try:
+            last, replaced = last_of([form.path for form in forms], way)
+        except Undecided as why:
+            tried = f"--last-wins {way} can't tell which is later: " if way else ""
+            for form in forms[1:]:
+                words = f"another form of {name} is in {forms[0].path}; {tried}{why}"
+                self.fault(form.path, words)
+            return forms
+        self.replaced += [(forms[place], forms[last], judged) for place, judged in replaced]
+        return [forms[last]]
 
+    def read_forms(self, folder: str) -> None:
+        """Finds the files of forms that count, and reads them."""
+        bidders = self.rules.bidders
+        by_bidder: dict[str, list[File]] = {}
+        paths: list[str] = []
+        with self.reading(bidders):
+            paths = self.form_paths(folder)
+        for path in paths:
+            with self.reading(named_in(path, bidders)):
+                form = self.read_form(path)
+                by_bidder.setdefault(form.bidder, []).append(form)
+        counting = [form for forms in by_bidder.values() for form in self.last_form(forms)]
+        order = {name: at for at, name in enumerate(bidders)}
+        self.counting = sorted(counting, key=lambda form: order.get(form.bidder, len(bidders)))
 
-def check_form(form: File, found: list[Finding], is_all: bool, auction: Auction) -> None:
-    """Adds what is wrong with a form; without a fault it gets its number of bids, if all faults are known."""
-    # (a quote that isn't closed makes one field of all that follows)
-    beyond = form.unclosed or MOST_OF_A_FORM + 1
-    said = [each for each in found if (each.refused.record or 0) < beyond]
-    source = Source(form.path, form.rows, auction.rules.bidders)
-    auction.faults += form.faults + first_of(faults_of(said, source), form.path)
-    if not form.faults:
-        auction.check_end(form, form.bidder)
-    if found or form.faults or not is_all:
-        return
-    name, form.bids = form.bidder, len(form.rows) - 1
-    is_allowed = name in auction.choices.allow_empty
-    if not form.bids and not is_allowed:
-        hint = f"say --allow-empty {name} if it is meant to have none"
-        auction.fault(form.path, f"the form has no bid; {hint}")
-    elif form.bids and is_allowed:
-        has = f"the form has {counted(form.bids, 'bid')}"
-        auction.fault(form.path, f"{has}; --allow-empty names {name}")
+    def rows_of_groups(self, words: Sequence[str]) -> list[Row]:
+        """The groups, by a file, or by a rule: `each`, or `winners FILE`."""
+        path, names = words[-1], self.rules.bidders
+        if words[0] not in ("each", "winners"):
+            file = self.groups_file = lines_of(path, read(path, MOST_OF_A_FILE))
+            self.check_end(file, "groups", "line")
+            return file.rows
+        if words[0] == "winners":
+            file = self.groups_file = File(path, read(path, MOST_OF_AN_INPUT))
+            file.changes = ["each winner alone"]
+            found = FIRST_GROUP.match(decoded(file.data))
+            if not found:
+                raise Unreadable(path, NO_WINNERS)
+            names = [line.split()[0] for line in found[1].splitlines()]
+        return list(group_rows(enumerate(["-", *names], 1)))
 
+    def read_groups(self, words: Sequence[str]) -> None:
+        """Reads the groups, the first of which has to be that of nobody."""
+        path = words[-1]
+        with self.reading():
+            rows = self.rows_of_groups(words)
+            if not rows or rows[0].values != ["-"]:
+                self.fault(path + ":1", NOBODY_FIRST)
+            for row in rows[:MOST_OF_GROUPS]:
+                if row.values[0].startswith("%"):
+                    why = "the line begins with %, as the heads of parts do"
+                    self.fault(f"{path}:{row.line}", why)
+                else:
+                    self.groups.append(row)
 
-def check_words(auction: Auction) -> None:
-    """Adds a fault for each name in the words that is no bidder's, and for each word that isn't needed."""
-    choices, forms, bidders = auction.choices, auction.forms, auction.rules.bidders
-    named = [("--allow-missing", name) for name in choices.allow_missing]
-    named += [("--allow-empty", name) for name in choices.allow_empty]
-    named += [("--allow-unended", n) for n in choices.allow_unended if n not in ("rules", "groups")]
-    for word, name in named:
-        if name not in bidders:
-            auction.fault(word, f"{quoted(name)} is no bidder of the rules{nearest(name, bidders)}")
-        elif word == "--allow-missing" and name in forms:
-            auction.fault(forms[name].path, f"this is a form of {name}; --allow-missing names it")
-        elif word != "--allow-missing" and name not in {*forms, *auction.unread}:
-            auction.fault(word, f"there is no form of {name}")
+    def check_form(self, form: File, found: list[Finding], is_all: bool) -> None:
+        """Adds what is wrong with a form; without a fault it gets its number of bids, if all faults are known."""
+        # (a quote that isn't closed makes one field of all that follows)
+        beyond = form.unclosed or MOST_OF_A_FORM + 1
+        said = [each for each in found if (each.refused.record or 0) < beyond]
+        source = Source(form.path, form.rows, self.rules.bidders)
+        self.faults += form.faults + first_of(faults_of(said, source), form.path)
+        if not form.faults:
+            self.check_end(form, form.bidder)
+        if found or form.faults or not is_all:
+            return
+        name, form.bids = form.bidder, len(form.rows) - 1
+        is_allowed = name in self.choices.allow_empty
+        if not form.bids and not is_allowed:
+            hint = f"say --allow-empty {name} if it is meant to have none"
+            self.fault(form.path, f"the form has no bid; {hint}")
+        elif form.bids and is_allowed:
+            has = f"the form has {counted(form.bids, 'bid')}"
+            self.fault(form.path, f"{has}; --allow-empty names {name}")
 
+    def check_words(self) -> None:
+        """Adds a fault for each name in the words that is no bidder's, and for each word that isn't needed."""
+        choices, forms, bidders = self.choices, self.forms, self.rules.bidders
+        unended = [name for name in choices.allow_unended if name not in ("rules", "groups")]
+        named = [("--allow-missing", name) for name in choices.allow_missing]
+        named += [("--allow-empty", name) for name in choices.allow_empty]
+        named += [("--allow-unended", name) for name in unended]
+        for word, name in named:
+            if name not in bidders:
+                near = nearest(name, bidders)
+                self.fault(word, f"{quoted(name)} is no bidder of the rules{near}")
+            elif word == "--allow-missing" and name in forms:
+                self.fault(forms[name].path, f"this is a form of {name}; --allow-missing names it")
+            elif word != "--allow-missing" and name not in {*forms, *self.unread}:
+                self.fault(word, f"there is no form of {name}")
 
-def read_counts(path: str, auction: Auction) -> dict[str, tuple[int, str]]:
-    """How many bids are expected of each bidder, by a file with a row `bidder,bids` for each, and the place that says so."""
-    bidders = auction.rules.bidders
-    expected: dict[str, tuple[int, str]] = {}
-    with auction.reading():
-        file = pairs_of(path, ["bidder", "bids"], len(bidders))
-        auction.faults += file.faults
-        for row in file.rows:
-            wanted = "a bidder and a number of bids"
-            at, why = 0, fault_of_pair(row, wanted, bidders, expected, "bidder")
-            if not why and not COUNT.fullmatch(row.values[1]):
-                at = 1
-                why = f"{quoted(row.values[1])} isn't a number of bids{hint(row.values[1])}"
-            if why:
-                auction.fault(f"{path}:{row.place(at)}", why)
-            else:
-                expected[row.values[0]] = int(row.values[1]), f"{path}:{row.place(1)}"
-    return expected
+    def read_counts(self, path: str) -> dict[str, tuple[int, str]]:
+        """How many bids are expected of each bidder, by a file with a row `bidder,bids` for each, and the place that says so."""
+        bidders = self.rules.bidders
+        expected: dict[str, tuple[int, str]] = {}
+        with self.reading():
+            file = pairs_of(path, ["bidder", "bids"], len(bidders))
+            self.faults += file.faults
+            for row in file.rows:
+                wanted = "a bidder and a number of bids"
+                at, why = 0, fault_of_pair(row, wanted, bidders, expected, "bidder")
+                if not why and not COUNT.fullmatch(row.values[1]):
+                    at = 1
+                    why = f"{quoted(row.values[1])} isn't a number of bids{hint(row.values[1])}"
+                if why:
+                    self.fault(f"{path}:{row.place(at)}", why)
+                else:
+                    expected[row.values[0]] = int(row.values[1]), f"{path}:{row.place(1)}"
+        return expected
 
+    def compare(self, path: str) -> None:
+        """Adds a fault for each form that hasn't the bids that are expected."""
+        before = len(self.faults)
+        expected = self.read_counts(path)
+        if len(self.faults) > before:
+            return
+        for name in self.rules.bidders:
+            form = self.forms.get(name)
+            count, place = expected.get(name, (0, path))
+            wanted = f"{counted(count, 'bid')} of {name} expected"
+            if form and name not in expected:
+                self.fault(path, f"there is no row for {name}, which has a form")
+            elif not form and count and name not in self.unread:
+                self.fault(place, f"{wanted}; there is no form")
+            elif form and form.bids is not None and form.bids != count:
+                self.fault(place, f"{wanted}; {form.path} has {form.bids}")
 
-def compare(path: str, auction: Auction) -> None:
-    """Adds a fault for each form that hasn't the bids that are expected."""
-    before = len(auction.faults)
-    expected = read_counts(path, auction)
-    if len(auction.faults) > before:
-        return
-    for name in auction.rules.bidders:
-        form = auction.forms.get(name)
-        count, place = expected.get(name, (0, path))
-        wanted = f"{counted(count, 'bid')} of {name} expected"
-        if form and name not in expected:
-            auction.fault(path, f"there is no row for {name}, which has a form")
-        elif not form and count and name not in auction.unread:
-            auction.fault(place, f"{wanted}; there is no form")
-        elif form and form.bids is not None and form.bids != count:
-            auction.fault(place, f"{wanted}; {form.path} has {form.bids}")
-
-
-def read_auction(
-    auction: Auction, rules: str, folder: str, group_words: Sequence[str], with_bids: bool = True
-) -> None:
-    """Reads all files: that of the rules, those of a folder of forms, and one of groups, or groups by a rule."""
-    if not read_rules(rules, auction):
-        return
-    read_forms(folder, auction)
-    of_folder, auction.faults = auction.faults, []
-    if group_words:
-        read_groups(group_words, auction)
-    of_groups, auction.faults = auction.faults, of_folder
-    auction.text = joined(auction, bool(group_words))
-    found = explained(auction.program, auction.text, with_bids)
-    of_part = found.by_part()
-    for number, form in enumerate(auction.counting, 1):
-        check_form(form, of_part["form", number], not found.more, auction)
-    check_words(auction)
-    present = {*auction.forms, *auction.choices.allow_missing, *auction.unread}
-    for name in auction.rules.bidders:
-        if name not in present:
+    def read_all(
+        self, rules: str, folder: str, group_words: Sequence[str], with_bids: bool = True
+    ) -> None:
+        """Reads all files: that of the rules, those of a folder of forms, and one of groups, or groups by a rule."""
+        if not self.read_rules(rules):
+            return
+        assert self.rules_file
+        self.read_forms(folder)
+        of_folder, self.faults = self.faults, []
+        if group_words:
+            self.read_groups(group_words)
+        of_groups, self.faults = self.faults, of_folder
+        self.text = b"%rules\n" + self.rules_file.text
+        self.text += b"".join(b"%form\n" + form.text for form in self.counting)
+        lines = ["+".join(row.values) + "\n" for row in self.groups]
+        self.text += encoded("%groups\n" + "".join(lines)) if group_words else b""
+        found = explained(self.program, self.text, with_bids)
+        of_part = found.by_part()
+        for number, form in enumerate(self.counting, 1):
+            self.check_form(form, of_part["form", number], not found.more)
+        self.check_words()
+        present = {*self.forms, *self.choices.allow_missing, *self.unread}
+        for name in [name for name in self.rules.bidders if name not in present]:
             hint = f"say --allow-missing {name} if it doesn't bid"
-            auction.fault(folder, f"there is no form of {name}; {hint}")
-    if auction.choices.expect:
-        compare(auction.choices.expect, auction)
-    source = Source("".join(group_words[-1:]), auction.groups, auction.rules.bidders)
-    auction.faults += of_groups + first_of(faults_of(of_part["groups", None], source), source.file)
-    for each in found.findings[:1]:
-        if each.refused.part == "input":
-            auction.faults.append(of_parts(each, auction.text, "the joined input"))
-    if found.more:
-        words = f"{counted(found.more, 'more fault')} in these files"
-        auction.faults.append(Fault(folder, words, count=found.more))
-    auction.left_out = found.left_out
+            self.fault(folder, f"there is no form of {name}; {hint}")
+        if self.choices.expect:
+            self.compare(self.choices.expect)
+        path = "".join(group_words[-1:])
+        source = Source(path, self.groups, self.rules.bidders)
+        self.faults += of_groups + first_of(faults_of(of_part["groups", None], source), path)
+        if found.findings and found.findings[0].refused.part == "input":
+            self.faults.append(of_parts(found.findings[0], self.text, "the joined input"))
+        if found.more:
+            words = f"{counted(found.more, 'more fault')} in these files"
+            self.faults.append(Fault(folder, words, count=found.more))
+        self.left_out = found.left_out

@@ -4,7 +4,7 @@ from itertools import groupby
 from operator import itemgetter
 
 from wdp.office.faults import counted, printed
-from wdp.office.gathered import Auction
+from wdp.office.reading import Auction
 from wdp.office.sheets import File
 from wdp.texts.accepted import Bid, Rules, form_of
 from wdp.texts.tables import digest_of
@@ -52,7 +52,6 @@ def of_files(auction: Auction) -> Iterator[str]:
 
 
 def of_rules(rules: Rules) -> Iterator[str]:
-    """The rules as they are understood."""
     yield f"The rules: amounts are multiples of {rules.step:,}"
     of_lots = "Reserve of a lot", "Points of a lot", "Value of an unsold lot"
     yield from aligned([("Category", "Supply", *of_lots), *rules.categories])
@@ -78,7 +77,6 @@ def bid_words(rules: Rules, bid: Bid) -> str:
 
 
 def to_be_read_aloud(auction: Auction) -> list[str]:
-    """A row for each bidder."""
     rows: list[Sequence[Cell]] = [("Bidder", "Bids", "Highest", "Sum", "First bid", "Last bid")]
     for name in auction.rules.bidders:
         form = auction.forms.get(name)
@@ -93,6 +91,5 @@ def to_be_read_aloud(auction: Auction) -> list[str]:
 
 
 def receipt(auction: Auction) -> str:
-    """What went into the input, line by line."""
     lines = [*of_files(auction), "", *of_rules(auction.rules), "", *of_left_out(auction)]
     return printed([*lines, "", "To be read aloud to each bidder:", *to_be_read_aloud(auction)])

@@ -41,10 +41,12 @@ class File:
     rows: list[Row] = field(default_factory=list)
     changes: list[str] = field(default_factory=list)
     faults: list[Fault] = field(default_factory=list)
-    # whether the last row ends as a row does, and not perhaps in the middle of a value
-    is_ended: bool = True
-    # the number of the row whose quote isn't closed, so that it holds all that follows
-    unclosed: int | None = None
+    is_ended: bool = (
+        True  # whether the last row ends as a row does, and not perhaps in the middle of a value
+    )
+    unclosed: int | None = (
+        None  # the number of the row whose quote isn't closed, so that it holds all that follows
+    )
     bids: int | None = None
 
     @property
@@ -68,9 +70,8 @@ class File:
             heads = [at for at, value in enumerate(row.values) if "\n%" in value]
             for at in heads:
                 self.fault(row.place(at), HEAD)
-            if any(row.values) and not heads:
-                self.rows.append(row)
             empty += not any(row.values)
+            self.rows += [row] if any(row.values) and not heads else []
             if len(self.rows) == most:
                 break
         width = width or len(self.rows[0].values if self.rows else ())
@@ -115,10 +116,9 @@ def delimiter_of(text: str, file: File) -> tuple[str, int]:
     first = FIRST_LINE.search(text, begin)
     there = [delimiter for delimiter in DELIMITERS if first and delimiter in first[0]]
     delimiter = named[1] if named else (there or [","])[0]
-    line = f"its first line is sep={quoted(delimiter)}"
+    line, parted = f"its first line is sep={quoted(delimiter)}", "a comma, a semicolon or a tab"
     if delimiter not in DELIMITERS:
-        why = f"{line}; fields are parted by a comma, a semicolon or a tab"
-        raise Unreadable(file.path, why)
+        raise Unreadable(file.path, f"{line}; fields are parted by {parted}")
     if there and delimiter not in there:
         has = f"the row below it has {DELIMITERS[there[0]]} between its fields"
         raise Unreadable(file.path, f"{line}, and {has}")

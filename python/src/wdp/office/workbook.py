@@ -27,11 +27,9 @@ def readable(path: str) -> Iterator[None]:
         yield
     except Unreadable:
         raise
-    except ImportError:
-        raise Unreadable(path, NEEDED) from None
     except Exception as error:
         why = f"it is no workbook that can be read: {type(error).__name__}"
-        raise Unreadable(path, why) from None
+        raise Unreadable(path, NEEDED if isinstance(error, ImportError) else why) from None
 
 
 def field_of(value: Any) -> str:
@@ -93,9 +91,7 @@ def workbook_of(path: str, data: bytes, most: int, width: int, name: str | None)
         formulas.reset_dimensions()
         file.fill(cells_of(values, formulas, file, taken), most, width)
     others = f", of {len(titles)} sheets" if len(titles) > 1 else ""
-    changes = [f"read from sheet {title}{others}"]
-    if taken:
-        stored = f"taken by their stored values: {', '.join(taken[:20])}"
-        changes.append(f"{counted(len(taken), 'formula')} {stored}")
-    file.changes = changes + file.changes
+    stored = f"taken by their stored values: {', '.join(taken[:20])}"
+    formulas_taken = [f"{counted(len(taken), 'formula')} {stored}"] if taken else []
+    file.changes = [f"read from sheet {title}{others}", *formulas_taken, *file.changes]
     return file
