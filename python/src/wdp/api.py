@@ -3,7 +3,7 @@ from __future__ import annotations
 
 import math
 import os
-from collections.abc import Iterable, Mapping
+from collections.abc import Iterable
 from numbers import Real
 from typing import Any
 
@@ -15,12 +15,14 @@ from wdp.results import Allocation, Certified, Counts, Report, Solutions, joined
 from wdp.texts import answers, records
 from wdp.texts.mps import Program
 from wdp.texts.parts import with_groups
+from wdp.texts.records import Text
 from wdp.texts.refusals import NotFound, NotSolved, Refused, WrongWords
 
 MOST_OF_A_FILE = 134_217_728  # bytes that the program reads in all
 UNENDED = "the last line has no end, as in a file that was cut off; say allow_unended=True if it is complete"
 
 Claims = tuple[str | None, str | None]  # what is proved of other winners: `unique`, or `tie`
+Found = certify.Certified
 
 
 class Auction:
@@ -69,11 +71,7 @@ class Auction:
 
     @classmethod
     def from_text(
-        cls,
-        input_text: records.Text,
-        *,
-        program: Path | None = None,
-        time_limit: float | None = None,
+        cls, input_text: Text, *, program: Path | None = None, time_limit: float | None = None
     ) -> Auction:
         """The auction of an input with its parts, as the program reads it. Raises what Auction(..) does."""
         auction = cls(rules="", program=program, time_limit=time_limit)
@@ -114,11 +112,11 @@ class Auction:
         self,
         solutions: Iterable[Any] = (),
         certificates: Iterable[Any] = (),
-        unique: records.Text | None = None,
+        unique: Text | None = None,
         tie: Any = None,
-        prices: records.Text | None = None,
-        cover: records.Text | None = None,
-        weights: records.Text | None = None,
+        prices: Text | None = None,
+        cover: Text | None = None,
+        weights: Text | None = None,
     ) -> bytes:
         """The input followed by these parts, as the program reads it: with certificates it is an audit, which `wdp verify`
         judges anywhere. Raises WrongWords or Refused if a text would be more than its part.
@@ -181,15 +179,9 @@ class Auction:
 
         Raises NotFound if the solver isn't there, NotSolved if it gives no point, and WrongWords if it isn't known.
         """
-        name, seconds = self._solver(solver), whole_seconds(time_limit)
+        name, seconds = checked_solver(solver), whole_seconds(time_limit)
         points = (point_of(program, name, seconds) for program in self.compile(workers))
         return Solutions(tuple(points), name)
-
-    def _solver(self, solver: str | None) -> str:
-        is_word = isinstance(solver, str) and solver and solver.isprintable()
-        if solver is not None and not is_word:
-            raise WrongWords("a solver is cbc, highs, or a command with {mps} in it, on one line")
-        return solve.checked_solver(solver)
 
     def certify(
         self,
@@ -216,23 +208,19 @@ class Auction:
         if unique and found:
             only = certify.only(programs[0], found[0].solution, seconds)
             claims[only.claim] = only.text.decode()
-        made = Solutions(tuple(each.solution.decode() for each in found), "certify")
-        certificates = [each.certificate for each in found]
-        return self._certified(made, certificates, (claims.get("unique"), claims.get("tie")))
+        return self._certified(found, "certify", (claims.get("unique"), claims.get("tie")))
 
     def _certified(
-        self, made: Solutions, certificates: list[bytes], claims: Claims, parts: bytes = b""
+        self, found: list[Found], solver: str, claims: Claims, parts: bytes = b""
     ) -> Certified:
         """What `wdp verify` says of solutions with what shows it."""
-        shown = tuple(text.decode() for text in certificates)
+        made = Solutions(tuple(each.solution.decode() for each in found), solver)
+        shown = tuple(each.certificate.decode() for each in found)
         audit = parts + self.input(made, shown, *claims)
         return Certified(self._report("verify", audit, 1), made, shown, *claims, audit)
 
     def prices(
-        self,
-        certified: Certified,
-        solver: str | None = None,
-        time_limit: int | None = None,
+        self, certified: Certified, solver: str | None = None, time_limit: int | None = None
     ) -> Certified:
         """What is certified, with prices: whole ones of the least sum that cover every group of bidders, and of these the nearest
         to what each winner costs alone. Its report has them, and after the groups of the auction those that show them: each
@@ -240,9 +228,9 @@ class Auction:
 
         Raises what `solve` and `certify` do.
         """
-        name, seconds = self._solver(solver), whole_seconds(time_limit)
-        texts = list(certified.solutions)
-        certificates = [text.encode() for text in certified.certificates]
+        name, seconds = checked_solver(solver), whole_seconds(time_limit)
+        given = zip(certified.solutions, certified.certificates)
+        found = [Found(text.encode(), shown.encode(), 0) for text, shown in given]
         programs = self.compile()
         listed = [joined(program.names) for program in programs]
         more = [win.bidder for win in certified.report[0].winners if win.bidder not in listed]
@@ -251,19 +239,16 @@ class Auction:
             listed += more
             text = with_groups(self._given, listed[len(programs) :])
             grown = Auction.from_text(text, program=self._program, time_limit=self._time_limit)
-            for program in grown.compile()[len(texts) :]:
+            for program in grown.compile()[len(found) :]:
                 begin = point_of(program, name, seconds).encode()
-                found = certify.certified(program.text.encode(), begin, seconds)
-                texts.append(found.solution.decode())
-                certificates.append(found.certificate)
+                found.append(certify.certified(program.text.encode(), begin, seconds))
             more = []
             if not parts:
-                award = pricing.Award(self._given, programs[0].text.encode(), texts[0].encode())
-                for solution, names in zip(texts, listed):
-                    award.learn(solution.encode(), names)
+                award = pricing.Award(self._given, programs[0].text.encode(), found[0].solution)
+                for each, names in zip(found, listed):
+                    award.learn(each.solution, names)
                 more, parts = pricing.parts(award, listed, pricing.found(award, name, seconds))
-        made = Solutions(tuple(texts), name)
-        return grown._certified(made, certificates, (certified.unique, certified.tie), parts)
+        return grown._certified(found, name, (certified.unique, certified.tie), parts)
 
     def report(self, solutions: Iterable[Any], workers: int = 1) -> Report:
         """Winners, total and opportunity cost of each group in pounds, from a solution for each: texts, or dicts of columns
@@ -276,14 +261,14 @@ class Auction:
     def verify(
         self,
         solutions: Iterable[Any],
-        certificates: Iterable[records.Text],
-        unique: records.Text | None = None,
+        certificates: Iterable[Text],
+        unique: Text | None = None,
         tie: Any = None,
         workers: int = 1,
         *,
-        prices: records.Text | None = None,
-        cover: records.Text | None = None,
-        weights: records.Text | None = None,
+        prices: Text | None = None,
+        cover: Text | None = None,
+        weights: Text | None = None,
     ) -> Report:
         """The same as `report`, proved: a certificate for each group shows that no total is greater. With `unique`, a
         certificate that the solution of group 1 is the only optimal one, or `tie`, another solution with the same total, the
@@ -305,12 +290,20 @@ class Auction:
         output = self._answer(words, self.input([solution]))
         return answers.read_map(output, answers.Asked(self._given))
 
-    def check(self, mps_text: records.Text | Program) -> Counts:
+    def check(self, mps_text: Text | Program) -> Counts:
         """How many rows, columns and entries a 0-1 program in MPS has, whoever wrote it. Raises Refused if the text isn't of
         the profile that docs/REFERENCE.md describes.
         """
         text = mps_text.text if isinstance(mps_text, Program) else mps_text
         return answers.read_counts(self._answer(["check"], records.encoded(text, "program")))
+
+
+def checked_solver(solver: str | None) -> str:
+    """A solver's name or command; WrongWords if it is neither."""
+    is_word = isinstance(solver, str) and solver and solver.isprintable()
+    if solver is not None and not is_word:
+        raise WrongWords("a solver is cbc, highs, or a command with {mps} in it, on one line")
+    return solve.checked_solver(solver)
 
 
 def point_of(program: Program, solver: str, seconds: int | None) -> str:
@@ -328,7 +321,7 @@ def workers_of(workers: int) -> list[str]:
     return [] if number == 1 else [f"--workers={number}"]
 
 
-def solution_texts(solutions: Iterable[Any]) -> list[records.Text]:
+def solution_texts(solutions: Iterable[Any]) -> list[Text]:
     """Solutions as texts."""
     given = enumerate(listed(solutions, "solutions"), 1)
     return [records.solution_text(each, f"solution {number}") for number, each in given]
@@ -336,8 +329,7 @@ def solution_texts(solutions: Iterable[Any]) -> list[records.Text]:
 
 def listed(given: Iterable[Any], what: str) -> list[Any]:
     """A list of texts; WrongWords if it is one text or no list."""
-    is_one = records.is_text(given) or isinstance(given, (Mapping, set, frozenset))
-    if is_one or not isinstance(given, Iterable):
+    if records.is_text(given) or not records.is_list(given):
         raise WrongWords(f"{what}: a list is asked for")
     return list(given)
 

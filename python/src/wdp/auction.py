@@ -398,6 +398,9 @@ class Run(Folder):
         finally:
             shutil.rmtree(self.where, ignore_errors=True)
 
+    def take_standard_input(self) -> None:
+        self.take_input(files.read("-", MOST_OF_INPUT))
+
     def take_audit(self, audit: bytes) -> None:
         """Puts what an audit has into the folder, as if steps had left it."""
         parts = list(parts_of(audit))
@@ -471,8 +474,8 @@ def run(given: argparse.Namespace) -> int:
     if not given.folder:
         if given.step or given.input not in (None, "-") or given.title or given.currency:
             raise WrongWords("--input FILE, --title, --currency and --step go with DIR")
-        take = partial(own.take_input, files.read("-", MOST_OF_INPUT))
-        return own.without_folder(take, REPORT if own.is_certified else UNCERTIFIED, files.put)
+        name = REPORT if own.is_certified else UNCERTIFIED
+        return own.without_folder(own.take_standard_input, name, files.put)
     data = files.read(given.input, MOST_OF_INPUT) if given.input else None
     if data is not None:
         given.folder.mkdir(parents=True, exist_ok=True)

@@ -12,13 +12,11 @@ from wdp.steps import INTERRUPTED, reported
 from wdp.texts.refusals import escaped
 
 NAME = "wdp-office"
+FAULTS = "prints all that is wrong with an input, by file, line and column"
 # each command with its module in this package, and what it is for
 COMMANDS = {
     "gather": ("office.gather", "joins an auction's files into one input of wdp"),
-    "explain": (
-        "office.explain",
-        "prints all that is wrong with an input, by file, line and column",
-    ),
+    "explain": ("office.explain", FAULTS),
     "form": ("office.form", "writes a blank form for each bidder"),
     "solve": ("solve", "solves a program by a solver"),
     "certify": ("certify", "certifies a solution as optimal, or as the only optimal one"),
@@ -68,20 +66,15 @@ def tree(only: str | None = None) -> Parser:
     return parser
 
 
-def nearest(word: str) -> str:
-    """Why a word is no command."""
-    near = difflib.get_close_matches(word[:LONGEST].lower(), COMMANDS, 1, 0)[0]
-    shown = word if len(word) <= LONGEST else word[:LONGEST] + ".."
-    return f"there is no command '{shown}'; the nearest one is {near}"
-
-
 def parsed(words: list[str]) -> argparse.Namespace:
     """What the words ask for; a SystemExit if they are wrong, or ask for help."""
     if words[:1] == ["help"]:
         words = [*words[1:2], "--help"]
     first = words[0] if words else ""
     if words and not first.startswith("-") and first not in COMMANDS:
-        files.say(NAME, nearest(first))
+        near = difflib.get_close_matches(first[:LONGEST].lower(), COMMANDS, 1, 0)[0]
+        shown = first if len(first) <= LONGEST else first[:LONGEST] + ".."
+        files.say(NAME, f"there is no command '{shown}'; the nearest one is {near}")
         raise SystemExit(WRONG_WORDS)
     parser = tree(first if first in COMMANDS else "")
     if not words:
@@ -89,8 +82,8 @@ def parsed(words: list[str]) -> argparse.Namespace:
         raise SystemExit(WRONG_WORDS)
     given, strange = parser.parse_known_args(words)
     if strange:
-        named = f"{NAME} {given.command}" if given.command else NAME
-        Parser(prog=named).error(f"unrecognized arguments: {' '.join(strange)}")
+        parser.prog = f"{NAME} {given.command}" if given.command else NAME
+        parser.error(f"unrecognized arguments: {' '.join(strange)}")
     return given
 
 

@@ -29,10 +29,6 @@ class Unreadable(Refused):
         self.path, self.why = path, why
 
 
-def of_system(path: str, error: Exception) -> Unreadable:
-    return Unreadable(path, getattr(error, "strerror", None) or str(error))
-
-
 @contextlib.contextmanager
 def at(path: str) -> Iterator[None]:
     """What the system refuses within is Unreadable, with the path."""
@@ -41,7 +37,7 @@ def at(path: str) -> Iterator[None]:
     except Refused:
         raise
     except (OSError, ValueError) as error:
-        raise of_system(path, error) from error
+        raise Unreadable(path, getattr(error, "strerror", None) or str(error)) from error
 
 
 def read(path: str, most: int, regular: bool = False) -> bytes:
@@ -65,16 +61,15 @@ def read(path: str, most: int, regular: bool = False) -> bytes:
 
 
 def check_kind(path: str, status: os.stat_result) -> None:
-    kind = KINDS.get(stat.S_IFMT(status.st_mode))
-    if kind:
+    if kind := KINDS.get(stat.S_IFMT(status.st_mode)):
         raise Unreadable(path, f"it is {kind}")
 
 
 def up_to(file: BinaryIO, path: str, most: int) -> bytes:
     """The rest of a file. One that has too much by its size isn't read."""
     before = os.fstat(file.fileno())
-    data = file.read(most + 1) if before.st_size <= most else None
-    if data is None or len(data) > most:
+    data = file.read(most + 1) if before.st_size <= most else b""
+    if max(before.st_size, len(data)) > most:
         raise Unreadable(path, f"it has more than {most:,} bytes")
     after = os.fstat(file.fileno())
     if stat.S_ISREG(after.st_mode) and before.st_mtime_ns != after.st_mtime_ns:
@@ -134,15 +129,16 @@ def put(data: bytes) -> None:
     """Writes standard output, all of it."""
     if sys.stdout is None:
         raise Unreadable("standard output", "it is closed")
-    try:
-        # with PYTHONUNBUFFERED a write may take a part, and say so by its answer alone
-        rest = memoryview(data)
-        while rest:
-            rest = rest[sys.stdout.buffer.write(rest) or 0 :]
-        sys.stdout.buffer.flush()
-    except OSError as error:
-        os.dup2(os.open(os.devnull, os.O_WRONLY), 1)
-        raise of_system("standard output", error) from None
+    with at("standard output"):
+        try:
+            # with PYTHONUNBUFFERED a write may take a part, and say so by its answer alone
+            rest = memoryview(data)
+            while rest:
+                rest = rest[sys.stdout.buffer.write(rest) or 0 :]
+            sys.stdout.buffer.flush()
+        except OSError:
+            os.dup2(os.open(os.devnull, os.O_WRONLY), 1)
+            raise
 
 
 def tell(text: str) -> None:

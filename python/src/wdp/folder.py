@@ -59,11 +59,11 @@ class Folder:
             data = there
         if self.has(INPUT):
             self.read(INPUT)
-            return
-        if not self.sum_path(INPUT).exists() and any(self.path("sums").rglob("*.sha256")):
+        elif not self.sum_path(INPUT).exists() and any(self.path("sums").rglob("*.sha256")):
             why = f"isn't there, which says of which input {self.where} is"
             raise Refused(f"{self.sum_path(INPUT)} {why}")
-        self.leave(INPUT, data)
+        else:
+            self.leave(INPUT, data)
 
     @contextlib.contextmanager
     def locked(self, alone: bool) -> Iterator[None]:

@@ -6,18 +6,15 @@ cost at least. Some allocations give prices; then the program that is raised by 
 is a further allocation, or a certificate shows that it has none, and the prices cover every group. Floating point proposes,
 whole numbers decide, and `wdp verify` is the judge of what comes of it.
 """
-from __future__ import annotations
-
 import argparse
 import math
 import re
 from collections.abc import Callable, Iterable, Sequence
 from contextlib import AbstractContextManager, nullcontext
-from dataclasses import dataclass
 from fractions import Fraction
 from operator import mul
 from pathlib import Path
-from typing import Any
+from typing import Any, NamedTuple
 
 from wdp import certify, solve
 from wdp.texts import accepted
@@ -38,8 +35,7 @@ Group = frozenset[int]  # winners, by their places in the order of the rules
 Prices = list[int]
 
 
-@dataclass(frozen=True)
-class Weights:
+class Weights(NamedTuple):
     """What shows a least sum: a scale, weights of groups, and of each winner's reserve."""
 
     scale: int
@@ -321,7 +317,6 @@ def parts(
 
 
 def add_words(parser: argparse.ArgumentParser) -> None:
-    """The words of `wdp-office prices`."""
     from wdp import auction
 
     award = "the folder of an auction, or an audit, as `auction` and `results` leave it"

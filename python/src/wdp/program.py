@@ -7,9 +7,8 @@ import signal
 import subprocess
 import tempfile
 import time
-from dataclasses import dataclass
 from collections.abc import Sequence
-from typing import IO
+from typing import IO, Any, NamedTuple
 
 from wdp.texts.refusals import NotFound, Refused, Unclear, WrongWords
 
@@ -51,8 +50,7 @@ def found_program(program: Path | None = None) -> str:
     return os.path.abspath(found)
 
 
-@dataclass(frozen=True)
-class Ran:
+class Ran(NamedTuple):
     """How a program ended: its status, below 0 if a signal ended it, None if its time was over; its output, and the end of
     its messages."""
 
@@ -66,8 +64,7 @@ class Ran:
         return (self.messages.rstrip().splitlines() or [""])[-1].strip()
 
 
-@dataclass(frozen=True)
-class Limits:
+class Limits(NamedTuple):
     """How many bytes an answer may have, how many seconds it may take, and the signal that ends a program beyond them."""
 
     most: int
@@ -94,7 +91,8 @@ def ran(
         with file() as source, file() as printed, file() as said:
             source.write(given)
             source.seek(0)
-            status = status_of(words, limits, folder, source, output or printed, messages or said)
+            streams = {"stdin": source, "stdout": output or printed, "stderr": messages or said}
+            status = status_of(words, limits, streams, folder)
             text = end_of(messages or said, END_OF_MESSAGES).decode("utf-8", "backslashreplace")
             return Ran(status, end_of(printed, limits.most), text)
     except Refused:
@@ -105,47 +103,37 @@ def ran(
 
 
 def status_of(
-    words: Sequence[str],
-    limits: Limits,
-    folder: Path | None,
-    source: IO[bytes],
-    output: IO[bytes],
-    messages: IO[bytes],
+    words: Sequence[str], limits: Limits, streams: dict[str, IO[bytes]], folder: Path | None
 ) -> int | None:
     """Starts a program and waits for its end. Gives its status, None if its time is over; Unclear if it prints too much."""
     try:  # (in a group of its own, so that all of it can be ended)
-        started = subprocess.Popen(
-            words, stdin=source, stdout=output, stderr=messages, cwd=folder, start_new_session=True
-        )
+        how: Any = {**streams, "cwd": folder, "start_new_session": True}
+        started: subprocess.Popen[bytes] = subprocess.Popen(words, **how)
     except (OSError, ValueError) as error:
         why = getattr(error, "strerror", None) or error
         raise NotFound(f"{words[0]} can't be started: {why}") from None
     last = math.inf if limits.seconds is None else time.monotonic() + limits.seconds
     pause = SHORTEST_LOOK
+    most_of_answer = limits.most, f"an answer to this can have, {limits.most} bytes"
+    most_of_messages = MOST_OF_MESSAGES, f"{MOST_OF_MESSAGES} bytes on standard error"
+    mosts = {"stdout": most_of_answer, "stderr": most_of_messages}
     try:
         while True:
             pause = min(pause * 1.25, LONGEST_LOOK)
             with contextlib.suppress(subprocess.TimeoutExpired):
                 started.wait(max(min(pause, last - time.monotonic()), 0))
-            if os.fstat(output.fileno()).st_size > limits.most:
-                most = f"an answer to this can have, {limits.most} bytes"
-                raise Unclear(f"{words[0]} prints more than {most}")
-            if os.fstat(messages.fileno()).st_size > MOST_OF_MESSAGES:
-                most = f"{MOST_OF_MESSAGES} bytes on standard error"
-                raise Unclear(f"{words[0]} prints more than {most}")
+            for name, (most, what) in mosts.items():
+                if os.fstat(streams[name].fileno()).st_size > most:
+                    raise Unclear(f"{words[0]} prints more than {what}")
             if started.returncode is not None or time.monotonic() >= last:
                 return started.returncode
     finally:
-        end(started, limits.ending)
-
-
-def end(started: subprocess.Popen[bytes], ending: int) -> None:
-    """Ends a program and its group, unless its end was seen: its number may then be another one's."""
-    for number in (ending, signal.SIGKILL):
-        if started.returncode is None:
-            os.killpg(started.pid, number)
-            with contextlib.suppress(subprocess.TimeoutExpired):
-                started.wait(PATIENCE)
+        # (once its end was seen, its number may be another one's)
+        for number in (limits.ending, signal.SIGKILL):
+            if started.returncode is None:
+                os.killpg(started.pid, number)
+                with contextlib.suppress(subprocess.TimeoutExpired):
+                    started.wait(PATIENCE)
 
 
 def end_of(file: IO[bytes], most: int) -> bytes:
@@ -159,19 +147,18 @@ def answer(
 ) -> bytes:
     """What the program prints, if it ends with status 0; else a Refused that says why."""
     ended = ran([program, *words], given, limits, output)
-    line = ended.last_line
-    if ended.status is None:
+    status, line = ended.status, ended.last_line
+    if status is None:
         raise Unclear(f"{program} gave no answer in {limits.seconds:g} s, and was ended")
-    if ended.status < 0:
-        raise Unclear(f"{program} was ended by signal {signal_named(-ended.status)}")
-    if ended.status and not line:
-        raise Unclear(f"{program} ended with status {ended.status} and said nothing")
-    if ended.status == 2:  # (a blank line ends what is wrong with the words)
+    if status < 0:
+        raise Unclear(f"{program} was ended by signal {signal_named(-status)}")
+    if status == 2:  # (a blank line ends what is wrong with the words)
         line = " ".join(ended.messages.strip().split("\n\n")[0].split())
-    if ended.status in REFUSALS:
-        raise REFUSALS[ended.status](line)
-    if ended.status:
-        raise Unclear(f"{program} ended with status {ended.status}: {line}")
+    if line and status in REFUSALS:
+        raise REFUSALS[status](line)
+    if status:
+        said = f": {line}" if line else " and said nothing"
+        raise Unclear(f"{program} ended with status {status}{said}")
     return ended.output
 
 

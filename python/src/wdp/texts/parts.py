@@ -4,7 +4,7 @@ from collections.abc import Iterable, Iterator
 from itertools import chain, pairwise
 from typing import NamedTuple
 
-from wdp.texts.tables import BYTE_ORDER_MARK, Records, Row, decoded
+from wdp.texts.tables import BYTE_ORDER_MARK, Records, Row, decoded, lines
 
 HEAD = re.compile(rb"^%([^\n]*?)\r?(?:\n|\Z)", re.MULTILINE)
 LINE_END = re.compile(rb"\r\n|\r|\n")  # as records count lines
@@ -51,12 +51,6 @@ def parts_of(data: bytes) -> Iterator[Part]:
 def names_in(rules: Iterable[Row], kind: str) -> list[str]:
     """The names in the rules' records of a kind, as `category`, in order; nothing else is asked of the records."""
     return [row.values[1] for row in rules if row.values[0] == kind and len(row.values) > 1]
-
-
-def lines(text: str) -> list[str]:
-    """The lines of groups, one carriage return dropped at the end of each."""
-    parted = text.split("\n")
-    return [line.removesuffix("\r") for line in (parted if parted[-1] else parted[:-1])]
 
 
 def group_rows(numbered: Iterable[tuple[int, str]]) -> Iterator[Row]:

@@ -9,7 +9,7 @@ from contextlib import suppress
 from dataclasses import dataclass
 from typing import Any, NamedTuple, TypeGuard
 
-from wdp.texts.parts import names_in
+from wdp.texts.parts import HEAD, names_in
 from wdp.texts.refusals import Refused, WrongWords, escaped, shortened
 from wdp.texts.tables import BYTE_ORDER_MARK, Records, written
 
@@ -68,16 +68,15 @@ def part(head: str, text: Text, number: int | None = None) -> bytes:
     """
     name = head if number is None else f"{head} {number}"
     data = encoded(text, name)
-    at = (b"\n" + data).find(b"\n%")
-    if at >= 0:
-        line = data.count(b"\n", 0, at) + 1
+    if found := HEAD.search(data):
+        line = data.count(b"\n", 0, found.start()) + 1
         why = f"line {line} begins with %, as the head of a part does"
         raise Refused(f"{name}: {why}", head, number)
     return b"%" + head.encode() + b"\n" + ended(data)
 
 
 def ended(data: bytes) -> bytes:
-    """The bytes of a text, whose last line gets its end."""
+    """A text whose last line gets its end."""
     return data if not data or data.endswith(b"\n") else data + b"\n"
 
 
@@ -102,6 +101,11 @@ def is_text(given: object) -> TypeGuard[Text]:
     return isinstance(given, (str, bytes, bytearray))
 
 
+def is_list(given: object) -> bool:
+    """Whether this is an iterable of things in an order."""
+    return isinstance(given, Iterable) and not isinstance(given, (Mapping, set, frozenset))
+
+
 def field(value: Any, where: Where) -> str:
     """A value as a field has it: a text unchanged, a whole number in digits, nothing for a blank value. WrongWords for
     everything else: nothing is rounded.
@@ -113,14 +117,13 @@ def field(value: Any, where: Where) -> str:
         return value
     if is_blank(value):
         return ""
-    is_truth = type(value).__name__.startswith("bool")  # numpy's too
-    with suppress(TypeError, ValueError, ArithmeticError):
-        if hasattr(type(value), "__index__") and not is_truth:
-            return digits(operator.index(value))
-        number = float(value)
-        is_exact = number.is_integer() and number == value and abs(number) < MOST_EXACT
-        if is_exact and not is_truth:
-            return str(int(number))
+    if not type(value).__name__.startswith("bool"):  # numpy's too
+        with suppress(TypeError, ValueError, ArithmeticError):
+            if hasattr(type(value), "__index__"):
+                return digits(operator.index(value))
+            number = float(value)
+            if number.is_integer() and number == value and abs(number) < MOST_EXACT:
+                return str(int(number))
     raise where.wrong(f"{shown(value)} is no whole number")
 
 
@@ -141,10 +144,9 @@ def is_blank(value: Any) -> bool:
 
 def shown(value: Any) -> str:
     """A value as a message shows it."""
-    try:
+    text = f"a value {of_type(value)}"
+    with suppress(Exception):  # whatever a value's own repr raises
         text = repr(value)
-    except Exception:  # whatever a value's own repr raises
-        text = f"a value {of_type(value)}"
     return escaped(shortened(text, 60))
 
 
@@ -171,7 +173,7 @@ def records_in(given: Any, what: str) -> list[Any]:
         # (column by column, so that no value turns into another type by its neighbours)
         columns = [given.iloc[:, place].tolist() for place in range(len(names))]
         return [dict(zip(names, values)) for values in zip(*columns)]
-    if isinstance(given, (Mapping, set, frozenset)) or not isinstance(given, Iterable):
+    if not is_list(given):
         raise WrongWords(f"{what}: a list of records is asked for, and this is {of_type(given)}")
     return list(given)
 
@@ -301,17 +303,16 @@ def groups_text(groups: Any) -> Text:
 
 def group_line(group: Any, where: str) -> str:
     """The line of one group."""
-    if isinstance(group, Mapping):
-        group = group.get("group")
+    group = group.get("group") if isinstance(group, Mapping) else group
     if isinstance(group, str):
         line = group
-    elif isinstance(group, Iterable) and not is_text(group):
+    elif is_text(group) or not isinstance(group, Iterable):
+        raise WrongWords(f"{where}: a line or names of bidders are asked for")
+    else:
         names = list(group)
         if not all(isinstance(name, str) and name.strip("-") and "+" not in name for name in names):
             raise WrongWords(f"{where}: names of bidders are asked for")
         line = "+".join(sorted(names) if isinstance(group, (set, frozenset)) else names) or "-"
-    else:
-        raise WrongWords(f"{where}: a line or names of bidders are asked for")
     if "\r" in line or "\n" in line:
         raise WrongWords(f"{where}: a name has a line break")
     return line + "\n"

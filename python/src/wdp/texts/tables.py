@@ -86,6 +86,12 @@ def field_text(value: str, special: re.Pattern[str] = NEEDS_QUOTES) -> str:
     return '"' + value.replace('"', '""') + '"' if special.search(value) else value
 
 
+def lines(text: str) -> list[str]:
+    """The lines of a text; each is ended by LF, which the last one may lack; one CR before it is dropped."""
+    parted = text.split("\n")
+    return [line.removesuffix("\r") for line in (parted if parted[-1] else parted[:-1])]
+
+
 def digest_of(data: bytes) -> str:
     return hashlib.sha256(data).hexdigest()
 

@@ -1,13 +1,15 @@
 """0-1 programs, read from the profile of free MPS that docs/REFERENCE.md describes under 'Read programs'."""
+import operator
 import re
 from collections.abc import Iterable, Iterator, Set
 from dataclasses import dataclass, field
 from fractions import Fraction
 
 from wdp.texts.refusals import Refused
+from wdp.texts.tables import lines
 
 AT_MOST, AT_LEAST, EQUAL = "L", "G", "E"
-KINDS = (AT_MOST, AT_LEAST, EQUAL)
+MEETS = {AT_MOST: operator.le, AT_LEAST: operator.ge, EQUAL: operator.eq}
 SECTIONS = ("NAME", "OBJSENSE", "ROWS", "COLUMNS", "RHS", "BOUNDS", "ENDATA")
 OBJECTIVE, DROPPED = -1, -2  # places of rows without a right side
 UNBOUNDED = 2  # an upper bound, until the text has one
@@ -25,12 +27,6 @@ class Row:
     name: str
     kind: str
     right_side: int = 0
-
-    def is_met_by(self, total: int) -> bool:
-        """Whether columns that add up to this meet the row."""
-        if self.kind == AT_MOST:
-            return total <= self.right_side
-        return total >= self.right_side if self.kind == AT_LEAST else total == self.right_side
 
 
 @dataclass
@@ -66,19 +62,16 @@ class ZeroOne:
                 return f"the bound of column {column.name} is broken"
         totals = [0] * len(self.rows)
         for place in ones:
-            for row, coefficient in self.columns[place].entries:
-                totals[row] += coefficient
-        broken = (row.name for row, total in zip(self.rows, totals) if not row.is_met_by(total))
-        name = next(broken, None)
-        return None if name is None else f"the row {name} is broken"
+            for at, coefficient in self.columns[place].entries:
+                totals[at] += coefficient
+        for row, total in zip(self.rows, totals):
+            if not MEETS[row.kind](total, row.right_side):
+                return f"the row {row.name} is broken"
+        return None
 
 
 def lines_of(text: bytes) -> list[str]:
-    """The lines of a text; each is ended by LF, which the last one may lack; one CR before it is dropped."""
-    lines = text.decode("latin-1").split("\n")
-    if not lines[-1]:
-        lines.pop()
-    return [line.removesuffix("\r") for line in lines]
+    return lines(text.decode("latin-1"))
 
 
 def fields_of(line: str) -> list[str]:
@@ -186,7 +179,7 @@ class Reader:
             is_first = OBJECTIVE not in self.row_places.values()
             self.row_places[name] = OBJECTIVE if is_first else DROPPED
             return
-        expect(kind in KINDS, f"the type {kind} of a row isn't known")
+        expect(kind in MEETS, f"the type {kind} of a row isn't known")
         self.row_places[name] = len(self.rows)
         self.rows.append(Row(name, kind))
 
@@ -206,12 +199,11 @@ class Reader:
             self.column_places[name] = len(self.columns)
             self.whole |= {len(self.columns)} if self.is_marked else set()
             self.columns.append(Column(name, upper=UNBOUNDED))
-        column = self.columns[-1]
         for row, number in self.numbers(entries, f"the entry of {name} in"):
             if row == OBJECTIVE:
-                column.cost = number
+                self.columns[-1].cost = number
             elif row >= 0 and number:
-                column.entries.append((row, number))
+                self.columns[-1].entries.append((row, number))
 
     def take_right_sides(self, words: list[str]) -> None:
         expect(2 <= len(words) <= 5, "right sides have two to five fields")
@@ -223,10 +215,8 @@ class Reader:
     def numbers(self, words: list[str], what: str) -> Iterator[tuple[int, int]]:
         """The rows that words name, by their places, each with the number that follows; none may be there twice."""
         for name, token in zip(words[::2], words[1::2]):
-            if name not in self.row_places:
-                raise ValueError(f"the row {name} isn't known")
-            if name in self.seen:
-                raise ValueError(f"{what} {name} is there twice")
+            expect(name in self.row_places, f"the row {name} isn't known")
+            expect(name not in self.seen, f"{what} {name} is there twice")
             self.seen.add(name)
             yield self.row_places[name], whole_number(token)
 
@@ -237,15 +227,15 @@ class Reader:
         expect(least <= len(words) <= 3, "a bound has a wrong number of fields")
         name = words[1 if len(words) > least else 0]
         expect(name in self.column_places, f"the column {name} isn't known")
-        place = self.column_places[name]
+        column = self.columns[self.column_places[name]]
         number = whole_number(words[-1]) if kind != "BV" else 1
         expect(number in (0, 1), "a bound is neither 0 nor 1")
-        column = self.columns[place]
-        if kind != "UP":
-            column.lower = 0 if kind == "BV" else number
-        if kind != "LO":
-            column.upper = number
-        self.whole |= {place} if kind == "BV" else set()
+        if kind == "BV":
+            column.lower = 0
+            self.whole.add(self.column_places[name])
+        elif kind != "UP":
+            column.lower = number
+        column.upper = column.upper if kind == "LO" else number
 
     def program(self) -> ZeroOne:
         for place, column in enumerate(self.columns):
