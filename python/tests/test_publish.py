@@ -14,7 +14,7 @@ import jsonschema
 import pytest
 from commands import content, output, rows, run, small_files, stopped, without
 
-from wdp.publish.tables import cell_text
+from wdp.publish.results import cell_text
 
 NAMES = ["worked", "worked_pool", "spectrum", "unsold_values", "spectrum_cap", "twelve_bands"]
 FILES = ["bidders.csv", "categories.csv", "groups.csv", "pools.csv", "results.html", "results.json"]

@@ -20,11 +20,10 @@ from typing import Any
 
 from wdp import certify, files, prices, solve, steps
 from wdp.folder import INPUT, Folder
+from wdp.office.choices import checked
 from wdp.office.faults import counted
 from wdp.program import Limits, answer, found_program
 from wdp.publish import command as publishing
-from wdp.publish.results import proved_of_prices
-from wdp.publish.tables import prices as prices_table
 from wdp.texts import accepted, answers
 from wdp.texts.parts import groups_in, parts_of, with_groups
 from wdp.texts.refusals import NotSolved, Refused, WrongWords, need
@@ -263,9 +262,9 @@ class Run(Folder):
         if self.page is not None:
             publishing.publish(results, shown, str(self.path(RESULTS)))
         if results["prices"]:
-            for line in prices_table(results).text().splitlines():
+            for line in results.prices_table().text().splitlines():
                 self.shows(line)
-            say(f"proved: {proved_of_prices(results)}")
+            say(f"proved: {results.proved_of_prices()}")
 
     def is_done(self, group: int) -> bool:
         """Whether a group's step is done, as far as that is asked for; Refused if a file isn't what the step left."""
@@ -421,7 +420,8 @@ class Run(Folder):
 def add_shared_words(parser: argparse.ArgumentParser) -> None:
     """The words that `auction` and `prices` have in common."""
     solve.add_solver_words(parser)
-    add, jobs = parser.add_argument, solve.whole("number of jobs, 1 to 1000,", 1000)
+    jobs = checked("number of jobs, 1 to 1000,", int, lambda n: 1 <= n <= 1000)
+    add = parser.add_argument
     how = "so many groups at a time; as many as there are processors where it is left out"
     processors = len(os.sched_getaffinity(0))
     add("--jobs", type=jobs, default=processors, metavar="N", help=how)

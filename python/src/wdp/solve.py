@@ -11,10 +11,10 @@ import shutil
 import signal
 import sys
 import tempfile
-from collections.abc import Callable
 from pathlib import Path
 
 from wdp import files, guard
+from wdp.office.choices import checked
 from wdp.program import Limits, ran, signal_named
 from wdp.texts.mps import matrix_of
 from wdp.texts.refusals import NotFound, NotSolved, Refused, WrongWords, need
@@ -176,19 +176,7 @@ def by_highs(program: ZeroOne, seconds: int | None) -> set[int]:
     return {place for place, value in enumerate(found.x) if value > 0.5}
 
 
-def whole(what: str, most: int) -> Callable[[str], int]:
-    """Reads a number among the words of a command, from 1."""
-
-    def read(word: str) -> int:
-        if not 1 <= int(word) <= most:
-            raise ValueError
-        return int(word)
-
-    read.__name__ = what
-    return read
-
-
-SECONDS = whole("number of seconds, 1 at least,", 10**8 - 1)
+SECONDS = checked("number of seconds, 1 at least,", int, lambda n: 1 <= n < 10**8)
 
 
 def add_solver_words(parser: argparse.ArgumentParser) -> None:
@@ -205,7 +193,6 @@ def add_solver_words(parser: argparse.ArgumentParser) -> None:
 
 
 def add_words(parser: argparse.ArgumentParser) -> None:
-    """The words of `wdp-office solve`."""
     add_solver_words(parser)
     log = "what the solver prints goes there while it runs"
     parser.add_argument("--log", type=Path, metavar="FILE", help=log)

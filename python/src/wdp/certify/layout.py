@@ -63,9 +63,8 @@ class Layout:
         """The coefficients in the shared rows."""
         columns, size = self.program.columns, f"{self.count} times {len(self.shared)}"
         if self.count * len(self.shared) > LARGEST_TABLE:
-            raise Refused(
-                f"the program has too many columns and rows that several blocks share: {size}"
-            )
+            what = "too many columns and rows that several blocks share"
+            raise Refused(f"the program has {what}: {size}")
         tabled: dict[int, list[tuple[int, int]]] = {row: [] for row, _ in self.shared}
         for at, (row, sign) in enumerate(self.shared):
             tabled[row].append((at, sign))

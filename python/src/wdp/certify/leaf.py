@@ -3,8 +3,6 @@
 Given prices, the best multiplier of each block follows: the least of its priced costs. So a bound needs only prices,
 however they were found, and is exact in whole numbers.
 """
-from __future__ import annotations
-
 from collections import Counter
 from dataclasses import dataclass, field
 from itertools import chain
@@ -34,13 +32,13 @@ class Node:
     path: tuple[Cut, ...] = ()
     forced: dict[int, int] = field(default_factory=dict)
 
-    def without(self, places: Array) -> Node:
+    def without(self, places: Array) -> "Node":
         """The side on which none of these columns is 1."""
         allowed = self.allowed.copy()
         allowed[places] = False
         return Node(allowed, self.path + (Cut(places, False),), self.forced)
 
-    def within(self, places: Array, block: int, members: Array) -> Node:
+    def within(self, places: Array, block: int, members: Array) -> "Node":
         """The side on which one of these columns is 1; they are of one block, which has these members."""
         allowed = self.allowed.copy()
         allowed[members] = False
@@ -48,7 +46,7 @@ class Node:
         forced = {**self.forced, block: len(self.path)}
         return Node(allowed, self.path + (Cut(places, True),), forced)
 
-    def beyond(self, places: Array) -> Node:
+    def beyond(self, places: Array) -> "Node":
         """The side on which one of these columns is 1, whatever their blocks."""
         return Node(self.allowed, self.path + (Cut(places, True),), self.forced)
 
@@ -72,9 +70,8 @@ class Bound:
         """How much more the bound would be with a column at 1; for the allowed columns."""
         if not self.parts:
             return self.priced
-        parts: Array = np.array(self.parts, self.priced.dtype)[self.layout.block_of]
-        reduced: Array = self.priced - parts
-        return reduced
+        parts = np.array(self.parts, self.priced.dtype)
+        return np.subtract(self.priced, parts[self.layout.block_of])
 
     def cheapest(self) -> set[int]:
         """The allowed columns that the blocks choose at these prices; a point if the shared rows are met."""

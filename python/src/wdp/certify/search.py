@@ -66,15 +66,13 @@ class Search:
         ones: set[int],
         seconds: float | None = None,
         say: Say = lambda text: None,
-        lines: int | None = None,
+        lines: float = math.inf,
     ) -> None:
-        self.layout, self.program = layout, layout.program
+        self.layout, self.program, self.say = layout, layout.program, say
         self.ones, self.least = ones, layout.program.objective(ones)
         self.begun = self.last_said = time.monotonic()
-        self.seconds = math.inf if seconds is None else seconds
-        self.most_lines = math.inf if lines is None else lines
+        self.seconds, self.most_lines = math.inf if seconds is None else seconds, lines
         self.is_from_nothing = ones <= layout.fixed_ones
-        self.say = say
         self.root_value: int | None = None
         self.at_root: Relaxation | None = None
         self.lines: list[str] = []
@@ -99,7 +97,6 @@ class Search:
             self.say("the search begins again")
 
     def elapsed(self) -> float:
-        """The seconds since the search began."""
         return time.monotonic() - self.begun
 
     def seconds_left(self) -> float:
@@ -142,7 +139,7 @@ class Search:
             if bound.is_above(self.least):
                 return self.write(Leaf(bound))
             if scale * (self.least - 1) - bound.value > self.layout.rounding:
-                return False
+                break
         return False
 
     def is_empty(self, node: Node) -> bool:
@@ -207,7 +204,7 @@ class Search:
             left = np.where((values > POSITIVE) & (values < 1 - POSITIVE), values, 0)
             is_late = self.elapsed() >= self.seconds
             if not left.any() or relaxation.overstep() > POSITIVE or is_late:
-                return False
+                break
             place = relaxation.core[left.argmax()]
             block = int(self.layout.block_of[place])
             node = node.within(np.array([place]), block, self.layout.members[block])
@@ -215,7 +212,7 @@ class Search:
             limit = relaxation.units(self.least - 1)
             reached = relaxation.solve(limit=limit, seconds=self.seconds_left())
             if reached is None or reached > limit:
-                return False
+                break
         return False
 
     def fix(self, bound: Bound, part: float) -> Node:
@@ -239,15 +236,13 @@ class Search:
         limit = relaxation.units(self.least - 1)
         stop = limit + abs(limit) * 1e-4 + 1e-6
         reached = relaxation.solve(limit=stop, seconds=self.seconds_left())
-        if self.show(node, relaxation.prices):
-            return
-        if reached is not None and reached > limit:
+        is_shown = self.show(node, relaxation.prices)
+        if not is_shown and reached is not None and reached > limit:
             reached = relaxation.solve()
-            if self.show(node, relaxation.prices):
-                return
-        if reached is None or self.is_empty(node):
+            is_shown = self.show(node, relaxation.prices)
+        if not is_shown and (reached is None or self.is_empty(node)):
             self.settle_or_halve(node, relaxation)
-        else:
+        elif not is_shown:
             self.part(task, reached)
 
     def part(self, task: Visit, reached: float | None) -> None:
@@ -272,21 +267,18 @@ class Search:
             return
         trial = Trial(relaxation, basis, reached, relaxation.units(self.least - 1), STEPS)
         split = strongest(layout, node, splits[:CANDIDATES], trial)
-        self.split(node, relaxation, basis, split)
+        self.split(Visit(node, relaxation, basis), split)
 
-    def split(
-        self, node: Node, relaxation: Relaxation, basis: list[int] | None, split: Split
-    ) -> None:
-        """Splits a node."""
+    def split(self, task: Visit, split: Split) -> None:
         self.lines.append("split 0 " + " ".join(self.layout.names[split.places]))
-        low, high = sides(self.layout, node, split)
-        self.tasks += [Visit(high, relaxation, basis), Visit(low, relaxation, basis)]
+        low, high = sides(self.layout, task.node, split)
+        self.tasks += [task._replace(node=high), task._replace(node=low)]
 
     def settle_or_halve(self, node: Node, relaxation: Relaxation) -> None:
         """Without the help of a relaxation: tests the one point that is left, or splits a block."""
         split = None if self.is_empty(node) else halving(self.layout, node)
         if split is not None:
-            self.split(node, relaxation, relaxation.basis(), split)
+            self.split(Visit(node, relaxation, relaxation.basis()), split)
         elif not (self.write_empty(node) if self.is_empty(node) else self.show_settled(node)):
             raise Refused("the numbers of this program are too large for a certificate")
 
@@ -313,7 +305,6 @@ class Search:
         return True
 
     def found(self, gain: int) -> None:
-        """Reports a better point."""
         self.say(f"a better point: {self.least}, by {gain}, {self.elapsed():.1f} s")
 
 

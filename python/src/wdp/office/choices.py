@@ -1,8 +1,11 @@
 """What an office says of its files beside their paths; the same words for gather and explain."""
 import argparse
-from collections.abc import Sequence
+from collections.abc import Callable, Sequence
 from dataclasses import dataclass, fields
 from functools import partial
+from typing import TypeVar
+
+Value = TypeVar("Value")
 
 
 @dataclass(frozen=True)
@@ -16,6 +19,21 @@ class Choices:
     allow_unended: Sequence[str] = ()
     expect: str | None = None
     sheet: str | None = None
+
+
+def checked(
+    what: str, read: Callable[[str], Value], is_right: Callable[[Value], bool]
+) -> Callable[[str], Value]:
+    """Reads a word as a value that has to be right; a message calls it `what`."""
+
+    def of_word(word: str) -> Value:
+        value = read(word)
+        if not is_right(value):
+            raise ValueError
+        return value
+
+    of_word.__name__ = what
+    return of_word
 
 
 def names(text: str) -> list[str]:

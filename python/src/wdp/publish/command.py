@@ -22,8 +22,7 @@ from wdp.office.judge import explained
 from wdp.office.places import MOST_OF_AN_INPUT
 from wdp.office.sheets import fault_of_pair, pairs_of
 from wdp.program import Limits, answer, found_program
-from wdp.publish.results import Figures, certified_words, results_of
-from wdp.publish.tables import files_of, page_of, plain_text
+from wdp.publish.results import Figures, Results, results_of
 from wdp.results import Report, Tie
 from wdp.texts import accepted
 from wdp.texts.accepted import Accepted, Rules
@@ -44,14 +43,11 @@ SOURCES = ("the input", "the report", "the audit")
 def line(longest: int) -> Callable[[str], str]:
     """Reads a word as a text for the page: printable UTF-8."""
 
-    def read_line(word: str) -> str:
-        word.encode()
-        if not 1 <= len(word.strip()) <= longest or not word.isprintable():
-            raise ValueError
-        return word.strip()
+    def is_right(text: str) -> bool:
+        return bool(text.encode()) and len(text) <= longest and text.isprintable()
 
-    read_line.__name__ = f"text of 1 to {longest} printable characters in UTF-8"
-    return read_line
+    what = f"text of 1 to {longest} printable characters in UTF-8"
+    return choices.checked(what, lambda word: word.strip(" "), is_right)
 
 
 def add_words(parser: argparse.ArgumentParser) -> None:
@@ -191,7 +187,7 @@ def results_from(
     heading: Figures,
     is_drawn: bool = False,
     sources: tuple[str, str, str] = SOURCES,
-) -> tuple[Figures, bytes | None]:
+) -> tuple[Results, bytes | None]:
     """The figures of an input and its report, and the audit that is published with them. `heading` has the page's title and
     currency, and the names that the office gives by their codes."""
     if is_drawn and audit is None:
@@ -233,9 +229,9 @@ def results_from(
     return results_of(auction, reports[0], other, heading, about), audit
 
 
-def publish(results: Figures, audit: bytes | None, folder: str) -> dict[str, bytes]:
+def publish(results: Results, audit: bytes | None, folder: str) -> dict[str, bytes]:
     """Writes the files, once all of them are made."""
-    files = {**files_of(results), PAGE: page_of(results)}
+    files = {**results.files(), PAGE: results.page()}
     if audit is not None:
         files[AUDIT] = audit
     write_folder(folder, files, FILES)
@@ -256,7 +252,7 @@ def run(given: argparse.Namespace) -> int:
         files = publish(results, audit, given.output)
         tell(f"results: {len(files)} files in {given.output}\n")
     if given.text:
-        put(plain_text(results).encode())
+        put(results.plain_text().encode())
     elif not results["certified"]:
-        tell(f"results: {certified_words(results)}\n")
+        tell(f"results: {results.sentences()['certified']}\n")
     return 0
