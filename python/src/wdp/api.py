@@ -93,8 +93,7 @@ class Auction:
 
         Of several forms of a bidder the last one counts. Raises NotFound if a file isn't there, and Refused if it can't be
         read, or if its last line has no end, as in a file that was cut off: `allow_unended` says that such files are
-        complete. Raises what Auction(..) does.
-        """
+        complete. Raises what Auction(..) does."""
         paths = [forms] if isinstance(forms, (str, bytes, os.PathLike)) else listed(forms, "forms")
         return cls(
             rules=content(rules, allow_unended, "rules"),
@@ -119,8 +118,7 @@ class Auction:
         weights: Text | None = None,
     ) -> bytes:
         """The input followed by these parts, as the program reads it: with certificates it is an audit, which `wdp verify`
-        judges anywhere. Raises WrongWords or Refused if a text would be more than its part.
-        """
+        judges anywhere. Raises WrongWords or Refused if a text would be more than its part."""
         shown = listed(certificates, "certificates")
         parts = [records.part("solution", x, n) for n, x in enumerate(solution_texts(solutions), 1)]
         parts += [records.part("certificate", text, n) for n, text in enumerate(shown, 1)]
@@ -157,8 +155,7 @@ class Auction:
 
     def explain(self, bids: bool = False) -> Explained:
         """Everything that is wrong with the input: each finding has the refusal, the field and the cause. With `bids`, if
-        nothing is wrong, the bids that are in no program, each with the bidder's name and why.
-        """
+        nothing is wrong, the bids that are in no program, each with the bidder's name and why."""
         return explained(self._program, self._given, bids)
 
     def compile(self, workers: int = 1) -> list[Program]:
@@ -226,8 +223,7 @@ class Auction:
         to what each winner costs alone. Its report has them, and after the groups of the auction those that show them: each
         winner alone, and what binds the sum. `time_limit` is in whole seconds, for each solver's run and each certificate.
 
-        Raises what `solve` and `certify` do.
-        """
+        Raises what `solve` and `certify` do."""
         name, seconds = checked_solver(solver), whole_seconds(time_limit)
         given = zip(certified.solutions, certified.certificates)
         found = [Found(text.encode(), shown.encode(), 0) for text, shown in given]
@@ -292,8 +288,7 @@ class Auction:
 
     def check(self, mps_text: Text | Program) -> Counts:
         """How many rows, columns and entries a 0-1 program in MPS has, whoever wrote it. Raises Refused if the text isn't of
-        the profile that docs/REFERENCE.md describes.
-        """
+        the profile that docs/REFERENCE.md describes."""
         text = mps_text.text if isinstance(mps_text, Program) else mps_text
         return answers.read_counts(self._answer(["check"], records.encoded(text, "program")))
 

@@ -43,8 +43,7 @@ def at(path: str) -> Iterator[None]:
 def read(path: str, most: int, regular: bool = False) -> bytes:
     """The bytes of a file, at most that many; `-` is standard input.
 
-    With `regular` nothing but a regular file is read, else pipes are too. Raises Unreadable.
-    """
+    With `regular` nothing but a regular file is read, else pipes are too. Raises Unreadable."""
     with at(path):
         if path == "-" and not regular:
             if sys.stdin is None:

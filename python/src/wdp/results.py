@@ -97,8 +97,7 @@ class Report(Table):
     each total is the greatest one: without them it is the solver's word.
 
     `uniqueness` is what is proved of group 1: 'unasked', 'only' if no other allocation has so great a total, or a Tie.
-    `prices` are those that the input gave, if it did.
-    """
+    `prices` are those that the input gave, if it did."""
 
     groups: tuple[Group, ...]
     is_certified: bool = False
