@@ -240,10 +240,10 @@ class Auction:
                 found.append(certify.certified(program.text.encode(), begin, seconds))
             more = []
             if not parts:
-                award = pricing.Award(self._given, programs[0].text.encode(), found[0].solution)
-                for each, names in zip(found, listed):
-                    award.learn(each.solution, names)
-                more, parts = pricing.parts(award, listed, pricing.found(award, name, seconds))
+                points = [each.solution for each in found]
+                program_text = programs[0].text.encode()
+                award = pricing.Award(self._given, program_text, points, listed)
+                more, parts = award.priced(name, seconds)
         return grown._certified(found, name, (certified.unique, certified.tie), parts)
 
     def report(self, solutions: Iterable[Any], workers: int = 1) -> Report:

@@ -203,15 +203,12 @@ class Run(Folder):
     def price(self) -> None:
         """What the winners pay, with what shows it, and the groups that are added for it."""
         names = {**self.names(), **self.added()}
-        solutions = {group: self.read(of_group("solution", group)) for group in names}
-        award = prices.Award(self.read(INPUT), self.read(of_group("program", 1)), solutions[1])
-        for group, solution in solutions.items():
-            award.learn(solution, names[group])
-        log = self.log_of("prices")
-        priced = prices.found(award, self.solver, self.seconds, steps.ended_at_once, log)
-        with steps.ended_at_once():
-            listed, parts = prices.parts(award, list(names.values()), priced)
-        added = list(names.values())[len(self.names()) :] + listed
+        solutions, listed = [self.read(of_group("solution", k)) for k in names], [*names.values()]
+        program = self.read(of_group("program", 1))
+        award = prices.Award(self.read(INPUT), program, solutions, listed)
+        how = self.solver, self.seconds, steps.ended_at_once, self.log_of("prices")
+        more, parts = award.priced(*how)
+        added = listed[len(self.names()) :] + more
         self.leave(PRICES, parts + part("groups", "".join(f"{name}\n" for name in added).encode()))
 
     def report(self) -> None:

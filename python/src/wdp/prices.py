@@ -33,6 +33,7 @@ TRIES = 50  # of a solver that rounds
 
 Group = frozenset[int]  # winners, by their places in the order of the rules
 Prices = list[int]
+AtOnce = Callable[[], AbstractContextManager[None]]
 
 
 class Weights(NamedTuple):
@@ -44,13 +45,16 @@ class Weights(NamedTuple):
 
 
 class Award:
-    """The award of group 1: what its winners bid, and what groups of them are known to cost at least."""
+    """The award of group 1: what its winners bid, and what groups of them are known to cost at least, from the input, the first
+    program, and each group's solution with the names that it leaves out."""
 
-    def __init__(self, data: bytes, program: bytes, solution: bytes) -> None:
+    def __init__(
+        self, data: bytes, program: bytes, solutions: Sequence[bytes], listed: Sequence[str]
+    ) -> None:
         auction = accepted.read(data, "the input")
-        self.text, self.solution = program, solution
+        self.text, self.solution, self.listed = program, solutions[0], listed
         self.program = read_program(program, "program 1")
-        ones = read_solution(solution, self.program, "solution 1")
+        ones = read_solution(self.solution, self.program, "solution 1")
         self.total = -self.program.objective(ones)
         named = [BID.fullmatch(column.name) for column in self.program.columns]
         won = [tuple(map(int, found.groups())) for at in sorted(ones) if (found := named[at])]
@@ -63,6 +67,8 @@ class Award:
         # the places of winners by their numbers in the rules, and of each column's bidder
         self.places = {bidder: at for at, (bidder, _) in enumerate(won)}
         self.holders = [self.places.get(int(found[1])) if found else None for found in named]
+        for solution, names in zip(solutions, listed):
+            self.learn(solution, names)
 
     def named(self, group: Group) -> str:
         return "+".join(self.names[at] for at in sorted(group))
@@ -196,6 +202,52 @@ class Award:
             return None
         return Weights(scale, {g: y for g, y in zip(groups, whole) if y}, whole[len(groups) :])
 
+    def found(
+        self, solver: str, seconds: int | None, at_once: AtOnce, log: Path | None
+    ) -> tuple[Prices, bytes]:
+        """Prices, and the certificate that they cover every group. The solver looks for allocations that show what further groups
+        cost, and the certificate is the judge."""
+        while True:
+            with at_once():
+                prices = self.nearest()
+            raised = self.raised(prices)
+            try:
+                self.learn(solve.point_of(raised, solver, seconds, log))
+            except NotSolved as failed:
+                if failed.status != solve.TIME_OUT:
+                    raise
+            if not self.covers(prices):
+                continue
+            with at_once():
+                cover = certify.certified(raised, self.solution, seconds)
+            self.learn(cover.solution)
+            if self.covers(prices):
+                return prices, cover.certificate
+
+    def priced(
+        self,
+        solver: str,
+        seconds: int | None = None,
+        at_once: AtOnce = nullcontext,
+        log: Path | None = None,
+    ) -> tuple[list[str], bytes]:
+        """The groups to be added to those that are listed, and the parts of an audit; without `%weights` it isn't shown that the
+        sum is the least. Within `at_once` nothing is begun that would have to be put away."""
+        prices, cover = self.found(solver, seconds, at_once, log)
+        with at_once():
+            weights = self.weights(sum(prices))
+        text = "%prices\n" + "".join(f"{n} {p}\n" for n, p in zip(self.names, prices))
+        text += "%cover\n" + cover.decode()
+        shown = [self.named(group) for group in weights.groups] if weights else []
+        listed = list(dict.fromkeys([*self.listed, *shown]))
+        if not weights or len(listed) > MOST_GROUPS:
+            return [], text.encode()
+        given = {str(listed.index(k) + 1): n for k, n in zip(shown, weights.groups.values())}
+        given.update(zip(self.names, weights.reserves))
+        text += f"%weights\n{weights.scale}\n"
+        text += "".join(f"{k} {n}\n" for k, n in given.items() if n)
+        return listed[len(self.listed) :], text.encode()
+
 
 class Moves:
     """Whole moves, of some pounds each, away from prices to others that meet the bounds, which a solver is asked for. `pull` has what
@@ -266,54 +318,6 @@ def winners_in(data: bytes, solution: bytes) -> list[str]:
     """The names of those who win in a solution of group 1."""
     rules = accepted.read(data, "the input").rules
     return [rules.bidders[int(n) - 1] for n in re.findall(rb"(?m)^X([0-9]+)_", solution)]
-
-
-def found(
-    award: Award,
-    solver: str,
-    seconds: int | None = None,
-    at_once: Callable[[], AbstractContextManager[None]] = nullcontext,
-    log: Path | None = None,
-) -> tuple[Prices, bytes]:
-    """Prices, and the certificate that they cover every group. The solver looks for allocations that show what further groups
-    cost, and the certificate is the judge. Within `at_once` nothing is begun that would have to be put away.
-    """
-    while True:
-        with at_once():
-            prices = award.nearest()
-        raised = award.raised(prices)
-        try:
-            award.learn(solve.point_of(raised, solver, seconds, log))
-        except NotSolved as failed:
-            if failed.status != solve.TIME_OUT:
-                raise
-        if not award.covers(prices):
-            continue
-        with at_once():
-            cover = certify.certified(raised, award.solution, seconds)
-        award.learn(cover.solution)
-        if award.covers(prices):
-            return prices, cover.certificate
-
-
-def parts(
-    award: Award, names: Sequence[str], priced: tuple[Prices, bytes]
-) -> tuple[list[str], bytes]:
-    """The groups to be added to these, and the parts of an audit; without `%weights` it isn't shown that the sum is the least."""
-    prices, cover = priced
-    weights = award.weights(sum(prices))
-    listed = [*names, *(award.named(g) for g in (weights.groups if weights else ()))]
-    listed = list(dict.fromkeys(listed))
-    text = "%prices\n" + "".join(f"{n} {p}\n" for n, p in zip(award.names, prices))
-    text += "%cover\n" + cover.decode()
-    if weights and len(listed) <= MOST_GROUPS:
-        given = {str(listed.index(award.named(g)) + 1): n for g, n in weights.groups.items()}
-        given.update(zip(award.names, weights.reserves))
-        text += f"%weights\n{weights.scale}\n" + "".join(
-            f"{k} {n}\n" for k, n in given.items() if n
-        )
-        return listed[len(names) :], text.encode()
-    return [], text.encode()
 
 
 def add_words(parser: argparse.ArgumentParser) -> None:
