@@ -59,7 +59,6 @@ def of_group(kind: str, group: int) -> str:
 
 
 def part(head: str, *texts: bytes) -> bytes:
-    """Texts as parts of an input."""
     return b"".join(b"%" + head.encode() + b"\n" + text for text in texts)
 
 
@@ -159,7 +158,6 @@ class Run(Folder):
             self.leave(NAMES, "".join(name + "\n" for name in names).encode())
 
     def log_of(self, name: int | str) -> Path:
-        """Where what a solver prints goes."""
         log = self.path(f"logs/{name}.txt").absolute()
         log.parent.mkdir(exist_ok=True)
         return log
@@ -456,7 +454,6 @@ def run_of(given: argparse.Namespace, folder: Path | None, **more: Any) -> Run:
 
 
 def run(given: argparse.Namespace) -> int:
-    """Runs an auction, or one step of it."""
     if given.ties and given.no_certify:
         raise WrongWords("--ties needs certificates, and --no-certify goes without")
     own = run_of(
@@ -480,7 +477,6 @@ def run(given: argparse.Namespace) -> int:
 
 
 def run_prices(given: argparse.Namespace) -> int:
-    """Finds what the winners of an award pay."""
     folder = given.award if given.award.is_dir() else None
     page = {"title": None, "currency": None} if folder else None
     own = run_of(given, folder, page=page, shows=lambda line: files.put(f"{line}\n".encode()))

@@ -125,7 +125,6 @@ def write_folder(
 
 
 def put(data: bytes) -> None:
-    """Writes standard output, all of it."""
     if sys.stdout is None:
         raise Unreadable("standard output", "it is closed")
     with at("standard output"):
@@ -149,5 +148,4 @@ def tell(text: str) -> None:
 
 
 def say(tool: str, text: str) -> None:
-    """Prints what a tool says, as one line on standard error."""
     tell(escaped(f"{tool}: {text}") + "\n")

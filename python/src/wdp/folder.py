@@ -30,7 +30,6 @@ class Folder:
         return self.path(f"sums/{name}.sha256")
 
     def has(self, name: str) -> bool:
-        """Whether a step has left this."""
         return os.path.lexists(self.path(name)) and os.path.lexists(self.sum_path(name))
 
     def read(self, name: str) -> bytes:
@@ -98,5 +97,4 @@ class Folder:
 
 
 def sum_line(name: str, data: bytes) -> bytes:
-    """A sum as sha256sum prints it."""
     return f"{hashlib.sha256(data).hexdigest()}  {name}\n".encode()

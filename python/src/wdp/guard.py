@@ -93,7 +93,6 @@ def end_all() -> bool:
 
 
 def main(parent: int, most: int, words: "list[str]") -> int:
-    """Runs a program to its end."""
     signal.pthread_sigmask(signal.SIG_BLOCK, ENDINGS | {signal.SIGCHLD})
     prctl(PR_SET_PDEATHSIG, signal.SIGTERM)
     prctl(PR_SET_CHILD_SUBREAPER, 1)

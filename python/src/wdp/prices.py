@@ -93,7 +93,6 @@ class Award:
         return sum((price - cost) ** 2 for price, cost in zip(prices, self.alone()))
 
     def alone(self) -> Prices:
-        """What each winner costs the others alone."""
         return [self.costs[frozenset([at])] for at in range(len(self.names))]
 
     def raised(self, prices: Prices) -> bytes:
@@ -315,7 +314,6 @@ def sum_of(prices: Prices, group: Iterable[int]) -> int:
 
 
 def winners_in(data: bytes, solution: bytes) -> list[str]:
-    """The names of those who win in a solution of group 1."""
     rules = accepted.read(data, "the input").rules
     return [rules.bidders[int(n) - 1] for n in re.findall(rb"(?m)^X([0-9]+)_", solution)]
 
@@ -331,7 +329,6 @@ def add_words(parser: argparse.ArgumentParser) -> None:
 
 
 def run(given: argparse.Namespace) -> int:
-    """Finds what the winners of an award pay."""
     from wdp import auction
 
     return auction.run_prices(given)

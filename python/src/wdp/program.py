@@ -137,7 +137,6 @@ def status_of(
 
 
 def end_of(file: IO[bytes], most: int) -> bytes:
-    """The last bytes of a file, at most that many."""
     file.seek(max(file.seek(0, os.SEEK_END) - most, 0))
     return file.read(most)
 
@@ -163,6 +162,5 @@ def answer(
 
 
 def signal_named(number: int) -> str:
-    """A signal's number and, if it has one, its name."""
     names = {each.value: f" ({each.name})" for each in signal.Signals}
     return f"{number}{names.get(number, '')}"

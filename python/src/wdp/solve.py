@@ -136,7 +136,6 @@ def free_text(text: bytes) -> bytes:
 
 
 def of_cbc(answer: bytes) -> bytes:
-    """The lines of cbc's `-solu` file as a solution has them."""
     heading, *lines = answer.decode(errors="replace").splitlines() or [""]
     if "no integer solution" in heading:
         raise NotSolved(f"cbc has no solution yet: {heading[:LONGEST]}", TIME_OUT)
@@ -180,7 +179,6 @@ SECONDS = checked("number of seconds, 1 at least,", int, lambda n: 1 <= n < 10**
 
 
 def add_solver_words(parser: argparse.ArgumentParser) -> None:
-    """The words that choose a solver."""
     either = parser.add_mutually_exclusive_group()
     known = "cbc, which is the usual one if it is installed, or HiGHS, as scipy has it"
     either.add_argument("--solver", choices=["cbc", "highs"], help=known)
@@ -201,6 +199,5 @@ def add_words(parser: argparse.ArgumentParser) -> None:
 
 
 def run(given: argparse.Namespace) -> None:
-    """Prints a solver's point of a program."""
     text, log = files.read(given.file, MOST_OF_PROGRAM), given.log and given.log.absolute()
     files.put(point_of(text, checked_solver(given.solver), given.time_limit, log))

@@ -61,7 +61,6 @@ def ended_at_once() -> Iterator[None]:
 
 
 def forked(step: Step) -> int:
-    """Starts the process of a step, whose status is what the step gives."""
     parent, process, status = os.getpid(), os.fork(), 1
     if process:
         return process

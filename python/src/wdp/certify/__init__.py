@@ -86,7 +86,6 @@ def add_words(parser: argparse.ArgumentParser) -> None:
 
 
 def leave(path: str | None, text: bytes) -> None:
-    """Writes a text to a file, or to standard output."""
     if path:
         files.write_all({path: text})
     else:

@@ -37,7 +37,6 @@ def candidates(layout: Layout, node: Node, places: Array, values: Array) -> list
 def block_candidates(
     layout: Layout, node: Node, block: int, places: Array, values: Array
 ) -> list[Split]:
-    """The same of one block."""
     if len(places) == 1 and values[0] > 1 - POSITIVE:
         return []
     members = layout.members[block]

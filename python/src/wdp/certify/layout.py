@@ -60,7 +60,6 @@ class Layout:
         self.rounding = self.rounding_error()
 
     def table_of_loads(self) -> Array:
-        """The coefficients in the shared rows."""
         columns, size = self.program.columns, f"{self.count} times {len(self.shared)}"
         if self.count * len(self.shared) > LARGEST_TABLE:
             what = "too many columns and rows that several blocks share"

@@ -33,7 +33,6 @@ class Node:
     forced: dict[int, int] = field(default_factory=dict)
 
     def without(self, places: Array) -> "Node":
-        """The side on which none of these columns is 1."""
         allowed = self.allowed.copy()
         allowed[places] = False
         return Node(allowed, self.path + (Cut(places, False),), self.forced)
@@ -131,7 +130,6 @@ class Leaf:
         self.add_cut(at, max(0, part + row))
 
     def add_cut(self, at: int, multiplier: int) -> None:
-        """Adds to the multiplier of a cut."""
         cut = self.node.path[at]
         self.cuts[at] += multiplier
         self.reduced[cut.places] += -multiplier if cut.is_high else multiplier

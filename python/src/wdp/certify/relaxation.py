@@ -89,13 +89,11 @@ class Relaxation:
             glpk.glp_set_col_stat(problem, self.count + row, glpk.GLP_BS)
 
     def set_bounds(self, column: int) -> None:
-        """Gives GLPK the bounds of a column."""
         lower, upper = float(self.lower[column]), float(self.upper[column])
         kind = glpk.GLP_FX if lower == upper else glpk.GLP_DB
         glpk.glp_set_col_bnds(self.problem, column + 1, kind, lower, upper)
 
     def enter(self, node: Node) -> None:
-        """Sets the bounds of a node."""
         lower, upper = self.lower.copy(), self.upper.copy()
         upper[: self.count] = node.allowed[self.core]
         lower[: self.count] = 0
@@ -137,7 +135,6 @@ class Relaxation:
         return [glpk.glp_get_bhead(self.problem, row) for row in range(1, self.height + 1)]
 
     def restore(self, basis: list[int] | None) -> None:
-        """Takes up a basis, if there is one."""
         if basis is None:
             return
         wanted, now = set(basis), set(self.basis() or [])
@@ -161,12 +158,10 @@ class Relaxation:
         return [max(0, scale * root + each) for root, each in zip(self.root_prices, more)]
 
     def values(self) -> Array:
-        """The values of the core's columns."""
         columns = range(1, self.count + 1)
         return np.array([glpk.glp_get_col_prim(self.problem, column) for column in columns])
 
     def points(self, is_one: Array) -> set[int]:
-        """These of the core's columns."""
         return {int(place) for place in self.core[is_one]}
 
     def overstep(self) -> float:

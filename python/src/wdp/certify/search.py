@@ -38,8 +38,6 @@ Say = Callable[[str], None]
 
 
 class LimitReached(Refused):
-    """A search that a limit ended."""
-
     status = 4
 
 
@@ -229,7 +227,6 @@ class Search:
         return bound.node.without(places)
 
     def visit(self, task: Visit) -> None:
-        """Shows a node, or splits it."""
         node, relaxation = task.node, task.relaxation
         relaxation.enter(node)
         relaxation.restore(task.basis)

@@ -69,5 +69,4 @@ def add_words(parser: argparse.ArgumentParser) -> None:
 
 
 def choices_of(given: argparse.Namespace) -> Choices:
-    """The choices among the words that were given."""
     return Choices(**{each.name: getattr(given, each.name) for each in fields(Choices)})

@@ -49,7 +49,6 @@ def readable(words: str) -> str:
 
 
 def counted(number: int, thing: str) -> str:
-    """A number of things: `1 bid`, `2 bids`."""
     return f"{number:,} {thing}{'' if number == 1 else 's'}"
 
 

@@ -25,7 +25,6 @@ def add_words(parser: argparse.ArgumentParser) -> None:
 
 
 def workbook(values: list[str]) -> bytes:
-    """A workbook with one row."""
     need("--workbooks", "openpyxl")
     import openpyxl
 

@@ -58,7 +58,6 @@ def pieces(pattern: re.Pattern[str], line: str) -> list[str]:
 
 
 def finding(line: str) -> Finding:
-    """The fault of a line."""
     refusal, at, words = pieces(LINE, line)
     return Finding(Refused("wdp: " + refusal), int(at) if at else None, words or None)
 

@@ -65,7 +65,6 @@ def hint(value: str) -> str:
 
 
 def words_of(finding: Finding, row: Row | None, bidders: Sequence[str]) -> str:
-    """The words of a fault: the program's cause if it has one, and a hint."""
     kind, earlier = finding.refused.kind or "", finding.refused.field
     if earlier:
         return f"bid {earlier} has the same package"
@@ -120,14 +119,12 @@ def faults_of(found: Sequence[Finding], source: Source) -> list[Fault]:
 
 
 def first_of(faults: list[Fault], file: str, more: int = 0) -> list[Fault]:
-    """The first hundred faults of a file, and how many more there are."""
     more += max(0, len(faults) - SHOWN)
     rest = Fault(file, f"{counted(more, 'more fault')} in this file", count=more)
     return faults[:SHOWN] + ([rest] if more else [])
 
 
 def of_parts(finding: Finding, data: bytes, source: str) -> Fault:
-    """The fault of an input as a whole: its place, and the program's words."""
     refusal, parts = finding.refusal, parts_of(data)
     line = 1 if refusal.endswith("before the first part") else None
     words = readable(finding.words or refusal.removeprefix("input: "))
@@ -144,7 +141,6 @@ def of_parts(finding: Finding, data: bytes, source: str) -> Fault:
 
 
 def faults_of_input(explained: Explained, data: bytes, source: str) -> list[Fault]:
-    """The faults of one input."""
     findings, forms, parts = explained.findings, 0, dict[Key, Part]()
     if findings and findings[0].refused.part == "input":
         return [of_parts(findings[0], data, source)]

@@ -71,7 +71,6 @@ class Auction:
 
     @property
     def forms(self) -> dict[str, File]:
-        """The form of each bidder that has one."""
         return {form.bidder: form for form in self.counting if form.bidder in self.rules.bidders}
 
     def fault(self, place: str, words: str) -> None:
@@ -180,7 +179,6 @@ class Auction:
         return [forms[last]]
 
     def read_forms(self, folder: str) -> None:
-        """Finds the files of forms that count, and reads them."""
         bidders = self.rules.bidders
         by_bidder: dict[str, list[File]] = {}
         paths: list[str] = []
@@ -211,7 +209,6 @@ class Auction:
         return list(group_rows(enumerate(["-", *names], 1)))
 
     def read_groups(self, words: Sequence[str]) -> None:
-        """Reads the groups, the first of which has to be that of nobody."""
         path = words[-1]
         with self.reading():
             rows = self.rows_of_groups(words)

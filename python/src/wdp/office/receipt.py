@@ -59,7 +59,6 @@ def of_rules(rules: Rules) -> Iterator[str]:
 
 
 def of_left_out(auction: Auction) -> Iterator[str]:
-    """Of each bidder how many bids are in no program, and why."""
     yield f"Bids in no program, since they can't change the result: {len(auction.left_out):,}"
     for name, bids in groupby(auction.left_out, itemgetter(0)):
         reasons = [why for _, why in bids]

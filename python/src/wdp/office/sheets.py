@@ -56,7 +56,6 @@ class File:
 
     @property
     def text(self) -> bytes:
-        """The records as the program reads them."""
         return encoded("".join(written(row.values) for row in self.rows))
 
     def fault(self, place: str, words: str) -> None:

@@ -86,7 +86,6 @@ def read_names(path: str, rules: Rules) -> dict[str, str]:
 
 
 def solutions_of(report: Report, auction: Accepted) -> bytes:
-    """The solutions that a report's winners are."""
     numbers = {name: number for number, name in enumerate(auction.rules.bidders, 1)}
     has_value = any(each.supply * each.value for each in auction.rules.categories)
     text = ""
@@ -175,7 +174,6 @@ def awards_in(
 
 
 def report_in(output: bytes, count: int) -> bytes:
-    """The report of so many groups in what `wdp verify` prints."""
     return re.split(rb"(?m)^(?:group %d .*|prices|unique|tie)$" % (count + 1), output, 1)[0]
 
 
@@ -230,7 +228,6 @@ def results_from(
 
 
 def publish(results: Results, audit: bytes | None, folder: str) -> dict[str, bytes]:
-    """Writes the files, once all of them are made."""
     files = {**results.files(), PAGE: results.page()}
     if audit is not None:
         files[AUDIT] = audit

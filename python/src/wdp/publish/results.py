@@ -21,7 +21,6 @@ Figures = dict[str, Any]  # of the whole, or of a bidder, a group and so on
 
 
 def won_in(group: Group, auction: Accepted) -> list[Figures]:
-    """Who wins what if a group is left out."""
     bids = [(won, auction.bids[won.bidder][won.bid - 1]) for won in group.winners]
     return [
         {"name": won.bidder, "bid": won.bid, "amount": won.amount, "lots": list(bid.lots)}
@@ -153,7 +152,6 @@ class Results(Figures):
         return [bidder for bidder in self["bidders"] if bidder["bid"]]
 
     def called(self, name: str) -> str:
-        """A name of the rules, with the longer one if the office gave it."""
         return f"{name} ({self['names'][name]})" if name in self["names"] else name
 
     def lots_text(self, lots: Iterable[int]) -> str:
@@ -347,7 +345,6 @@ class Results(Figures):
         return "".join(",".join(map(cell_text, line)) + "\n" for line in lines).encode()
 
     def files(self) -> dict[str, bytes]:
-        """The files of the tables, by their names."""
         of_bidders = "bidder,amount,price,opportunity cost,group,reserve,bid"
         keys = ("name", "amount", "price", "cost", "cost_group", "reserve", "bid")
         of_bidders += "".join(f",lots of {each['name']}" for each in self["categories"])
@@ -372,7 +369,6 @@ class Results(Figures):
         }
 
     def page(self) -> bytes:
-        """The page: one HTML text that stands alone."""
         need("the page", "jinja2")
         import jinja2
 

@@ -39,7 +39,6 @@ class Rules:
     pools: list[Pool] = field(default_factory=list)
 
     def load(self, pool: Pool, lots: Iterable[int]) -> int:
-        """What these lots of each category load a pool with."""
         pairs = zip(lots, self.categories)
         return sum(quantity * pool.weights.get(each.name, 0) for quantity, each in pairs)
 
@@ -70,7 +69,6 @@ def rules_of(rows: Iterable[Row]) -> Rules:
 
 
 def form_of(rows: Iterable[Row]) -> tuple[str, list[Bid]]:
-    """The bidder and the bids of a form."""
     head, *bids = (row.values for row in rows)
     return head[0], [Bid(int(amount), tuple(map(int, lots))) for amount, *lots in bids]
 

@@ -82,7 +82,6 @@ class Answer:
 
 
 def unclear(why: str) -> Unclear:
-    """The fault of an answer."""
     return Unclear("the program's answer isn't as docs/REFERENCE.md says: " + escaped(why))
 
 
@@ -95,7 +94,6 @@ def text_of(output: bytes) -> str:
 
 
 def names_of(text: str) -> tuple[str, ...]:
-    """The names of a group as they are printed."""
     return () if text == "-" else tuple(text.split("+"))
 
 
@@ -108,7 +106,6 @@ def names_of_head(number: str, names: str, wanted: int, asked: Asked) -> tuple[s
 
 
 def read_programs(output: bytes, asked: Asked) -> list[Program]:
-    """The program of each group."""
     before, *pieces = PROGRAM.split(text_of(output))
     found = list(zip(pieces[::3], pieces[1::3], pieces[2::3]))
     if len(found) != len(asked.groups) or before:
@@ -122,7 +119,6 @@ def read_programs(output: bytes, asked: Asked) -> list[Program]:
 
 
 def read_map(output: bytes, asked: Asked) -> Allocation:
-    """What `map` prints."""
     answer = Answer(output)
     won, total = answer.take(ALLOCATION).groups()
     answer.take(END)
@@ -130,7 +126,6 @@ def read_map(output: bytes, asked: Asked) -> Allocation:
 
 
 def read_report(output: bytes, asked: Asked, is_certified: bool) -> Report:
-    """What `report` or `verify` prints."""
     answer, groups = Answer(output), []
     for group in range(1, len(asked.groups) + 1):
         number, left_out, won, total, cost = answer.take(GROUP).groups()
@@ -157,7 +152,6 @@ def read_prices(answer: Answer, winners: Sequence[Winner]) -> Prices:
 
 
 def read_counts(output: bytes) -> Counts:
-    """What `check` prints."""
     answer = Answer(output)
     counts = Counts(*map(int, answer.take(COUNTS).groups()))
     answer.take(END)

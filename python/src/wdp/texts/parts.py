@@ -38,7 +38,6 @@ class Part(NamedTuple):
 
 
 def parts_of(data: bytes) -> Iterator[Part]:
-    """The parts of an input, one after the other."""
     line = counted = 0
     for head, following in pairwise(chain(HEAD.finditer(data), [None])):
         assert head  # None is the last one
@@ -59,7 +58,6 @@ def group_rows(numbered: Iterable[tuple[int, str]]) -> Iterator[Row]:
 
 
 def groups_in(data: bytes) -> list[str]:
-    """The lines of an input's groups."""
     texts = (decoded(part.text) for part in parts_of(data) if part.kind == "groups")
     return [line for text in texts for line in lines(text)]
 

@@ -37,7 +37,6 @@ class Where(NamedTuple):
     column: str | None = None
 
     def wrong(self, why: str) -> WrongWords:
-        """The fault of what is there."""
         at = "" if self.column is None else f", {self.column}"
         part = None if self.number is None else "form"
         refused = WrongWords(f"{self.text}{at}: {why}", part, self.number)
@@ -76,7 +75,6 @@ def part(head: str, text: Text, number: int | None = None) -> bytes:
 
 
 def ended(data: bytes) -> bytes:
-    """A text whose last line gets its end."""
     return data if not data or data.endswith(b"\n") else data + b"\n"
 
 
@@ -143,7 +141,6 @@ def is_blank(value: Any) -> bool:
 
 
 def shown(value: Any) -> str:
-    """A value as a message shows it."""
     text = f"a value {of_type(value)}"
     with suppress(Exception):  # whatever a value's own repr raises
         text = repr(value)
@@ -189,7 +186,6 @@ def bids_in(given: Any, where: Where, names: Sequence[str]) -> list[Any]:
 
 
 def plain_fields(record: Any, where: Where) -> list[str]:
-    """The fields of a record without names."""
     if is_text(record) or not isinstance(record, Iterable):
         raise where.wrong(f"a tuple, a list or a dict is asked for, and this is {of_type(record)}")
     fields = [field(value, where) for value in record]
@@ -272,7 +268,6 @@ def form_of(form: Any, where: Where, names: Sequence[str], missing_as_zero: bool
 
 
 def bid_fields(bid: Any, names: Sequence[str], where: Where, missing_as_zero: bool) -> list[str]:
-    """The fields of a bid."""
     if not isinstance(bid, Mapping):
         return plain_fields(bid, where)
     if {"amount", "bidder"}.intersection(names):
@@ -302,7 +297,6 @@ def groups_text(groups: Any) -> Text:
 
 
 def group_line(group: Any, where: str) -> str:
-    """The line of one group."""
     group = group.get("group") if isinstance(group, Mapping) else group
     if isinstance(group, str):
         line = group

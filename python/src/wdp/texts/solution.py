@@ -47,5 +47,4 @@ def entry_of(words: list[str], program: ZeroOne) -> tuple[int, bool]:
 
 
 def solution_text(ones: Iterable[int], program: ZeroOne) -> bytes:
-    """A line for each column at 1."""
     return "".join(f"{program.columns[place].name} 1\n" for place in sorted(ones)).encode("ascii")

@@ -22,8 +22,6 @@ MOST_DIGITS, MOST_EXPONENT, MOST = 30, 60, 10**18
 
 @dataclass
 class Row:
-    """A row: its name, its kind and its right side."""
-
     name: str
     kind: str
     right_side: int = 0
@@ -105,7 +103,6 @@ class NumberFault(ValueError):
 
 
 def exact_value(token: str) -> Fraction:
-    """The value of a token, whole or not."""
     parts = TOKEN.fullmatch(token)
     if not parts:
         raise NumberFault("NumberText")
@@ -144,7 +141,6 @@ class Reader:
     is_marked: bool = False
 
     def take(self, line: str) -> None:
-        """Takes a line that is no comment."""
         words = fields_of(line)
         if not words:
             return
