@@ -103,8 +103,7 @@ def hidden_beside(path: str) -> str:
 def write_folder(
     folder: str, texts: Mapping[str, bytes], ours: Iterable[str] | None = None
 ) -> None:
-    """Writes a folder with these files, all of them or none, in the place of one that has no others than `ours`, by default
-    these."""
+    """Writes a folder with these files, all or none, in the place of one that has no others than `ours`, by default these."""
     with at(folder):
         there = os.listdir(folder) if os.path.lexists(folder) else []
         others = sorted(set(there).difference(ours or texts))

@@ -66,8 +66,7 @@ class Folder:
 
     @contextlib.contextmanager
     def locked(self, alone: bool) -> Iterator[None]:
-        """One run at a time has the folder, or any number of steps that Snakemake runs. The kernel takes the lock back when
-        the last process ends that has it."""
+        """One run at a time has the folder, or any number of steps of Snakemake, until the last of its processes ends."""
         kind = fcntl.LOCK_EX if alone else fcntl.LOCK_SH
         last = time.monotonic() + WAITS
         with open(self.path(".lock"), "ab") as lock:

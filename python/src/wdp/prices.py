@@ -147,8 +147,7 @@ class Award:
         return prices
 
     def projected(self, prices: Prices) -> tuple[Prices, Any]:
-        """The prices of this sum, in parts of a pound, that come nearest to the costs alone, rounded; and what a pound at each
-        bound brings nearer."""
+        """The prices of this sum, in parts of a pound, nearest to the costs alone, rounded; and what a pound at each bound brings nearer."""
         import numpy as np
         from scipy.optimize import nnls
 
@@ -281,8 +280,7 @@ class Moves:
         return self.found(self.each)
 
     def nearest(self, total: int, first: int) -> Prices:
-        """Of this sum those nearest to the costs alone; or as near as the prices now, the same before the place `first`, and the
-        least there."""
+        """Of this sum the nearest to the costs alone; or as near as now, the same before the place `first`, and the least there."""
         more = total - sum(self.prices)
         if first < 0:
             return self.found(self.distance, (self.each, more, more))

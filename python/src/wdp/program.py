@@ -51,8 +51,7 @@ def found_program(program: Path | None = None) -> str:
 
 
 class Ran(NamedTuple):
-    """How a program ended: its status, below 0 if a signal ended it, None if its time was over; its output, and the end of
-    its messages."""
+    """How a program ended: its status, below 0 for a signal, None if its time was over; its output; the end of its messages."""
 
     status: int | None
     output: bytes
@@ -80,12 +79,9 @@ def ran(
     messages: IO[bytes] | None = None,
     folder: Path | None = None,
 ) -> Ran:
-    """Runs a program to its end on `given`, in a folder. What it prints goes to the files that are named, which are for the
-    caller to read.
-
-    Its three streams are files: none of them can fill, as a pipe can, and nothing that the program left running
-    is waited for. Raises NotFound if it can't be started, and Unclear if it prints too much or a file can't be written.
-    """
+    """Runs a program to its end on `given`, in a folder. What it prints goes to the files that are named. Its three streams are
+    files: none can fill, as a pipe can, and nothing that the program left running is waited for. Raises NotFound if it can't be
+    started, and Unclear if it prints too much or a file can't be written."""
     file = tempfile.TemporaryFile
     try:
         with file() as source, file() as printed, file() as said:

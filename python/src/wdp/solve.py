@@ -33,8 +33,7 @@ LONGEST = 200  # signs of a solver's words that a message has
 
 
 def checked_solver(solver: str | None) -> str:
-    """A solver's name or command, by default the usual one's. Raises WrongWords if it is neither, and NotFound if its program
-    isn't there."""
+    """A solver's name or command, by default the usual one's. Raises WrongWords if it is neither, NotFound if it isn't there."""
     solver = solver or ("cbc" if shutil.which("cbc") else "highs")
     if solver != "highs" and not shutil.which(program := command_words(solver)[0]):
         hint = ": apt-get install -y coinor-cbc; --solver highs goes without"
@@ -74,10 +73,8 @@ def filled(words: list[str], known: dict[str, str]) -> list[str]:
 def point_of(
     text: bytes, solver: str, seconds: int | None = None, log: Path | None = None
 ) -> bytes:
-    """A feasible point of a program in MPS, as a solution has it. What the solver prints goes to the file `log`.
-
-    Raises NotSolved, whose status is 4 if the solver has none when its time is over, and 3 if there is none.
-    """
+    """A feasible point of a program in MPS, as a solution has it. What the solver prints goes to the file `log`. Raises NotSolved,
+    whose status is 4 if the solver has none when its time is over, and 3 if there is none."""
     program = read_program(text, "the program")
     if not program.columns:
         return b""

@@ -29,8 +29,7 @@ class Certified(NamedTuple):
 
 
 class Only(NamedTuple):
-    """What is claimed of a solution: `unique` with the certificate that no other point is as good, or `tie` with another one that
-    is as good, or better by `gain`."""
+    """What is claimed of a solution: that it is `unique`, by a certificate, or a `tie` with another one, better by `gain`."""
 
     claim: str
     text: bytes

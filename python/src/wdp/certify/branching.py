@@ -14,6 +14,7 @@ from wdp.certify.relaxation import Relaxation
 
 POSITIVE = 1e-6
 UNDECIDED = 1e-5
+CANDIDATES, STEPS = 8, 40  # splits that are tried, and steps of the dual simplex for each side
 
 
 class Split(NamedTuple):
@@ -81,34 +82,29 @@ def sides(layout: Layout, node: Node, split: Split) -> tuple[Node, Node]:
     return node.without(split.places), high
 
 
-class Trial(NamedTuple):
-    """A relaxation at a node: its basis, the objective that it reached, the one at which a side is shown, and how many
-    steps a side may take."""
+def strongest(
+    layout: Layout,
+    task: tuple[Node, Relaxation, list[int] | None],
+    splits: list[Split],
+    reached: float,
+    limit: float,
+) -> Split:
+    """The split whose sides have the greatest product of gains, at a node whose relaxation has reached an objective."""
+    node, relaxation, basis = task
 
-    relaxation: Relaxation
-    basis: list[int] | None
-    reached: float
-    limit: float
-    steps: int
+    def gain(side: Node) -> float:
+        """By how much some steps of the dual simplex raise the objective, up to the limit at which the side is shown."""
+        relaxation.enter(side)
+        relaxation.restore(basis)
+        raised = relaxation.solve(limit=limit, steps=STEPS)
+        best = reached if raised is None else min(limit, raised)
+        return max(1e-9, best - reached)
 
-
-def strongest(layout: Layout, node: Node, splits: list[Split], trial: Trial) -> Split:
-    """The split whose sides have the greatest product of gains."""
     best, best_score = splits[0], -1.0
-    for split in splits:
-        gains = [gain(side, trial) for side in sides(layout, node, split)]
+    for split in splits[:CANDIDATES]:
+        gains = [gain(side) for side in sides(layout, node, split)]
         if gains[0] * gains[1] > best_score:
             best, best_score = split, gains[0] * gains[1]
-        if min(gains) >= (trial.limit - trial.reached) * 0.9999:
+        if min(gains) >= (limit - reached) * 0.9999:
             break
     return best
-
-
-def gain(side: Node, trial: Trial) -> float:
-    """By how much some steps of the dual simplex raise the objective on a side."""
-    relaxation = trial.relaxation
-    relaxation.enter(side)
-    relaxation.restore(trial.basis)
-    reached = relaxation.solve(limit=trial.limit, steps=trial.steps)
-    best = trial.reached if reached is None else min(trial.limit, reached)
-    return max(1e-9, best - trial.reached)

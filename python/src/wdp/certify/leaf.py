@@ -90,8 +90,7 @@ class Bound:
 
 
 def part_of(lowest: int | None, is_forced: bool) -> int:
-    """What a block adds to the bound. If none of its columns is left but one has to win, there is no point, and any number
-    is right."""
+    """What a block adds to the bound; any number is right if it has to win and none of its columns is left."""
     if is_forced:
         return 1 if lowest is None else lowest
     return min(0, lowest or 0)

@@ -171,8 +171,7 @@ class Relaxation:
 
 
 def root_prices(layout: Layout, seconds: float) -> list[int]:
-    """Whole prices of the shared rows: the duals of the whole program's relaxation, which HiGHS solves from nothing the
-    fastest; 0 if it fails, since any prices are right."""
+    """Whole prices of the shared rows, which HiGHS finds from nothing the fastest; 0 if it fails, since any prices are right."""
     if not layout.shared or not layout.members:
         return [0] * len(layout.shared)
     matrix, unit = matrix_of(layout.program), max(1, layout.largest_cost) / 1000

@@ -12,7 +12,7 @@ from typing import NamedTuple, NoReturn
 
 import numpy as np
 
-from wdp.certify.branching import POSITIVE, Split, Trial, candidates, halving, sides, strongest
+from wdp.certify.branching import POSITIVE, Split, candidates, halving, sides, strongest
 from wdp.certify.layout import Layout
 from wdp.certify.leaf import Bound, Leaf, Node
 from wdp.certify.relaxation import Relaxation, root_prices
@@ -24,8 +24,6 @@ SCALES = (1, 2**4, 2**8, 2**12, 2**16, 2**20)
 NODE_PART, ROOT_PART = 0.3, 0.1
 # the relaxation is made anew if this part is left of so many columns
 SHRINKS_AT, SMALL = 0.6, 60
-# splits that are tried, and steps of the dual simplex for each side
-CANDIDATES, STEPS = 8, 40
 # units of cost are a thousandth of the gap; with fewer of them left the search begins again
 FEWEST_UNITS = 100
 ROUNDS = 8  # at the root
@@ -145,8 +143,7 @@ class Search:
         return any(not node.allowed[self.layout.members[block]].any() for block in node.forced)
 
     def open_root(self, prices: list[int]) -> None:
-        """Shows the root, or begins the tree below it. Better prices, better points and fixed columns help one another, so
-        they take turns."""
+        """Shows the root, or begins the tree below it. Better prices, better points and fixed columns help one another in turns."""
         layout, node = self.layout, Node(self.layout.is_open.copy())
         for turn in range(ROUNDS):
             bound = Bound(layout, node, 1, prices)
@@ -262,9 +259,8 @@ class Search:
             self.try_point(relaxation.points(values > 0.5))
             self.settle_or_halve(node, relaxation)
             return
-        trial = Trial(relaxation, basis, reached, relaxation.units(self.least - 1), STEPS)
-        split = strongest(layout, node, splits[:CANDIDATES], trial)
-        self.split(Visit(node, relaxation, basis), split)
+        limit, where = relaxation.units(self.least - 1), (node, relaxation, basis)
+        self.split(Visit(*where), strongest(layout, where, splits, reached, limit))
 
     def split(self, task: Visit, split: Split) -> None:
         self.lines.append("split 0 " + " ".join(self.layout.names[split.places]))
@@ -314,8 +310,7 @@ class Beaten(Exception):
 
 
 class OnlySearch(Search):
-    """A search for a point that is as good as `ones`, among all others. Its certificate shows that there is none; if it
-    finds one, it ends as Beaten, and `ones` is that point."""
+    """A search for another point as good as `ones`: a certificate shows that there is none, or it ends as Beaten at that point."""
 
     def __init__(self, program: ZeroOne, ones: set[int], seconds: float | None, say: Say) -> None:
         super().__init__(Layout(others(program, ones), len(program.rows)), ones, seconds, say)

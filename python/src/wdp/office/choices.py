@@ -1,24 +1,10 @@
 """What an office says of its files beside their paths; the same words for gather and explain."""
 import argparse
-from collections.abc import Callable, Sequence
-from dataclasses import dataclass, fields
+from collections.abc import Callable
 from functools import partial
 from typing import TypeVar
 
 Value = TypeVar("Value")
-
-
-@dataclass(frozen=True)
-class Choices:
-    """Names are of bidders, those of `allow_unended` also `rules` and `groups`; `expect` is the path of the file of counts."""
-
-    last_wins: str | None = None
-    any_file_name: bool = False
-    allow_missing: Sequence[str] = ()
-    allow_empty: Sequence[str] = ()
-    allow_unended: Sequence[str] = ()
-    expect: str | None = None
-    sheet: str | None = None
 
 
 def checked(
@@ -68,5 +54,7 @@ def add_words(parser: argparse.ArgumentParser) -> None:
     add("--sheet", metavar="NAME", type=path, help=sheet)
 
 
-def choices_of(given: argparse.Namespace) -> Choices:
-    return Choices(**{each.name: getattr(given, each.name) for each in fields(Choices)})
+def is_any(given: argparse.Namespace) -> bool:
+    """Whether one of these choices is made."""
+    allowed = given.allow_missing, given.allow_empty, given.allow_unended
+    return any([given.last_wins, given.any_file_name, *allowed, given.expect, given.sheet])

@@ -58,7 +58,7 @@ def of_input(path: str, with_bids: bool, program: str) -> tuple[list[Fault], boo
 
 def of_files(given: argparse.Namespace, program: str) -> tuple[list[Fault], bool, list[str]]:
     rules, folder, *groups = given.paths
-    auction = Auction(program, choices.choices_of(given))
+    auction = Auction(program, given)
     auction.read_all(rules, folder, groups, given.bids)
     counts = {name: form.bids or 0 for name, form in auction.forms.items()}
     return auction.faults, bool(auction.rules.bidders), left_out(counts, auction.left_out)
@@ -68,7 +68,7 @@ def run(given: argparse.Namespace) -> int:
     is_input = len(given.paths) == 1
     if len(given.paths) > 3:
         raise WrongWords("give INPUT, or RULES FORMS_DIR [GROUPS]")
-    if is_input and any(vars(choices.choices_of(given)).values()):
+    if is_input and choices.is_any(given):
         raise WrongWords("one input has no files to choose from")
     program = found_program(given.program)
     found = of_input(given.paths[0], given.bids, program) if is_input else of_files(given, program)

@@ -37,7 +37,7 @@ def workbook(values: list[str]) -> bytes:
 
 
 def run(given: argparse.Namespace) -> int:
-    auction = Auction(found_program(given.program), choices.Choices())
+    auction = Auction(found_program(given.program), argparse.Namespace(allow_unended=[]))
     if not auction.read_rules(given.rules):
         raise Refused(printed(auction.faults).rstrip("\n"))
     if os.path.isdir(given.output) and os.listdir(given.output):

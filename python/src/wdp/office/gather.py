@@ -60,7 +60,7 @@ def check_words(given: argparse.Namespace) -> None:
 
 def run(given: argparse.Namespace) -> int:
     check_words(given)
-    auction = Auction(found_program(given.program), choices.choices_of(given))
+    auction = Auction(found_program(given.program), given)
     auction.read_all(given.rules, given.forms, given.groups or [given.groups_file])
     if auction.faults:
         tell(printed(auction.faults))

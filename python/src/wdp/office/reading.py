@@ -2,6 +2,7 @@
 
 They are joined into one input, in which the program finds the faults; here is what only files have.
 """
+import argparse
 import os
 import re
 from collections.abc import Iterable, Iterator, Sequence
@@ -10,7 +11,6 @@ from dataclasses import dataclass, field
 from pathlib import PurePath
 
 from wdp.files import Unreadable, at, read
-from wdp.office.choices import Choices
 from wdp.office.faults import Fault, counted, nearest, quoted
 from wdp.office.judge import Finding, explained
 from wdp.office.places import MOST_OF_AN_INPUT, Source, faults_of, first_of, hint, of_parts
@@ -53,7 +53,7 @@ class Auction:
     """What an auction's files say, as far as they could be read, and everything that is wrong with them."""
 
     program: str
-    choices: Choices
+    choices: argparse.Namespace  # as choices.add_words has them
     rules_file: File | None = None
     rules: Rules = field(default_factory=lambda: Rules(1))
     # the forms that count, in the order of the input: by their bidders' numbers, then those of unknown bidders

@@ -11,8 +11,7 @@ LINE_END = re.compile(rb"\r\n|\r|\n")  # as records count lines
 
 
 class Part(NamedTuple):
-    """A part: what its head line has after `%`, and where in the input that line and the text begin, and the text ends. Its
-    head is line number `line`."""
+    """A part: what its head line, number `line`, has after `%`; where that line and the text begin, and where the text ends."""
 
     kind: str
     data: bytes

@@ -127,8 +127,7 @@ def whole_number(token: str) -> int:
 
 @dataclass
 class Reader:
-    """What the lines say so far: `seen` has the rows of the last column's entries, or those with a right side, and `whole` the
-    columns that are whole numbers."""
+    """What the lines say so far: `seen` has the rows of the last column or with a right side, `whole` the columns of whole numbers."""
 
     section: str = ""
     rows: list[Row] = field(default_factory=list)
