@@ -232,19 +232,6 @@ class Pricing:
         assert told == done(f"{self.report}prices\n{lines}{of_sum}")
         return True, least
 
-    def refuse(self, price):
-        """Prices above an amount or below a reserve, and without a winner."""
-        cover, _ = self.cover(price)
-        for bidder, bid in self.bid.items():
-            name, above = BIDDERS[bidder - 1], (bid.amount + 1, "7 AboveAmount")
-            for wrong, why in (above, (self.reserve[bidder] - 1, "8 BelowReserve")):
-                if wrong >= 0:
-                    part = self.prices_part({**price, bidder: wrong})
-                    line = part.split(b"\n").index(f"{name} {wrong}".encode())
-                    assert self.verified(part, cover) == refused(f"prices: {why} at line {line}")
-            part = self.prices_part({it: price[it] for it in price if it != bidder})
-            assert self.verified(part, cover) == refused(f"prices: 6 MissingWinner {name}")
-
 
 def priced(wdp, number):
     """Tries an auction; whether its prices covered, and whether they were least."""
@@ -265,7 +252,6 @@ def priced(wdp, number):
             if least and covering:
                 assert sum(price.values()) == sum(lowest.values())
             came_up |= {("covers", covers), ("least", least)}
-        trial.refuse(prices[0])
     return came_up
 
 

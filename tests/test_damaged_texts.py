@@ -55,14 +55,6 @@ def cut_texts():
         yield f"form cut to {text!r}", TEXT, rules_and(text), wanted
 
 
-def carriage_returns():
-    not_text, no_value = "program: 2 NotText at line 10", "solution 1: 5 ValueText at line 1"
-    yield "before and behind", CHECK, with_line_10("\r X3_1 B3 1\r\n"), refused(not_text)
-    yield "two end a comment", CHECK, "* \r\r\n" + ONE_COLUMN, done(SIZES)
-    yield "two follow a value", MAP, auction("-\n", "X1_1 1\r\r\n"), refused(no_value)
-    yield "one follows a group and a value", MAP, auction("-\r\n", "X1_1 1\r\n"), ONE_WINNER
-
-
 def tokens(table):
     """Texts of numbers, and what is told of each; in a text `99*` is so many of what follows."""
     for line in (TABLES / table).read_text(encoding="utf-8").splitlines():
@@ -101,7 +93,7 @@ def many_forms():
     yield "two million forms without a header", TEXT, rules_and(*[""] * 2_000_000), no_form
 
 
-ROWS = [*cut_texts(), *carriage_returns(), *numbers(), *many_forms()]
+ROWS = [*cut_texts(), *numbers(), *many_forms()]
 
 
 @pytest.mark.parametrize("words, text, wanted", [pytest.param(*it, id=name) for name, *it in ROWS])

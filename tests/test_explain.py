@@ -214,14 +214,6 @@ def test_limits(wdp, text, wanted):
     expect_all(wdp, text, wanted)
 
 
-CUT = Planted(random.Random("cut"), 8).plant(20).text().encode()
-
-
-@pytest.mark.parametrize("size", range(0, len(CUT), 23))
-def test_cut(wdp, size):
-    expect_first(wdp, CUT[:size], refusal_of(wdp, CUT[:size]))
-
-
 @pytest.mark.parametrize("first", range(0, 200, AUCTIONS))
 def test_bids_left_out(wdp, first):
     counts = Counter()

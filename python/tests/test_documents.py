@@ -12,12 +12,9 @@ A_COMMAND = re.compile(r"(\./|sed |mkdir |PATH=|apt-get |pip )")
 # what needs a network or another machine, names no file of the tree (`DIR`, `rules.csv`), or runs all tests: test_command.py
 # installs by pip, test_auction.py has Slurm's profile
 NOT_RUN = re.compile(r"apt-get |pip |\./test |\./wdp-office explain rules\.csv |.* DIR ")
-# the reports that the commands of OFFICE leave, of examples
-LEFT = {
-    "report.txt": "spectrum",
-    "worked/report.txt": "worked",
-    "cluster/report.txt": "worked",
-}
+# the reports that the commands of OFFICE leave, of examples; and what it shows whole of the folder `worked`
+LEFT = {"report.txt": "spectrum", "worked/report.txt": "worked", "cluster/report.txt": "worked"}
+WHOLE = ["input.txt", "programs/1.mps", "solutions/1.txt", "report.txt"]
 
 
 @pytest.fixture
@@ -65,16 +62,16 @@ def test_the_commands_of_a_page(clone, page, least):
         assert "Traceback" not in output, output
         assert output == wanted if wanted is not None else status == 0, (command, output)
     assert len(commands) >= least
-    for name, example in LEFT.items() if page == "docs/OFFICE.md" else ():
-        assert (folder / name).read_text() == content("examples", f"{example}.report.txt")
-    # (of one example OFFICE shows pieces without a command)
-    run("./wdp-office auction pool --input examples/worked_pool.txt")
-    for path in (
-        it for name in ("worked", "pool", "examples") for it in folder.glob(f"{name}/**/*")
-    ):
-        texts += [path.read_text(errors="replace")] if path.suffix in (".txt", ".mps") else []
-    shown = pieces if page == "docs/OFFICE.md" else []
-    assert not [piece for piece in shown if not any(piece in text for text in texts)]
+    if page == "docs/OFFICE.md":
+        for name, example in LEFT.items():
+            assert (folder / name).read_text() == content("examples", f"{example}.report.txt")
+        assert all((folder / "worked" / name).read_text() in pieces for name in WHOLE)
+        assert "Optimal - objective value -50" in (folder / "solution.txt").read_text()
+        # (of one example OFFICE shows pieces without a command)
+        run("./wdp-office auction pool --input examples/worked_pool.txt")
+        paths = [it for name in ("worked", "pool", "examples") for it in folder.glob(f"{name}/**/*")]
+        texts += [it.read_text(errors="replace") for it in paths if it.suffix in (".txt", ".mps")]
+        assert not [piece for piece in pieces if not any(piece in text for text in texts)]
 
 
 def test_python(clone):
