@@ -4,6 +4,7 @@ import io
 import os
 import re
 import resource
+import shutil
 import signal
 import subprocess
 import sys
@@ -25,9 +26,9 @@ Seen = namedtuple("Seen", "status out err")
 
 
 def rows(table):
-    """The rows of a table that is a text, a line each with cells between `|`; ⏎ is LF there, and ␍ CR."""
+    """The rows of a table that is a text, a line each with cells between `|`; ⏎ is LF there, ␍ CR, and a line `# ..` a comment."""
     ends = str.maketrans("⏎␍", "\n\r")
-    lines = table.strip("\n").split("\n")
+    lines = [line for line in table.strip("\n").split("\n") if not line.startswith("# ")]
     return [tuple(cell.strip().translate(ends) for cell in line.split(" |")) for line in lines]
 
 
@@ -183,43 +184,26 @@ class Auction:
 
 BIDDERS = ["Ant", "Bee", "Cat", "Dove", "Eel", "Fox", "Gnat", "Heron", "Ibis"]
 BIDS = ("5000,2,1", "9900,4,0", "3000,0,3")
-GROUPS = "-\nAnt\nBee+Cat\n"
-RULES = "rules,1,100,,\ncategory,Low,6,1000,2\ncategory,High,4,500,1\n"
-RULES += "".join(f"bidder,{name},20,1,\n" for name in BIDDERS)
+OFFICE = ROOT / "fixtures/office/folder"
+BY_HAND = (OFFICE / "joined.txt").read_text()
 
 
 def form(name, *bids):
     return "".join(line + "\n" for line in [f"{name},Low,High", *bids])
 
 
-BY_HAND = "%rules\n" + RULES + "".join("%form\n" + form(name, *BIDS) for name in BIDDERS)
-BY_HAND += "%groups\n" + GROUPS
-# nine ways in which spreadsheets and editors export a table
-EXPORTS = [
-    lambda text: text.encode(),
-    lambda text: text.encode("utf-8-sig"),
-    lambda text: text.replace("\n", "\r\n").encode(),
-    lambda text: text.replace("\n", "\r").encode(),
-    lambda text: text.replace(",", ";").encode(),
-    lambda text: text.replace("\n", ",,\n").encode(),
-    lambda text: (text + ",,\n,,\n\n").encode(),
-    lambda text: text.replace(",", "\t").encode("utf-16"),
-    lambda text: ('"' + text[:-1].replace(",", '","').replace("\n", '"\n"') + '"').encode(),
-]
-
-
 class Office:
-    """A folder with the rules, nine forms and the groups, in which nothing is wrong."""
+    """A folder with the rules, the groups and nine forms, each as another spreadsheet or editor exports it: nothing is wrong."""
 
     def __init__(self, folder):
-        self.folder = folder
+        self.folder = shutil.copytree(OFFICE, folder, dirs_exist_ok=True)
         names = ("rules.csv", "forms", "groups.txt")
         self.files = self.rules, self.forms, self.groups = [folder / name for name in names]
-        self.forms.mkdir()
-        self.write("rules.csv", RULES)
-        self.write("groups.txt", GROUPS)
-        for name, export in zip(BIDDERS, EXPORTS):
-            self.write(f"forms/{name}.csv", export(form(name, *BIDS)))
+
+    def there(self):
+        """What is in the folder, how large it is, and when it was changed."""
+        paths = {path: path.lstat() for path in self.folder.rglob("*")}
+        return {path: (its.st_size, its.st_mtime_ns) for path, its in paths.items()}
 
     def write(self, name, data):
         path = self.folder / name

@@ -145,25 +145,6 @@ def test_the_command(folder):
     assert seen[:2] == (5, WORSE.decode()) and "a tie" in seen.err
 
 
-REFUSED = """
-p.mps worse | 3 | its objective is 12 above the least
---unique p.mps worse | 3 |
-none best | 1 | none: No such file or directory
-p.mps . | 1 | .: Is a directory
-best best | 1 | line 1: the section X1_1
-p.mps p.mps | 1 | line 1:
---output /none/file p.mps best | 1 | /none/file: No such file
---time-limit -1 p.mps best | 2 | --time-limit
- | 2 | PROGRAM.mps
-"""
-
-
-@pytest.mark.parametrize("words, status, said", rows(REFUSED))
-def test_what_the_command_refuses(folder, words, status, said):
-    seen = run("certify", *words.split())
-    assert seen[:2] == (int(status), "") and said in seen.err, seen.err
-
-
 def test_a_missing_package(folder):
     seen = run("certify", "p.mps", "best", **without("swiglpk", folder))
     assert seen.status == 1 and "apt-get install -y python3-swiglpk" in seen.err

@@ -69,7 +69,9 @@ def test_the_commands_of_a_page(clone, page, least):
         assert "Optimal - objective value -50" in (folder / "solution.txt").read_text()
         # (of one example OFFICE shows pieces without a command)
         run("./wdp-office auction pool --input examples/worked_pool.txt")
-        paths = [it for name in ("worked", "pool", "examples") for it in folder.glob(f"{name}/**/*")]
+        paths = [
+            it for name in ("worked", "pool", "examples") for it in folder.glob(f"{name}/**/*")
+        ]
         texts += [it.read_text(errors="replace") for it in paths if it.suffix in (".txt", ".mps")]
         assert not [piece for piece in pieces if not any(piece in text for text in texts)]
 

@@ -219,17 +219,6 @@ groups.txt:2: the line begins with %, as the heads of parts do
 groups.txt:3:5: 'Bees' is no bidder's name; the nearest name is Bee
 groups.txt:4:1: the line is empty; the group of nobody is written -
 """
-# a form of Fox, and what is wrong with it; @ is 1,200 commas
-FORMS = """
-Fox;Low;High⏎5000,2,1⏎9900,4,0⏎ | :2:1: 2 rows from line 2 to line 3 have commas between their fields, and the first row hasn't
-Fox,Low,High⏎5000,2,"1⏎%form⏎"⏎ | :2:8: in this field a line begins with %, as the heads of parts do
-Fox,Low,High⏎0,0,0⏎ | :2:1: the row holds nothing but zeros; delete it if it is no bid
-"Fox,Low,High⏎5000,2,1⏎ | :1:1: the field's quote isn't closed
-Fox@x⏎5000,2,1⏎ | :1:1: 1201 fields in place of 3
-Fox,Low,High⏎1@1⏎ | :2:1: 1201 fields in place of 3
-Fox,Low,High⏎"1"@"1"⏎ | :2:1: 1201 fields in place of 3
-"Fox⏎Heron: 12 bids",Low,High⏎ | :1:1: 'Fox\\x0aHeron: 12 bids' is no bidder's name
-"""
 HINTS = """
 1.00E+08, 1.5E+07 | it is in scientific notation, as spreadsheets show wide numbers
 01/05/2026, 2026-05-01 00:00:00, 5-May, Jan-12, 12.5.26 | it is a date, as spreadsheets make of what looks like one
@@ -259,9 +248,6 @@ def test_each_fault_of_each_file(office):
 
 
 def test_what_is_said_of_a_form(office):
-    for text, line in rows(FORMS):
-        lines = office.fox((text + "\n").replace("@", "," * 1_200))
-        assert [each for each in lines if "there is no form" not in each] == [line]
     values = [(value, why) for listed, why in rows(HINTS) for value in listed.split(", ")]
     lines = office.fox(form("Fox", *(f"{value},2,1" for value, _ in values)))
     for line, (_, why) in zip(lines, values, strict=True):
@@ -331,20 +317,10 @@ def test_a_damaged_folder(tmp_path, seed):
         assert re.findall("[0-9]+", joined) in bids
 
 
-def test_endless_and_missing_files(office):
-    none = office.folder / "none"
-    for place in (0, 1, 2, 4):
-        given = [*office.files, "--expect", office.groups][: max(place + 1, 3)]
-        if place != 1:
-            given[place] = "/dev/zero"
-            stopped(run("gather", *given), "/dev/zero: it has more than 8,388,610 bytes\n")
-        given[place] = none
-        stopped(run("gather", *given), "none: No such file or directory\n")
+def test_an_endless_input():
     with open("/dev/zero", "rb") as endless:
         seen = run("explain", "-", stdin=endless)
     assert "input: it has more than 134,217,728 bytes (wdp: input: too large)\n" in seen.out
-    for path in (none, office.forms):
-        stopped(run("explain", path))
 
 
 def test_a_file_that_becomes_a_pipe_or_grows_while_it_is_read(tmp_path, monkeypatch):

@@ -181,8 +181,6 @@ def test_what_has_no_prices(tmp_path):
         cut.write_bytes(data)
         stopped(office("prices", cut, "--output", priced), why)
     assert not priced.exists()
-    stopped(office("prices", tmp_path / "none"), "none: ")
-    stopped(office("prices", tmp_path, "--output", "x"), status=2)
 
 
 # What a solver says of the program that is raised by the surplus of the first prices. That nobody wins is worse than the award,

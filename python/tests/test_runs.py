@@ -1,0 +1,28 @@
+"""Runs of wdp-office on the files of fixtures/office/folder, as fixtures/office/runs.txt has them."""
+import shlex
+import shutil
+import subprocess
+import sys
+
+import pytest
+from commands import EXAMPLES, content, environment, is_in, rows, run
+
+
+@pytest.mark.parametrize(
+    "change, words, status, said", rows(content("fixtures", "office", "runs.txt"))
+)
+def test_run(office, monkeypatch, change, words, status, said):
+    """What is refused has no output and leaves all as it was; what gather says of faults, explain says, too."""
+    monkeypatch.chdir(office.folder)
+    for name in ("worked.txt", "worked_pool.txt", "worked_pool.report.txt"):
+        shutil.copy(EXAMPLES / name, name)
+    how = {"cwd": office.forms, "env": environment(OFFICE=f"{sys.executable} -m wdp")}
+    subprocess.run(["sh", "-ec", change], check=True, **how)
+    given, before = shlex.split(words.replace("@", "rules.csv forms groups.txt")), office.there()
+    seen = run(*given)
+    assert seen.status == int(status) and is_in(said, seen.err), seen
+    assert office.there() == before and (seen.status or seen.out[:6] == "%rules"), seen
+    assert not seen.status or seen.out == ""
+    if words.startswith("gather @") and status == "1" and "--output" not in words:
+        *faults, _ = seen.err.splitlines()
+        assert run("explain", *given[1:]).out.splitlines()[: len(faults)] == faults
