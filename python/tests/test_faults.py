@@ -9,7 +9,7 @@ import shutil
 import subprocess
 
 import pytest
-from commands import EVIL, EXAMPLES, form, rows, run, script, stopped
+from commands import EVIL, EXAMPLES, ROOT, content, form, rows, run, script, stopped
 from damage import ACCEPTED, damaged_input
 
 from wdp import files
@@ -30,83 +30,6 @@ OF_PROGRAM = re.compile(r"(?m)^((?:rules|groups|form \d+): \d+ \w+(?: at \w+ \d+
 IN_BRACKETS = re.compile(r"\(wdp: (.*?)(?:, earlier bid \d+)?\)$")
 ALIKE = re.compile("nothing but zeros|s between (its|their) fields|more faults")
 
-# An input with its faults: lines, each followed by those of its faults, with their columns. Its parts are in any order, and have
-# what spreadsheets write: CR LF, quotes, a field over two lines, empty lines, a byte order mark (⌂).
-BY_HAND = r"""
-%groups
--␍
-Alpha+Delta+Alpha+
-  ^ :7: 'Delta' is no bidder's name; the nearest name is Beta (wdp: groups: 3 UnknownBidder at line 2)
-  ^ :13: 'Alpha' stands in the line already (wdp: groups: 4 RepeatedBidder at line 2)
-  ^ :19: '' is no bidder's name (wdp: groups: 3 UnknownBidder at line 2)
-
-  ^ :1: the line is empty; the group of nobody is written - (wdp: groups: 2 EmptyLine at line 3)
-Beta␍
-%form
-⌂"Gamma",A,B␍
-  ^ :1: 'Gamma' is no bidder's name (wdp: form 1: 3 UnknownBidder at record 1)
-12,0,1
-%rules␍
-rules,1,2,,"read by
-nobody"
-category,A,2,10,1
-"category",B,1,5,1
-
-bidder,Alpha,3,2,
-bidder,Beta,9,1,
-%form
-"Alpha",A,"B"
-
-30,1,0␍
-"1,5",1,"0
-  ^ :1: '1,5' isn't 1 to 18 digits: it has a comma; write digits alone (wdp: form 2: 5 AmountText at record 3)
-  ^ :9: '0\x0a1' isn't 1 to 18 digits (wdp: form 2: 8 QuantityText at record 3)
-1"
-"",2,10001
-  ^ :1: '' isn't 1 to 18 digits: the field is empty (wdp: form 2: 5 AmountText at record 4)
-  ^ :6: '10001' isn't between 0 and 10000 (wdp: form 2: 9 QuantityRange at record 4)
-30,1
-  ^ :1: 2 fields in place of 3 (wdp: form 2: 4 FieldCount at record 5)
-4,1,1
-  ^ :1: '4' is below the reserve of 15 (wdp: form 2: 12 BelowReserve at record 6)
-60,001,0
-  ^ :1: bid 1 has the same package (wdp: form 2: 13 RepeatedPackage at record 7, earlier bid 1)
-0,0,0
-  ^ :1: 2 rows from line 27 to line 29 hold nothing but zeros; delete those that are no bids (wdp: form 2: 6 AmountRange at record 8)
-9;1;0
-  ^ :1: the row has semicolons between its fields, and the first row hasn't (wdp: form 2: 4 FieldCount at record 9)
-00,,0
-8,0,0
-  ^ :1: each quantity is 0 (wdp: form 2: 10 EmptyPackage at record 11)
-£8,é,0
-  ^ :1: '£8' isn't 1 to 18 digits: it has a sign of a currency; write digits alone (wdp: form 2: 5 AmountText at record 12)
-  ^ :4: 'é' isn't 1 to 18 digits (wdp: form 2: 8 QuantityText at record 12)
-%form
-  ^ : there is no record (wdp: form 3: 2 Header at record 1)
-%form
-Beta,A,"C"
-  ^ :8: 'C' in place of B (wdp: form 4: 2 Header at record 1)
-"""
-RULES_BY_HAND = r"""
-%rules
-rules,3,0,,,
-  ^ :9: '0' isn't between 1 and 1000000000000 (wdp: rules: 7 NumberRange at record 1)
-lot,A
-  ^ :1: 2 fields in place of 6 (wdp: rules: 3 FieldCount at record 2)
-category,A,1,1.5,1,1
-  ^ :14: '1.5' isn't 1 to 18 digits: it has a point; write digits alone (wdp: rules: 6 NumberText at record 3)
-"""
-# an input, in part, with the one thing that is wrong with it
-PARTS = """
-%form⏎%rules⏎rules,1,1,,⏎ | :2: there is no category (wdp: rules: 10 NoCategory at record 1)
-%form⏎%rules⏎ | :2: there is no record (wdp: rules: 2 Header at record 1)
-rules⏎%rules⏎ | :1: the text begins with 'rules' and has no %rules before it (wdp: input: bytes before the first part)
-%rules⏎rules,1␍%form⏎%\x1bform⏎ | :4: '%\\x1bform' is no head of a part: %rules, %form or %groups (wdp: input: part 2 not known)
-%rules⏎%form⏎%rules⏎ | :3: 2 rules in place of 1 (wdp: input: wrong number of rules)
-%form⏎ | : 0 rules in place of 1 (wdp: input: wrong number of rules)
-%groups⏎%rules⏎%groups⏎ | :3: 2 groups in place of 1 at most (wdp: input: wrong number of groups)
-"""
-
 
 @pytest.fixture
 def explain(tmp_path):
@@ -122,10 +45,11 @@ def explain(tmp_path):
     return explained
 
 
-def by_hand(table):
-    """The text of a table, and the lines of its faults."""
+def by_hand(name):
+    """An input made by hand, and the lines of its faults, which follow each line that has some. It has what spreadsheets write:
+    CR LF, quotes, a field over two lines, empty lines, a byte order mark (⌂)."""
     text, faults = "", []
-    for line in table.strip("\n").split("\n"):
+    for line in content("fixtures", "office", name).splitlines():
         if line.startswith("  ^ "):
             faults.append(f":{text.count(chr(10))}{line[4:]}")
         else:
@@ -134,15 +58,13 @@ def by_hand(table):
 
 
 def test_each_fault_of_an_input(explain):
-    text, faults = by_hand(BY_HAND)
+    text, faults = by_hand("by_hand.txt")
     # forms come before groups, which are in lines 1 to 5
     wanted = sorted(faults, key=lambda line: int(line.split(":")[1]) < 6)
     assert explain(text) == [*wanted, f"{len(wanted)} faults"]
-    text, faults = by_hand(RULES_BY_HAND)
+    text, faults = by_hand("rules_by_hand.txt")
     for each in (text, "%rules\n" + text[7:].replace("\n", "\r")):
         assert explain(each) == [*faults, AFTER, f"{len(faults)} faults"]
-    for text, line in rows(PARTS):
-        assert explain(text) == [line, AFTER, "1 fault"]
 
 
 def test_what_is_too_large_or_too_many_and_bids_in_no_program(explain):
@@ -189,56 +111,10 @@ def test_damaged_inputs(explain, wdp, version):
             assert_in_place(line, texts)
 
 
-FILES = {
-    "Ant.csv": b'Ant,Low,High,,\r\n,,,,\r\n"5,000",2,1,,\r\n\r\n9900,4,x,,\r\n',
-    "Bee.txt": "Bee\tLow\tHigh\n5000\t2\t1\n\u20ac9900\t4\t-1\n".encode("utf-16"),
-    "Cat.csv": b'sep=;\r\nCat;Low;High\r\n;;\r\n5000;2;1;;9\r\n"98\n00";4;0\r\n3050;0;3\r\n',
-    "Dove.csv": b'\xef\xbb\xbf"Dove","Low","high"\r5000,2,1\r',
-    "Eel.csv": b"\n\nEel,Low,High\n;;;;\n0,0,0\n5000,2,1\n,0\n,0,\n",
-    "Heron.csv": form("Heron", "5000|2|1", "9900|4|0", "5000,0,0").encode(),
-    # nothing is said of what an open quote swallows
-    "Ibis.csv": b'Ibis,Low,High\nx,2,1\n12000,4,"12\n3,4\n',
-}
-OF_FILES = """
-forms/Ant.csv:3:1: '5,000' isn't 1 to 18 digits: it has a comma; write digits alone
-forms/Ant.csv:5:8: 'x' isn't 1 to 18 digits
-forms/Bee.txt:3:1: '€9900' isn't 1 to 18 digits: it has a sign of a currency; write digits alone
-forms/Bee.txt:3:9: '-1' isn't 1 to 18 digits: it has a minus sign; write digits alone
-forms/Cat.csv:4:1: 5 fields in place of 3
-forms/Cat.csv:5:1: '98\\x0a00' isn't 1 to 18 digits
-forms/Cat.csv:7:1: '3050' isn't a multiple of 100
-forms/Dove.csv:1:14: 'high' in place of High
-forms/Eel.csv:4:1: the row has semicolons between its fields, and the first row hasn't
-forms/Eel.csv:5:1: 2 rows from line 5 to line 8 hold nothing but zeros; delete those that are no bids
-forms/Eel.csv:7:1: 2 fields in place of 3
-forms/Heron.csv:2:1: 2 rows from line 2 to line 3 have bars between their fields, and the first row hasn't
-forms/Heron.csv:4:1: each quantity is 0
-forms/Ibis.csv:3:9: the field's quote isn't closed
-forms/Ibis.csv:2:1: 'x' isn't 1 to 18 digits
-groups.txt:2: the line begins with %, as the heads of parts do
-groups.txt:3:5: 'Bees' is no bidder's name; the nearest name is Bee
-groups.txt:4:1: the line is empty; the group of nobody is written -
-"""
-HINTS = """
-1.00E+08, 1.5E+07 | it is in scientific notation, as spreadsheets show wide numbers
-01/05/2026, 2026-05-01 00:00:00, 5-May, Jan-12, 12.5.26 | it is a date, as spreadsheets make of what looks like one
-12\u00a0000, 12 000 | it has a space
-1300.00 | it has a point
-1'300 | it has an apostrophe
-£12500000 | it has a sign of a currency
--1 | it has a minus sign
-+8000 | it has a plus sign
-#DIV/0! | it is a spreadsheet's word for an error
-many, 1234567890123456789 |
-"""
-
-
 def test_each_fault_of_each_file(office):
     (office.forms / "Bee.csv").unlink()
-    for name, data in FILES.items():
-        office.write("forms/" + name, data)
-    office.write("groups.txt", "-\r\n%form\r\nAnt+Bees\r\n\r\nBee\r\n\r\n")
-    assert office.refused() == OF_FILES.strip("\n").split("\n")
+    shutil.copytree(ROOT / "fixtures/office/faulty", office.folder, dirs_exist_ok=True)
+    assert office.refused() == (office.folder / "faults.txt").read_text().splitlines()
     rules = "sep=;\nrules;2;1,5;;;;\n;;;;;;\ncategory;Low;6;1000;2;;\nbidder;Ant;20;1;;;\n"
     office.write("rules.csv", rules.encode("utf-16"))
     comma, empty = "it has a comma; write digits alone", "the field is empty"
@@ -247,12 +123,7 @@ def test_each_fault_of_each_file(office):
     stopped(office.gather(), *faults)
 
 
-def test_what_is_said_of_a_form(office):
-    values = [(value, why) for listed, why in rows(HINTS) for value in listed.split(", ")]
-    lines = office.fox(form("Fox", *(f"{value},2,1" for value, _ in values)))
-    for line, (_, why) in zip(lines, values, strict=True):
-        assert line.endswith(f" digits: {why}; write digits alone" if why else " digits")
-    # cells forge no line
+def test_cells_forge_no_line(office):
     for row in ('"50\n00\x1b",1,1', 'x,"1\u202e\n\n",1', "1,2\x1b,\x9b3,4"):
         lines = office.fox(form("Fox", row))
         assert all(line.isprintable() and line.startswith(":2:") for line in lines), lines
