@@ -17,7 +17,8 @@ from dataclasses import dataclass
 from pathlib import Path
 
 import pytest
-from trials.judging import TIME_LIMIT, Seen, done, encoded, refused
+from trials import judging
+from trials.judging import TIME_LIMIT, Seen, done, refused
 from trials.program import ROOT
 from trials.worked import ALPHA, BETA, GAMMA, ONE_COLUMN, rules_and
 
@@ -44,9 +45,8 @@ class Office:
 
     def seen(self, *words: str, given: str | bytes = b"", **how: object) -> Seen:
         """Status, output and standard error of a run."""
-        child = self.start(*words, **{"stdin": subprocess.PIPE, **how})
-        output, faults = child.communicate(encoded(given), timeout=TIME_LIMIT)
-        return child.returncode, output or b"", faults or b""
+        given = how.pop("stdin", given)
+        return judging.seen(self.program, list(words), given, cwd=self.folder, **how)
 
     def there(self) -> dict[str, bytes | bool]:
         """What is in the folder, and in its files."""

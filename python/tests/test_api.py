@@ -175,6 +175,8 @@ from_files("rules", ["form", "a\0b"]) | Refused: form 2: a\x00b: embedded null b
 from_files(0, []); from_files(True, []); from_files("rules", [0]) | WrongWords: *: a path is asked for, and this is of type *
 from_files("rules", 0) | WrongWords: forms: a list is asked for
 auction.solve("gurobi"); auction.solve(""); auction.solve("true {nothing}") | WrongWords: a solver is cbc, highs, or a command with {mps}*
+auction.solve("x {mps} {other}") | WrongWords: a solver is cbc, highs, or a command with {mps}*
+auction.solve("x '{mps}") | WrongWords: the solver's command: No closing quotation
 auction.solve("x\ny"); auction.solve(7) | WrongWords: a solver is cbc, highs, or a command with {mps} in it, on one line
 auction.solve("cbc", 0); auction.solve("cbc", "5") | WrongWords: time_limit: * is no number of seconds above 0
 auction.solve("no-such-solver {mps} {out}") | NotFound: the solver no-such-solver isn't installed

@@ -8,7 +8,6 @@ import os
 import pty
 import random
 import re
-import shlex
 import signal
 import subprocess
 import sys
@@ -77,13 +76,13 @@ def test_certificates_are_the_judge_of_answers(auction, tmp_path):
     assert auction.read("answers/3.txt") == b"X1_1 1\n" != auction.read("solutions/3.txt")
 
 
-# nan, too large, of other groups, none, one that hides and kills its parent, and one without an end
+# no number, of other groups, none, some that hide, of which one kills its parent, and one without an end
 LIARS = """
 echo X1_1 nan > "$2"
-echo X1_1 1e400 > "$2"
 echo X2_1 1 > "$2"; echo X3_1 1 >> "$2"
 exit 0
 (setsid sleep 7000 &) ; setsid sleep 7000 & kill -9 $PPID; rest "$@"
+for i in 1 2 3; do (while :; do setsid sleep 7000 & sleep 0.01; done) & done; sleep 0.3
 yes "X1_1 1" > "$2"
 """
 
@@ -162,29 +161,21 @@ def test_files_that_are_not_what_their_step_left(auction, change):
         assert auction.outcome() == before
 
 
-# what is done in the folder, the words of the run, its status, and what it says
+# what is done in the folder, and what a run says of it, which ends with status 1
 REFUSED = """
-true | --ties --no-certify | 2 |
-true | --jobs 0 | 2 |
-true | --solver glpsol | 2 |
-true | --time-limit 0 | 2 |
-true | --step nothing | 2 |
-true | --solver-command x | 2 |
-true | --title "a⏎b" | 2 |
-true | --solver-command "nosuch {mps}" | 1 | the solver nosuch isn't installed
-sed -i 's/%rules/%form/' input.txt | | 1 | wdp: input: wrong number of rules
-sed -i '/^-$/d' input.txt | | 1 | group 1 is not empty
-sed -i 's/30,1,0/x,1,0/' input.txt | | 1 | wdp: form 1:
-rm input.txt; mkfifo input.txt | | 1 | input.txt: it is a pipe
-ln -sf /dev/zero input.txt | | 1 | input.txt: it is a device
-rm -r "$PWD" | | 1 | is no folder
+sed -i 's/%rules/%form/' input.txt | wdp: input: wrong number of rules
+sed -i '/^-$/d' input.txt | group 1 is not empty
+sed -i 's/30,1,0/x,1,0/' input.txt | wdp: form 1:
+rm input.txt; mkfifo input.txt | input.txt: it is a pipe
+ln -sf /dev/zero input.txt | input.txt: it is a device
+rm -r "$PWD" | is no folder
 """
 
 
-@pytest.mark.parametrize("change, words, status, why", rows(REFUSED))
-def test_inputs_and_words_that_are_refused(auction, change, words, status, why):
+@pytest.mark.parametrize("change, why", rows(REFUSED))
+def test_inputs_that_are_refused(auction, change, why):
     subprocess.run(["sh", "-c", change], cwd=auction.where, check=True)
-    assert why in auction.said(*shlex.split(words), status=int(status))
+    assert why in auction.said(status=1)
 
 
 def test_progress_is_one_line_at_a_terminal_and_a_second_run_is_refused(auction, tmp_path):

@@ -6,7 +6,7 @@ import random
 
 import auctions
 import pytest
-from commands import content, rows, run, without
+from commands import content, run, without
 from damage import OF_CERTIFICATE, damaged
 from oracle import Checker
 
@@ -188,28 +188,10 @@ def test_sizes_depth_and_damages():
     assert kinds == {*OF_CERTIFICATE, *KINDS.split()}
 
 
-# Reading programs; test_solve.py has the solutions.
+# Reading programs; runs.txt has those that are refused.
 OTHER_WAYS = """* made elsewhere \xff⏎NAME⏎OBJSENSE MIN⏎ROWS⏎\tN OBJ⏎ N SPARE⏎ N SPARE2⏎ L B3⏎ L C1⏎ G C2⏎⏎COLUMNS
  X3_1 OBJ -1.2e1 SPARE 7⏎ X3_1 SPARE2 1 B3 1.0⏎ X3_1 C2 10e-1 C1 0⏎ M 'MARKER' 'INTORG'⏎ K OBJ -80
 RHS⏎ B3 1 C1 2.0⏎ RHS C2 1⏎BOUNDS⏎ BV X3_1⏎ FX BND K 1⏎ENDATA⏎not read⏎"""
-SMALLEST = "ROWS\n N OBJ\n L B1\nCOLUMNS\n X OBJ -1\n X B1 1\nBOUNDS\n BV X\nENDATA\n"
-PROGRAMS = """
-BV X⏎ | BV X⏎ UP BND X 2⏎ | line 9: a bound is neither 0 nor 1
-L B1 | L B1⏎ L B1 | line 4: the row B1 is there twice
-L B1 | R B1 | line 3: the type R of a row isn't known
-X B1 1 | X B2 1 | line 6: the row B2 isn't known
-X B1 1 | X B1 x | line 6: a number is refused: NumberText
-X B1 1 | X B1 0.5 | line 6: a number is refused: NotWhole
-X B1 1 | X B1 1⏎ X B1 1 | line 7: the entry of X in B1 is there twice
-X B1 1 | Y B1 1⏎ X B1 1 | line 7: the lines of the column X aren't together
-X B1 1 | X B1 \xff | line 6: bytes that aren't printable ASCII
-BOUNDS | RANGES | line 7: the section RANGES isn't read
-ROWS | OBJSENSE⏎ MAX⏎ROWS | line 2: the objective is to be minimised
-BOUNDS⏎ BV X⏎ | | line 7: the column X isn't 0-1
-N OBJ⏎ | | line 3: no objective
-BOUNDS | RHS⏎ OBJ 3⏎BOUNDS | line 8: the objective has a constant
-ENDATA⏎ | | line 8: the text ends without ENDATA
-"""
 
 
 @pytest.mark.parametrize("end", ["\n", "\r\n"])
@@ -222,11 +204,3 @@ def test_other_ways_of_writing(end):
     assert read_solution(b"# all\nX3_1 0.999999\n\nK\t1", program, "s") == {0, 1}
     with pytest.raises(Refused, match="^s: the bound of column K is broken$"):
         read_solution(b"X3_1 1\n", program, "s")
-
-
-@pytest.mark.parametrize("old, new, why", rows(PROGRAMS))
-def test_programs_that_are_refused(old, new, why):
-    assert SMALLEST.count(old) == 1 and read(SMALLEST)
-    with pytest.raises(Refused) as stopped:
-        read(SMALLEST.replace(old, new))
-    assert str(stopped.value) == "p: " + why

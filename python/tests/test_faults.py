@@ -229,22 +229,8 @@ def test_a_line_break_in_a_name_forges_no_line(office):
         assert all(map(str.isprintable, said.split("\n")))
 
 
-LIARS = """
-exit 1 | wdp explain: it ended with status 1
-echo rules: 1 TooLarge | wdp explain: it ended with status 0
-echo wdp: out of memory >&2; exit 1 | wdp explain: wdp: out of memory
-kill -9 $$ | wdp explain: it ended with status -9
-echo what; exit 1 | wdp explain printed a line that isn't understood: 'what'
-echo wdp: rules: 1 TooLarge; exit 1 | wdp explain printed a line that isn't understood: 'wdp: rules: 1 TooLarge'
-"""
-
-
-def test_a_program_that_does_not_keep_to_it(tmp_path, monkeypatch):
-    (tmp_path / "input").write_bytes(ACCEPTED[0])
-    for text, why in rows(LIARS):
-        monkeypatch.setenv("WDP", str(script(tmp_path / "wdp", text)))
-        stopped(run("explain", tmp_path / "input"), f"explain: {why}\n")
-    # an older one without details, and one that counts
+def test_an_older_program_and_odd_names(tmp_path):
+    # one without details, and one that counts
     for said in ("input: wrong number of rules", "rules: 1 TooLarge; echo and 12 more"):
         program = script(tmp_path / "wdp", f"echo {said}; exit 1")
         found = explained(str(program), b"x" * 1_000_000)

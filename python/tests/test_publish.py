@@ -307,18 +307,7 @@ def test_the_schema_takes_each_field_of_its_kind_and_no_others():
 # widths in CSS pixels; of paper what a page shows of 1/96 inch: A4 upright is 210 mm, less margins of 12 mm
 KINDS = {"phone": 360, "tablet": 760, "screen": 1280, "paper": round((210 - 24) / 25.4 * 96)}
 FRAMED = ["twelve_bands", "spectrum_cap", "unsold_values", "tie", "long"]
-# measures every cell and every other piece of text in a frame, and leaves what lies outside in the page round it
-MEASURE = """<script>
-const wide = document.documentElement.clientWidth, found = [];
-for (const each of document.querySelectorAll("td, tbody th, tfoot th, p, h1, dd, figure span, caption")) {
-  const box = each.getBoundingClientRect();
-  const lies = box.left < -0.5 || box.right > wide + 0.5 || each.scrollWidth > Math.ceil(box.width) + 1;
-  if (box.width && lies) found.push(each.textContent);
-}
-if (document.documentElement.scrollWidth > wide) found.push("the page scrolls");
-const place = parent.document.getElementById(window.name);
-place.textContent = JSON.stringify([wide, document.querySelectorAll("td").length, found]);
-</script></body>"""
+MEASURE = f"<script>{content('fixtures', 'office', 'measure.js')}</script></body>"
 FRAME = '<pre id="{0}"></pre><iframe name="{0}" width="{1}" srcdoc="{2}"></iframe>'
 WORDS = "--headless --no-sandbox --disable-gpu --disable-dev-shm-usage --hide-scrollbars --dump-dom"
 

@@ -1,4 +1,6 @@
-"""The worked auction, its programs, and texts that the tests change."""
+"""The worked auction, its programs, which are those of cases, and texts that the tests change."""
+
+from trials.cases import content
 
 RULES = """rules,1,1,,
 category,A,2,10,1
@@ -11,166 +13,20 @@ ALPHA = "Alpha,A,B\n30,1,0\n50,2,1\n28,1,1\n"
 BETA = "Beta,A,B\n20,1,0\n45,3,0\n"
 GAMMA = "Gamma,A,B\n12,0,1\n"
 
-NO_COLUMN = """NAME wdp
-ROWS
- N OBJ
- L C1
- L C2
-COLUMNS
-RHS
- RHS C1 2
- RHS C2 1
-ENDATA
-"""
 
-# The program of Gamma's form alone.
-ONE_COLUMN = """NAME wdp
-ROWS
- N OBJ
- L B3
- L C1
- L C2
-COLUMNS
- M1 'MARKER' 'INTORG'
- X3_1 OBJ -12
- X3_1 B3 1
- X3_1 C2 1
- M2 'MARKER' 'INTEND'
-RHS
- RHS B3 1
- RHS C1 2
- RHS C2 1
-BOUNDS
- UP BND X3_1 1
-ENDATA
-"""
+def output(case):
+    return content(case, "stdout").decode()
 
-# The same program as another tool may write it.
-MADE_ELSEWHERE = """* made elsewhere
-NAME
-OBJSENSE MIN
-ROWS
-\tN OBJ
- N SPARE
- L B3
- L C1
- L C2
 
-COLUMNS
- X3_1 OBJ -1.2e1 SPARE 7
- X3_1 B3 1.0 C2 10e-1
-RHS
- B3 1 C1 2.0
- RHS C2 1
-BOUNDS
- BV X3_1
-ENDATA
-not read
-""".replace(
-    "\n", "\r\n"
-)
+# The programs of no form, of Gamma's form alone, as another tool may write that, of the first bid of Alpha's form, of its first
+# two, since the third is dominated, and of all three forms, of which Beta's second bid asks for more than there is.
+NO_COLUMN, ONE_COLUMN = output("no_form"), output("one_form")
+MADE_ELSEWHERE = content("check_made_elsewhere", "stdin").decode()
+ONE_BID_OF_ALPHA = output("dominated_by_smaller_package")
+TWO_BIDS_OF_ALPHA = output("one_form_with_a_dominated_bid")
+FOUR_COLUMNS = output("three_forms")
 
-# The programs of the first bid of Alpha's form, and of its first two; the third is dominated by the first.
-ONE_BID_OF_ALPHA = """NAME wdp
-ROWS
- N OBJ
- L B1
- L C1
- L C2
-COLUMNS
- M1 'MARKER' 'INTORG'
- X1_1 OBJ -30
- X1_1 B1 1
- X1_1 C1 1
- M2 'MARKER' 'INTEND'
-RHS
- RHS B1 1
- RHS C1 2
- RHS C2 1
-BOUNDS
- UP BND X1_1 1
-ENDATA
-"""
-TWO_BIDS_OF_ALPHA = """NAME wdp
-ROWS
- N OBJ
- L B1
- L C1
- L C2
-COLUMNS
- M1 'MARKER' 'INTORG'
- X1_1 OBJ -30
- X1_1 B1 1
- X1_1 C1 1
- X1_2 OBJ -50
- X1_2 B1 1
- X1_2 C1 2
- X1_2 C2 1
- M2 'MARKER' 'INTEND'
-RHS
- RHS B1 1
- RHS C1 2
- RHS C2 1
-BOUNDS
- UP BND X1_1 1
- UP BND X1_2 1
-ENDATA
-"""
-
-# The program of all three forms: Alpha's third bid is dominated, Beta's second asks more than there is.
-FOUR_COLUMNS = """NAME wdp
-ROWS
- N OBJ
- L B1
- L B2
- L B3
- L C1
- L C2
-COLUMNS
- M1 'MARKER' 'INTORG'
- X1_1 OBJ -30
- X1_1 B1 1
- X1_1 C1 1
- X1_2 OBJ -50
- X1_2 B1 1
- X1_2 C1 2
- X1_2 C2 1
- X2_1 OBJ -20
- X2_1 B2 1
- X2_1 C1 1
- X3_1 OBJ -12
- X3_1 B3 1
- X3_1 C2 1
- M2 'MARKER' 'INTEND'
-RHS
- RHS B1 1
- RHS B2 1
- RHS B3 1
- RHS C1 2
- RHS C2 1
-BOUNDS
- UP BND X1_1 1
- UP BND X1_2 1
- UP BND X2_1 1
- UP BND X3_1 1
-ENDATA
-"""
-
-# The report with groups `-` and `Beta`.
-SOLUTION_OF_ALL = "X1_1 0.999999\nX2_1 1\nX3_1 1\n"
-SOLUTION_WITHOUT_BETA = "X1_2 1\n"
-REPORT = """group 1 -
-Alpha 1 30
-Beta 1 20
-Gamma 1 12
-total 62
-cost 0
-group 2 Beta
-Alpha 2 50
-total 50
-cost 8
-"""
-WINNERS = "Alpha 1 30\nBeta 1 20\nGamma 1 12\ntotal 62\n"
+SOLUTION_OF_ALL, WINNERS = "X1_1 0.999999\nX2_1 1\nX3_1 1\n", output("map_three_winners")
 
 
 def rules_and(*forms):
