@@ -12,9 +12,9 @@ from collections import Counter
 
 import pytest
 from damage import ACCEPTED, damaged_input
-from trials import cases, details
+from tied_auctions import input_text, random_auction
+from trials import cases, details, left_out
 from trials.judging import row, seen
-from trials.left_out import Drawn
 from trials.planted import BID_PLANTS, GROUP_PLANTS, MOST_LINES, RULES, Planted
 from trials.worked import ALPHA, auction, rules_and
 
@@ -22,7 +22,7 @@ MIB, HUGE = 1 << 20, 3_000_000
 PARTS = b"%rules %form %groups %solution %certificate %unique %tie %prices %cover %weights".split()
 # so many damages of each version, and auctions whose bids are left out, are tried in one test; and of those are at least so many
 DAMAGES, LEAST_DAMAGES = 350, {"": 20, "rules": 250, "form": 200, "groups": 40, "input": 75}
-AUCTIONS, LEAST_REASONS = 100, 100
+AUCTIONS, LEAST_REASONS = 600, 100
 LINE = re.compile(
     r"(rules|form|groups)(?: (\d+))?: (\d+) [A-Za-z]+(?: at (?:record|line) (\d+))?"
     r"(?:, earlier bid \d+|(?:, (?:field|name) (\d+))?(?:: .*)?)"
@@ -214,13 +214,13 @@ def test_limits(wdp, text, wanted):
     expect_all(wdp, text, wanted)
 
 
-@pytest.mark.parametrize("first", range(0, 200, AUCTIONS))
+@pytest.mark.parametrize("first", range(0, 1_200, AUCTIONS))
 def test_bids_left_out(wdp, first):
     counts = Counter()
     for number in range(first, first + AUCTIONS):
         draw = random.Random(f"bids {number}")
-        auction = Drawn(draw, draw.choice((0, 1, 10, 100)))
-        text, wanted = auction.text().encode(), "".join(auction.lines())
+        drawn = random_auction(draw, draw.choice((4, 20, 200)))
+        text, wanted = input_text(drawn, [()]).encode(), "".join(left_out.lines(drawn))
         counts.update(re.findall(r": bid \d+ ([a-z]+)", wanted))
         with row(f"auction {number}"):
             assert seen(wdp, ["explain", "--bids"], text) == (0, wanted.encode(), b"")

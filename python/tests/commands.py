@@ -183,7 +183,6 @@ class Auction:
 
 
 BIDDERS = ["Ant", "Bee", "Cat", "Dove", "Eel", "Fox", "Gnat", "Heron", "Ibis"]
-BIDS = ("5000,2,1", "9900,4,0", "3000,0,3")
 OFFICE = ROOT / "fixtures/office/folder"
 BY_HAND = (OFFICE / "joined.txt").read_text()
 

@@ -150,15 +150,8 @@ def test_a_missing_package(folder):
     assert seen.status == 1 and "apt-get install -y python3-swiglpk" in seen.err
 
 
-def test_calls():
-    found = certify.certified(SMALL, WORSE)
-    assert (found.solution, found.gain) == (BEST, 12)
-    assert certify.certified(SMALL, BEST).gain == 0
-    only = certify.only(SMALL, BEST)
-    assert only.claim == "unique" and only.text.startswith(b"bound ")
+def test_a_tie_that_is_better():
     assert certify.only(SMALL, WORSE) == certify.Only("tie", BEST, 12)
-    with pytest.raises(Refused, match="the solution: the row B1 is broken"):
-        certify.certified(SMALL, b"X1_1 1\nX1_2 1\n")
 
 
 # Three columns, any two of which exclude one another: halves of all three are the best fractions, at -3.

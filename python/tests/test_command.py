@@ -17,9 +17,6 @@ STRANGE = ["", "-", "--", "--versions", "a\nb", "\x1b[1mgather", "x" * 100_000]
 
 
 def test_words_that_are_no_command_are_one_short_line():
-    for word in ("gahter", "GATHER", "gather ", "gatherr"):
-        why = f"wdp-office: there is no command '{word}'; the nearest one is gather\n"
-        assert run(word, "--help") == (2, "", why)
     for word in STRANGE:
         status, output, said = run(word)
         assert (status, output, said.count("\n")) == (2, "", 1)

@@ -67,22 +67,6 @@ def test_each_fault_of_an_input(explain):
         assert explain(each) == [*faults, AFTER, f"{len(faults)} faults"]
 
 
-def test_what_is_too_large_or_too_many_and_bids_in_no_program(explain):
-    large = ":2: it has more than 4,194,304 bytes (wdp: rules: 1 TooLarge)"
-    assert explain("%form\n%rules\n" + "\n" * 2**22 + "\n") == [large, AFTER, "1 fault"]
-    rules = "%rules\nrules,1,1,,\ncategory,A,1,0,0\nbidder,Ant,1,1,\n"
-    many = ":2005: a bidder has at most 1,000 forms (wdp: form 1001: CallLimit)"
-    assert explain(rules + "%form\nAnt,A\n" * 1_001) == [many, "1 fault"]
-    lines = explain(rules + "%form\nAnt,A\nx,1\n" * 5_000 + "%groups\n-\n")
-    assert lines[0] == ":7:1: 'x' isn't 1 to 18 digits (wdp: form 1: 5 AmountText at record 2)"
-    assert (len(lines), *lines[-2:]) == (102, ": 4,900 more faults in this file", "5,000 faults")
-    text = ACCEPTED[0] + b'%form\n\xef\xbb\xbfAlpha,A,B\r\n\r\n"30",3,0\r\n31,0,2'
-    assert explain(text, "--bids")[1] == "Alpha: form 1 is replaced by form 4"
-    why = "'' isn't 1 to 18 digits: the field is empty (wdp: form 1: 8 QuantityText at record 2)"
-    faulty = explain(ACCEPTED[0].replace(b"\n30,1,0", b"\n30,,0"), "--bids")
-    assert faulty == [f":10:4: {why}", "1 fault"]
-
-
 def assert_in_place(line, texts):
     """The value that a fault quotes is in the file at the place that the fault names."""
     assert line.isprintable() and len(line) < 1_000, line
@@ -129,17 +113,6 @@ def test_cells_forge_no_line(office):
         assert all(line.isprintable() and line.startswith(":2:") for line in lines), lines
     (line,) = office.fox("Fox," + '"a\nb\x1b",' * 900 + "\n")
     assert line.isprintable() and len(line) < 2_000
-
-
-def test_faults_of_a_file_are_counted_beyond_a_hundred(office):
-    alike = ["5000;2;1", *["x,y,z"] * 60, "0,0,0", "5000;2;1", "0,0,0"]
-    lines = office.fox(form("Fox", *alike))
-    assert lines[0].startswith(":2:1: 2 rows from line 2 to line 64 have semicolons between")
-    # 180 faults of rows, and the rows of zeros, which are one more, less the 99 that are printed
-    assert (len(lines), lines[-1]) == (101, ": 82 more faults in this file")
-    # 4,000 packages like the first one's, and no row is read after a bid too many
-    bids = [f"{1000 + 100 * number},1,0" for number in range(5_002)]
-    assert office.fox(form("Fox", *bids))[100:] == [": 3,900 more faults in this file"]
 
 
 NAMES = (

@@ -8,7 +8,7 @@ from pathlib import Path
 
 import openpyxl
 import pytest
-from commands import BIDDERS, BIDS, BY_HAND, form, run, small_files, stopped, without
+from commands import BIDDERS, BY_HAND, form, run, small_files, stopped, without
 
 from wdp.office.versions import words_of
 
@@ -31,31 +31,6 @@ def test_nine_exports_join_to_the_text_made_by_hand(office):
     ):
         joined = office.gather("--groups", *rule).out
         assert joined.split("%groups\n")[1].split() == ["-", *groups]
-
-
-def test_a_table_to_be_read_aloud(office):
-    office.write("forms/Bee.csv", form("Bee", "12000,0,4"))
-    office.write("forms/Dove.csv", form("Dove"))
-    (office.forms / "Cat.csv").unlink()
-    said = office.said("--allow-missing", "Cat", "--allow-empty", "Dove")
-    table = said.split("\n\nTo be read aloud to each bidder:\n")[1].splitlines()
-    assert table[:5] == [
-        "Bidder     Bids  Highest     Sum  First bid                Last bid",
-        "Ant           3    9,900  17,900  5,000 for 2 Low, 1 High  3,000 for 3 High",
-        "Bee           1   12,000  12,000  12,000 for 4 High        12,000 for 4 High",
-        "Cat     no form        -       -  -                        -",
-        "Dove          0        -       -  -                        -",
-    ]
-    assert len(table) == 1 + len(BIDDERS)
-
-
-def test_a_file_cut_off_anywhere_is_no_other_form(office):
-    """If nothing is wrong with what is left, it is the form with fewer bids."""
-    text, whole = form("Heron", *BIDS), [form("Heron", *BIDS[:count]) for count in (1, 2, 3)]
-    for end in range(len(text)):
-        office.write("forms/Heron.csv", text[:end])
-        seen = office.gather()
-        assert seen.status == 1 or f"%form\n{text[:end]}%form" in seen.out and text[:end] in whole
 
 
 def test_blank_forms(office):

@@ -93,18 +93,6 @@ def shown(award, total):
     return weights and weights.scale
 
 
-def test_the_nearest_prices_are_those_of_all():
-    for number in range(100):
-        draw, winners = random.Random(f"costs {number}"), range(1 + number % 4)
-        amounts = [draw.randrange(1, 12) for _ in winners]
-        reserves = [draw.randrange(amount + 1) if draw.random() < 0.3 else 0 for amount in amounts]
-        most = {group: sum(amounts[at] for at in group) for group in subsets(winners) if group}
-        drawn = {it for it in most if len(it) == 1 or draw.random() < 0.6}
-        costs = {group: draw.randrange(most[group] + 1) for group in sorted(drawn, key=sorted)}
-        award = Costs(amounts, reserves, costs)
-        assert tuple(award.nearest()) == rule(amounts, reserves, costs), vars(award)
-
-
 def pairs(count):
     return {frozenset(pair): 1 for pair in itertools.combinations(range(count), 2)}
 

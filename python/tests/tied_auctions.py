@@ -109,7 +109,8 @@ def input_text(auction, groups):
     return "".join(f"{line}\n" for line in [*lines, "%groups", *map(names_of, groups)])
 
 
-def random_auction(draw):
+def random_auction(draw, most=4):
+    """With so many bids in a form at most."""
     version, size = draw.choice([1, 1, 2, 3, 3]), draw.choice([1, 1, 1, 10**9])
     kinds = range(draw.randrange(1, 4))
     supply = tuple(draw.randrange(1, 4) for _ in kinds)
@@ -117,7 +118,8 @@ def random_auction(draw):
     weights = lambda: tuple(draw.choice([0, 1, 1, 2]) for _ in kinds)  # noqa: E731
     pools = [Pool(draw.randrange(0, 7), weights()) for _ in range(draw.randrange(3))]
     package = package_too_large if draw.random() < 0.05 else package_of_some
-    forms = [random_form(draw, supply, values, size, package) for _ in range(draw.randrange(2, 5))]
+    lots = supply, values, size
+    forms = [random_form(draw, *lots, package, most) for _ in range(draw.randrange(2, 5))]
     return Auction(version, supply, values, pools if version == 3 else [], forms)
 
 
@@ -135,13 +137,13 @@ def package_too_large(draw, supply):
     )
 
 
-def random_form(draw, supply, values, size, draw_package):
-    """Up to four bids: of any net from -1 on, most of few amounts, and larger packages of the same net, which nobody needs."""
+def random_form(draw, supply, values, size, draw_package, most):
+    """Bids of any net from -1 on, most of few amounts, and larger packages of the same net, which nobody needs."""
     form = {}
-    for _ in range(draw.choice([0, 1, 1, 2, 2, 3, 4])):
+    for _ in range(draw.choice([0, 1, 1, 2, 2, 3, 4]) * most // 4):
         package, net = draw_package(draw, supply), size * draw.choice([-1, 0, 0, 1, 2, 2, 3, 3, 4])
         form[package] = max(size, weighed(values, package) + net)
-    larger = min(len(form), draw.choice([0, 0, 1, 2]), 4 - len(form))
+    larger = min(len(form), draw.choice([0, 0, 1, 2]), most - len(form))
     for package in draw.sample(list(form), larger):
         at = draw.randrange(len(supply))
         wider = package[:at] + (package[at] + 1,) + package[at + 1 :]
