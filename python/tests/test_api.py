@@ -95,97 +95,7 @@ def limited(seconds):
     return wdp.Auction.from_text(example.INPUT, time_limit=seconds)
 
 
-# what is called in a folder with files, several calls where they come to the same, and what it is: * is anything
-CALLS = r"""
-values_of(wdp.Auction.from_files("rules", ["form"]).report(["X1_2 1"])) | [((), [('Alpha', 2, 50)], 50, 0)]
-[(each.group, each.names) for each in auction.compile(workers=64)] | [(1, ()), (2, ('Alpha',)), (3, ('Beta',)), (4, ('Beta', 'Gamma'))]
-auction.compile()[0].text == content("fixtures", "solvers", "three.mps") | True
-auction.compile()[1] | <wdp.Program of group 2, Alpha left out, 257 bytes>
-made(forms=FORMS, groups=[]).compile() | []
-auction.check(SMALLEST) | Counts(rows=3, columns=1, entries=2)
-won(auction.map("X1_1 1\nX3_1 1\n", 3)) | ([('Alpha', 1, 30), ('Gamma', 1, 12)], 42)
-won(auction.map({})) | ([], 0)
-won(auction.map({"X1_1": 0.9999999, "X2_1": 1e-9})) | ([('Alpha', 1, 30)], 30)
-refused(lambda: auction.map({"X1_1": 0.5}), "kind line") | ['NotZeroOne', 1]
-refused(lambda: made(forms=MORE).compile()) | ['QuantityText', 'Gamma', 6, 'A']
-refused(lambda: made(forms=[*ROWS, {**MORE[6], "A": 2.5}])) | [None, 'Gamma', 6, 'A']
-refused(lambda: made(forms=[("Alpha", [(30, 1, 0), (5, 1, 0)])]).compile()) | ['BelowReserve', 'Alpha', 1, 'amount']
-refused(lambda: made(forms=["Alpha,A,B\n5,1,0\n"]).compile(), "record bidder row") | [2, None, None]
-refused(lambda: of_bid(amount=30, A=None, B=0)) | ['QuantityText', 'Alpha', 0, 'A']
-of_bid(amount=30, A="", B=0); of_bid(amount=30, A=float("nan"), B=0) | Refused: wdp: form 1: 8 QuantityText at record 2
-of_bid(amount=30, C=1) | WrongWords: form 1, bid 1: 'C' is no category of the rules
-of_bid(A=1, B=1) | WrongWords: form 1, bid 1: there is no 'amount'
-made(forms=[{"amount": 30, "A": 1, "B": 0}]) | WrongWords: forms, row 1: there is no 'bidder'
-made(forms=DROPPED) | WrongWords: form 1, bid 1: there is no 'B'; missing_as_zero=True has it count as 0
-made(forms=DROPPED, missing_as_zero=True).input() | *\n30,1,0\n50,2,0\n28,1,0\n*
-made(rules=[{"record": "rules", "supply": 3}]) | WrongWords: rules, record 1: a record rules has no field 'supply'
-made(rules=[{"record": "lot"}]) | WrongWords: rules, record 1: 'record' is to be rules, category, bidder, pool, member, and is 'lot'
-made(rules=[{"record": ["rules"]}]) | WrongWords: rules, record 1: 'record' is to be rules, category, bidder, pool, member, and is ['rules']
-amount(30); amount(30.0); amount(Decimal(30)); amount(Decimal("30.00")); amount("30") | b'30,1,0'
-amount(30.5); amount(float("inf")); amount(True); amount(10**30 + 0.0) | WrongWords: form 1, bid 1: * is no whole number
-amount([30]); amount(1j); amount(10**5000); amount(Decimal("30.5")); amount(Decimal("sNaN")) | WrongWords: form 1, bid 1: * is no whole number
-made(rules=[("rules", 1, 1.5)]) | WrongWords: rules, record 1: 1.5 is no whole number
-auction.map({"X1_1": True}); auction.map({"X1_1": 1j}); auction.map({"X1_1": [1]}) | Refused: wdp: solution 1: 5 ValueText at line 1
-auction.map({"X1_1": 10**5000}) | WrongWords: solution 1: the value of 'X1_1' is too large
-auction.map({"X1_1": 10**30 + 0.0}) | Refused: wdp: solution 1: 6 NotZeroOne at line 1
-auction.compile("5"); auction.compile(1.5); auction.compile(None); auction.compile(10**5000) | WrongWords: workers: * is no whole number of some digits
-auction.compile("2 --help"); auction.report([], None) | WrongWords: workers: * is no whole number of some digits
-auction.compile(0); auction.compile(65) | WrongWords: error: invalid value '*' for '--workers <N>': * is not in 1..=64
-auction.compile(-1) | WrongWords: error: invalid value '-1' for '--workers <N>': invalid digit found in string
-auction.map({}, "5"); auction.map({}, [5]); auction.map({}, 10**5000) | WrongWords: group: * is no whole number of some digits
-auction.map({}, 0); auction.map({}, 1025) | WrongWords: error: invalid value '*' for '--group <K>': * is not in 1..=1024
-limited("5"); limited([5]); limited(10**5000); limited(-1); limited(0) | WrongWords: time_limit: * is no number of seconds above 0
-auction.report("X1_1 1"); auction.report(None); auction.report({}); auction.report({"X1_1 1"}) | WrongWords: solutions: a list is asked for
-auction.report([7]) | WrongWords: solution 1: a text, or a dict of columns and values, is asked for
-of_point({"X1_1\nX2_1": 1}); of_point({"#X1_1": 1}); of_point({"X1_1": ""}) | WrongWords: solution 1: a column's name and a number are asked for*
-of_point({"X1_1": "1 1"}); of_point({7: 1}) | WrongWords: solution 1: a column's name and a number are asked for, and this is '*'
-made(rules=7); made(rules={}) | WrongWords: rules: a list of records is asked for, and this is of type *
-made(rules=[7]) | WrongWords: rules, record 1: a tuple, a list or a dict is asked for, and this is of type int
-made(rules=[()]) | WrongWords: rules, record 1: it is empty
-made(forms="Alpha,A\n") | WrongWords: forms: a list of forms is asked for, and this is one text
-made(forms=[7]) | WrongWords: form 1: a text, or a pair of a bidder's name and its bids, is asked for
-made(forms={}); made(forms=[("Alpha", 7)]) | WrongWords: form*: a list of records is asked for, and this is of type *
-made(forms=[("Alpha", [7])]) | WrongWords: form 1, bid 1: a tuple, a list or a dict is asked for, and this is of type int
-made(forms=[("Alpha", [()])]) | WrongWords: form 1, bid 1: it is empty
-made(forms=["\udcff"]) | WrongWords: form 1: the text has a sign that UTF-8 doesn't have
-made(groups=7); made(groups={"-", "Beta"}) | WrongWords: groups: a list of records is asked for, and this is of type *
-made(groups=[7]) | WrongWords: groups, line 1: a line or names of bidders are asked for
-made(groups=[("Beta+Gamma",)]); made(groups=[("",)]); made(groups=[{1, "B"}]) | WrongWords: groups, line 1: names of bidders are asked for
-made(groups=["-\nBeta"]); made(groups=[("Be\nta",)]) | WrongWords: groups, line 1: a name has a line break
-made(forms=["Alpha,A,B\n", FORGED]) | Refused: form 2: line 3 begins with %, as the head of a part does
-from_files("rules", ["forged"]) | Refused: form 1: line 3 begins with %, as the head of a part does
-made(groups="-\n%form\n") | Refused: groups: line 2 begins with %, as the head of a part does
-made(rules="%rules\n") | Refused: rules: line 1 begins with %, as the head of a part does
-auction.map("X1_1 1\n%solution\n") | Refused: solution 1: line 2 begins with %, as the head of a part does
-auction.verify(SOLUTIONS, ["bound 1", "%unique"]) | Refused: certificate 2: line 1 begins with %, as the head of a part does
-auction.verify(SOLUTIONS, CERTIFICATES, "bound 1\n%tie") | Refused: unique: line 2 begins with %, as the head of a part does
-auction.verify(SOLUTIONS, CERTIFICATES, tie="%") | Refused: tie: line 1 begins with %, as the head of a part does
-from_files("rules", ["cut"]) | Refused: form 1: cut: the last line has no end, as in a file that was cut off; say allow_unended=True*
-from_files("cut", []) | Refused: rules: cut: the last line has no end, as in a file that was cut off; say allow_unended=True*
-from_files("rules", [], "cut") | Refused: groups: cut: the last line has no end, as in a file that was cut off; say allow_unended=True*
-from_files("rules", ["cut"], allow_unended=True).input() | *%form\nAlpha,A,B\n%groups\n-\n'
-from_files("none", []) | NotFound: rules: none: No such file or directory
-from_files("rules", ["form", "."]) | Refused: form 2: .: it is a folder
-from_files("pipe", []) | Refused: rules: pipe: it is a pipe
-from_files("rules", ["form", "pipe"]) | Refused: form 2: pipe: it is a pipe
-refused(lambda: from_files("rules", ["form", "pipe"]), "part number") | ['form', 2]
-from_files("rules", ["form", "loop"]) | Refused: form 2: loop: Too many levels of symbolic links
-from_files("rules", ["form", "/dev/zero"]) | Refused: form 2: /dev/zero: it is a device
-from_files("rules", ["form", "a\0b"]) | Refused: form 2: a\x00b: embedded null byte
-from_files(0, []); from_files(True, []); from_files("rules", [0]) | WrongWords: *: a path is asked for, and this is of type *
-from_files("rules", 0) | WrongWords: forms: a list is asked for
-auction.solve("gurobi"); auction.solve(""); auction.solve("true {nothing}") | WrongWords: a solver is cbc, highs, or a command with {mps}*
-auction.solve("x {mps} {other}") | WrongWords: a solver is cbc, highs, or a command with {mps}*
-auction.solve("x '{mps}") | WrongWords: the solver's command: No closing quotation
-auction.solve("x\ny"); auction.solve(7) | WrongWords: a solver is cbc, highs, or a command with {mps} in it, on one line
-auction.solve("cbc", 0); auction.solve("cbc", "5") | WrongWords: time_limit: * is no number of seconds above 0
-auction.solve("no-such-solver {mps} {out}") | NotFound: the solver no-such-solver isn't installed
-auction.solve("false {mps}") | NotSolved: group 1 (- left out): false ended with status 1: it printed nothing
-refused(lambda: auction.solve("false {mps}"), "group status") | [1, 1]
-"""
-
-
-@pytest.mark.parametrize("calls, wanted", rows(CALLS))
+@pytest.mark.parametrize("calls, wanted", rows(content("fixtures", "package", "calls.txt")))
 def test_calls(tmp_path, monkeypatch, calls, wanted):
     monkeypatch.chdir(tmp_path)
     parts = [part.partition("\n")[2] for part in example.INPUT.split("%")[1:3]]
@@ -330,38 +240,14 @@ def test_frames():
     assert "two columns of the data frame have the same name" in text
 
 
-# What refusals say, as docs/REFERENCE.md has it: part, number, kind and its number, record, line, and field.
-READ = """
-rules: 7 NumberRange at record 9 | rules None NumberRange 7 9 9 None None
-form 3: 13 RepeatedPackage at record 4, earlier bid 2 | form 3 RepeatedPackage 13 4 4 None 2
-solution 2: 8 RowBroken at row B1 | solution 2 RowBroken 8 B1 None None None
-certificate 4: 1 NoEnd at line 0 | certificate 4 NoEnd 1 0 None 0 None
-program: 9 ColumnText at line 3, column 5 | program None ColumnText 9 3 None 3 5
-form 1001: CallLimit | form 1001 CallLimit None None None None None
-input: part 5 not known | input 5 None None None None None None
-groups: no group 9 | groups 9 None None None None None None
-write failed after 17 bytes | output None None None None None None None
-desk: wrong answer | desk None None None None None None None
-"""
-NOT_READ = """
-what nobody knows
-form: 2 Header at record 1
-rules 1: 2 Header at record 1
-form 1: 2 Header at record 1 and more
-form 1: 2 header at record 1
-lots: 2 Header at record 1
-form 1: 2 Header at record one
-form \u0661: 2 Header at record 1
-input: part five not known
-"""
 PIECES = "part number kind kind_number at record line field".split()
 FAULTS_ROW = re.compile(r"\| ([0-9]+) ([A-Za-z]+) \|")
 PROMISED = re.compile(r"`([^`]+)` → `([^`]*)`: `(wdp: (\w+)(?: ([0-9]+))?: [^`]+)`")
 
 
 def test_the_pieces_of_a_refusal():
-    none = [*rows(NOT_READ), ["form 1: 2 Header at record " + "9" * 5000]]
-    for line, values in [*rows(READ), *((line, "None" + " None" * 7) for line, in none)]:
+    long = "form 1: 2 Header at record " + "9" * 5000, " ".join(["None"] * 8)
+    for line, values in [*rows(content("fixtures", "package", "refusals.txt")), long]:
         refused = wdp.Refused("wdp: " + line)
         assert " ".join(str(getattr(refused, name)) for name in PIECES) == values
     assert str(wdp.Refused("a\nb\x1b\u2028")) == "a\\nb\\x1b\\u2028"

@@ -40,25 +40,7 @@ def fails(call, kind, pattern):
     assert type(caught.value) is kind and text.isprintable() and len(text) < 2_000
 
 
-STRANGE = """
-exit 0 | isn't as docs/REFERENCE.md says
-exit 1 | ended with status 1 and said nothing$
-exit 2 | ended with status 2 and said nothing$
-exit 127 | ended with status 127 and said nothing$
-echo >&2; exit 1 | said nothing$
-printf 'group 1 -\\n'; kill -9 $$ | was ended by signal 9
-printf 'group 1 -\\n'; kill -15 $$ | was ended by signal 15
-printf 'group 1 -\\n'; kill -11 $$ | was ended by signal 11
-head -c 10000 /dev/urandom | isn't as docs/REFERENCE.md says
-yes|head -n 1000 | isn't as docs/REFERENCE.md says
-printf '\\377\\376' | isn't as docs/REFERENCE.md says
-printf '\\0' | isn't as docs/REFERENCE.md says
-printf '\\n' | isn't as docs/REFERENCE.md says
-cat | isn't as docs/REFERENCE.md says
-"""
-
-
-@pytest.mark.parametrize("text, pattern", rows(STRANGE))
+@pytest.mark.parametrize("text, pattern", rows(content("fixtures", "package", "answers.txt")))
 def test_what_is_no_answer(program, text, pattern):
     asked = program(text)
     calls = asked.compile, partial(asked.report, [""]), partial(asked.verify, [""], [""])
