@@ -125,8 +125,7 @@ def running(mark):
 
 
 # Alpha and Beta bid the same for the one lot: either may win.
-TIED = b"%rules\nrules,1,1,,\ncategory,A,1,5,1\nbidder,Alpha,9,1,\nbidder,Beta,9,1,\n%form\nAlpha,A\n20,1\n"
-TIED += b"%form\nBeta,A\n20,1\n%groups\n-\nAlpha\n"
+TIED = (ROOT / "fixtures/office/tied.txt").read_bytes()
 # the file that is installed as wdp-office: an interrupt while it begins ends it without a word
 COMMAND = ROOT / "python/src/wdp/__main__.py"
 REST = """rest() { cbc "$1" -solve -solu cbc.txt > /dev/null \\
@@ -228,8 +227,3 @@ class Office:
         *lines, _ = seen.err.splitlines()
         assert self.explain(*words)[: len(lines)] == lines
         return [line.replace(f"{self.folder}/", "") for line in lines]
-
-    def fox(self, text, *words):
-        """What is wrong with a form of Fox, without its path."""
-        self.write("forms/Fox.csv", text)
-        return [line.removeprefix("forms/Fox.csv") for line in self.refused(*words)]

@@ -5,18 +5,11 @@ read and are wrong in what they say; some certificates still show the bound, as 
 """
 import random
 import re
+from pathlib import Path
 
-BIDDERS = b"bidder,Alpha,9,2,\nbidder,Beta,9,1,\nbidder,Gamma,9,1,\n"
-WIDE = BIDDERS.replace(b",\n", b",,\n")
-POOL = b"pool,Low,2,,,\nmember,Low,A,1,,\nmember,Low,B,1,,\n" + WIDE
-FORMS = b"%form\nAlpha,A,B\n30,1,0\n50,2,1\n28,1,1\n%form\nBeta,A,B\n20,1,0\n45,3,0\n%form\nGamma,A,B\n12,0,1\n"
-GROUPS = b"%groups\n-\nBeta\nAlpha+Gamma\n"
+TEXTS = Path(__file__).resolve().parents[2] / "fixtures/damaged"
 # accepted inputs of each version of the rules
-ACCEPTED = [
-    b"%rules\nrules,1,1,,\ncategory,A,2,10,1\ncategory,B,1,5,1\n" + BIDDERS + FORMS + GROUPS,
-    b"%rules\nrules,2,1,,,\ncategory,A,2,10,1,40\ncategory,B,1,5,1,0\n" + WIDE + FORMS + GROUPS,
-    b"%rules\nrules,3,1,,,\ncategory,A,2,10,1,0\ncategory,B,1,5,1,0\n" + POOL + FORMS + GROUPS,
-]
+ACCEPTED = [(TEXTS / f"version_{version}.txt").read_bytes() for version in (1, 2, 3)]
 # what may come in the place of a field of an input, of one of its bytes, and of a word and a line of a certificate
 FIELDS = b'|0|1|00| 1|1 |-1|+1|1,5|1.5|10000|10001|1000000|1000001|1000000000000|1000000000001|x|Alpha|Delta|A|C|"1"|"|\xef\xbb\xbf|-|+'
 FIELDS += b"|999999999999999999|1000000000000000000|rules|category|bidder|pool|member|lot|2|3|4|%form|Low|High|a1|1a"

@@ -76,13 +76,12 @@ def test_certificates_are_the_judge_of_answers(auction, tmp_path):
     assert auction.read("answers/3.txt") == b"X1_1 1\n" != auction.read("solutions/3.txt")
 
 
-# no number, of other groups, none, some that hide, of which one kills its parent, and one without an end
+# no number, of other groups, none, one that hides and kills its parent, and one without an end
 LIARS = """
 echo X1_1 nan > "$2"
 echo X2_1 1 > "$2"; echo X3_1 1 >> "$2"
 exit 0
 (setsid sleep 7000 &) ; setsid sleep 7000 & kill -9 $PPID; rest "$@"
-for i in 1 2 3; do (while :; do setsid sleep 7000 & sleep 0.01; done) & done; sleep 0.3
 yes "X1_1 1" > "$2"
 """
 

@@ -1,21 +1,95 @@
 """Certificates: what is optimal gets one that the oracle accepts, a better point is found, and so is a tie; and reading programs.
 
-tests/test_damaged_certificates.py holds the oracle beside the proved program.
+tests/test_verify.py holds the oracle beside the proved program.
 """
+import itertools
 import random
 
-import auctions
 import pytest
 from commands import content, run, without
 from damage import OF_CERTIFICATE, damaged
 from oracle import Checker
 
-from wdp import certify
 from wdp.certify.layout import Layout
 from wdp.certify.search import Beaten, LimitReached, OnlySearch, Search
 from wdp.texts.refusals import Refused
 from wdp.texts.solution import read_solution
-from wdp.texts.zero_one import AT_MOST, Row, ZeroOne, read_program
+from wdp.texts.zero_one import AT_LEAST, AT_MOST, EQUAL, Column, Row, ZeroOne, read_program
+
+
+# Programs: near-tied auctions with their exact optimum, and small ones of every kind.
+
+
+def column(name, cost, entries, lower=0, upper=1):
+    return Column(name, cost, sorted(entries), lower, upper)
+
+
+def auction(supply, bids):
+    """The program of an auction; bids are lists of (amount, quantities) for each bidder."""
+    rows = [Row(f"B{at}", AT_MOST, 1) for at in range(1, len(bids) + 1)]
+    rows += [Row(f"C{at}", AT_MOST, most) for at, most in enumerate(supply, 1)]
+    columns = []
+    for bidder, offers in enumerate(bids):
+        for number, (amount, quantities) in enumerate(offers, 1):
+            entries = [(len(bids) + at, lots) for at, lots in enumerate(quantities) if lots]
+            columns.append(column(f"X{bidder + 1}_{number}", -amount, [(bidder, 1), *entries]))
+    return ZeroOne(rows, columns)
+
+
+def near_tied_bids(draw, supply, lot_value, bidders=7, bids=20):
+    """Amounts that are values of lots alone, but for up to 200 pounds: many combinations come within pounds."""
+    values = [lot_value + draw.randrange(-lot_value // 10, lot_value // 10) for _ in supply]
+    packages = [q for q in itertools.product(*(range(lots + 1) for lots in supply)) if any(q)]
+    made = []
+    for _ in range(bidders):
+        chosen = draw.sample(packages, min(bids, len(packages)))
+        worth = [sum(v * q for v, q in zip(values, package)) for package in chosen]
+        made.append([(each + draw.randrange(200), of) for each, of in zip(worth, chosen)])
+    return made
+
+
+def best_winners(supply, bids, kept=3):
+    """The greatest totals, each with its winners, falling: by lots sold, for one bidder after the other, so many for each."""
+    best = {tuple(0 for _ in supply): [(0, ())]}
+    for bidder, offers in enumerate(bids, 1):
+        after = {lots: list(totals) for lots, totals in best.items()}
+        for sold, totals in best.items():
+            for number, (amount, quantities) in enumerate(offers, 1):
+                lots = tuple(before + more for before, more in zip(sold, quantities))
+                if all(taken <= most for taken, most in zip(lots, supply)):
+                    more = [(total + amount, (*won, (bidder, number))) for total, won in totals]
+                    after.setdefault(lots, []).extend(more)
+        best = {lots: sorted(totals, reverse=True)[:kept] for lots, totals in after.items()}
+    return sorted((entry for totals in best.values() for entry in totals), reverse=True)
+
+
+def ones_of(program, winners):
+    return {program.column_places["X%d_%d" % winner] for winner in winners}
+
+
+def all_points(program):
+    """Every point of a small program, as the set of its columns at 1."""
+    for values in itertools.product((0, 1), repeat=len(program.columns)):
+        ones = {place for place, value in enumerate(values) if value}
+        if program.fault_of(ones) is None:
+            yield ones
+
+
+def small_program(draw):
+    """Rows of all kinds, coefficients of both signs, fixed columns, blocks and columns without one."""
+    count, kinds = draw.randrange(1, 9), [AT_MOST, AT_MOST, AT_LEAST, EQUAL]
+    sides = [(draw.choice(kinds), draw.randrange(-2, 5)) for _ in range(draw.randrange(0, 5))]
+    rows = [Row(f"R{at}", *each) for at, each in enumerate(sides)]
+    rows += [Row(f"B{at}", AT_MOST, 1) for at in range(draw.randrange(0, 4))]
+    columns = []
+    for at in range(count):
+        places = [place for place in range(len(sides)) if draw.random() < 0.6]
+        entries = [(place, draw.choice([-2, -1, 1, 1, 2, 3])) for place in places]
+        if len(rows) > len(sides) and draw.random() < 0.8:
+            entries.append((draw.randrange(len(sides), len(rows)), 1))
+        lower, upper = draw.choice([(0, 1)] * 6 + [(0, 0), (1, 1)])
+        columns.append(column(f"X{at}", draw.randrange(-20, 10), entries, lower, upper))
+    return ZeroOne(rows, columns)
 
 
 def read(text):
@@ -59,10 +133,10 @@ COSTS = {
 def test_small_programs_of_which_each_point_is_tried(seed, count, cost):
     draw = random.Random(seed)
     while count:
-        program = auctions.small_program(draw)
+        program = small_program(draw)
         for column in program.columns:
             column.cost = cost(draw, column.cost)
-        points = sorted(auctions.points(program), key=program.objective)
+        points = sorted(all_points(program), key=program.objective)
         if points:
             count -= 1
             least = program.objective(points[0])
@@ -76,37 +150,37 @@ def test_small_programs_of_which_each_point_is_tried(seed, count, cost):
 @pytest.mark.parametrize("supply", [(6, 5), (8, 8), (4, 4, 3)])
 def test_near_tied_auctions(lot_value, supply):
     draw = random.Random(f"{lot_value} {supply}")
-    bids = auctions.near_tied_bids(draw, supply, lot_value)
-    program = auctions.auction(supply, bids)
-    totals = auctions.best_winners(supply, bids, 4)
-    best = auctions.ones_of(program, totals[0][1])
+    bids = near_tied_bids(draw, supply, lot_value)
+    program = auction(supply, bids)
+    totals = best_winners(supply, bids, 4)
+    best = ones_of(program, totals[0][1])
     worse = next(winners for total, winners in totals if total < totals[0][0])
-    for ones in (best, auctions.ones_of(program, worse)):
+    for ones in (best, ones_of(program, worse)):
         certified(program, ones, -totals[0][0])
     assert only(program, best) == (totals[1][0] < totals[0][0])
 
 
 def test_programs_at_the_edge():
-    assert certified(auctions.auction([2, 1], []), set(), 0) == b"bound 1\n"
+    assert certified(auction([2, 1], []), set(), 0) == b"bound 1\n"
     for columns in ([], [("K", -80, [], 1, 1)], [("X", -80, [], 0, 0)]):
         for sides in ([], [Row("C", AT_MOST, 1)]):
-            program = ZeroOne(sides, [auctions.column(*each) for each in columns])
+            program = ZeroOne(sides, [column(*each) for each in columns])
             ones = {at for at, column in enumerate(program.columns) if column.lower}
             certified(program, ones, program.objective(ones))
             assert only(program, ones)
     # nobody wins; an offer of net 0 ties with that
-    assert only(auctions.auction([1], [[(-1, (1,))]]), set())
-    assert not only(auctions.auction([1], [[(0, (1,))]]), set())
+    assert only(auction([1], [[(-1, (1,))]]), set())
+    assert not only(auction([1], [[(0, (1,))]]), set())
     # the row of the others is X0 + X1 at most 1, which looks like that of a block
-    program = ZeroOne([], [auctions.column("X0", -3, []), auctions.column("X1", -4, [])])
+    program = ZeroOne([], [column("X0", -3, []), column("X1", -4, [])])
     assert only(program, {0, 1}) and not only(program, {0})
 
 
 def test_limits():
     draw, supply = random.Random(4), (5, 5, 5)
-    bids = auctions.near_tied_bids(draw, supply, 10**9)
-    program = auctions.auction(supply, bids)
-    best = auctions.ones_of(program, auctions.best_winners(supply, bids, 1)[0][1])
+    bids = near_tied_bids(draw, supply, 10**9)
+    program = auction(supply, bids)
+    best = ones_of(program, best_winners(supply, bids, 1)[0][1])
     said = "limit .*is reached after .* the least objective is between"
     with pytest.raises(LimitReached, match=said) as reached:
         Search(Layout(program), best, lines=1).certificate()
@@ -148,10 +222,6 @@ def test_the_command(folder):
 def test_a_missing_package(folder):
     seen = run("certify", "p.mps", "best", **without("swiglpk", folder))
     assert seen.status == 1 and "apt-get install -y python3-swiglpk" in seen.err
-
-
-def test_a_tie_that_is_better():
-    assert certify.only(SMALL, WORSE) == certify.Only("tie", BEST, 12)
 
 
 # Three columns, any two of which exclude one another: halves of all three are the best fractions, at -3.

@@ -109,10 +109,18 @@ def test_each_fault_of_each_file(office):
 
 def test_cells_forge_no_line(office):
     for row in ('"50\n00\x1b",1,1', 'x,"1\u202e\n\n",1', "1,2\x1b,\x9b3,4"):
-        lines = office.fox(form("Fox", row))
-        assert all(line.isprintable() and line.startswith(":2:") for line in lines), lines
-    (line,) = office.fox("Fox," + '"a\nb\x1b",' * 900 + "\n")
+        office.write("forms/Fox.csv", form("Fox", row))
+        for line in office.refused():
+            assert line.isprintable() and line.startswith("forms/Fox.csv:2:"), line
+    office.write("forms/Fox.csv", "Fox," + '"a\nb\x1b",' * 900 + "\n")
+    (line,) = office.refused()
     assert line.isprintable() and len(line) < 2_000
+
+
+def test_a_hundred_faults_of_a_file_are_printed(office):
+    office.write("forms/Fox.csv", form("Fox", *["x,1,1"] * 150))
+    lines = office.refused()
+    assert (len(lines), lines[-1]) == (101, "forms/Fox.csv: 50 more faults in this file")
 
 
 NAMES = (
@@ -232,22 +240,8 @@ def test_an_accepted_input_is_read_however_it_is_written():
             accepted.read(text, "input")
 
 
-# Records of comma separated values at their edges: a text, and its rows of fields.
-RECORDS = """
-⏎␍⏎␍ |
-a,b␍c | a b/c
-a␍⏎␍⏎b⏎ | a/b
-"a b",⏎ | a_b #
-"" | #
-"a""b" | a"b
-"Al"pha | Alpha
-a"b" | a"b"
-"a⏎b | a⏎b
-"""
-
-
 def test_records_and_what_is_written_is_read_back():
-    for text, wanted in rows(RECORDS):
+    for text, wanted in rows(content("fixtures", "office", "records.txt")):
         fields = [line.split(" ") for line in wanted.split("/") if line]
         shown = [["" if it == "#" else it.replace("_", " ") for it in row] for row in fields]
         assert [row.values for row in Records(text)] == shown

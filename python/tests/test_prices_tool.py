@@ -15,16 +15,11 @@ import wdp as package
 from wdp import prices
 
 
-def subsets(things):
-    sizes = range(len(things) + 1)
-    return [frozenset(some) for size in sizes for some in itertools.combinations(things, size)]
-
-
 def rule(amounts, reserves, costs):
     """The prices of the rule, of all whole ones: of the least sum that covers each group the nearest to the costs alone, the
     first of these."""
     tried = itertools.product(*map(range, reserves, [amount + 1 for amount in amounts]))
-    alone = [costs[frozenset([at])] for at in range(len(amounts))]
+    alone = [costs[at,] for at in range(len(amounts))]
     covering = (p for p in tried if all(sum(p[at] for at in g) >= n for g, n in costs.items()))
     return min(covering, key=lambda p: (sum(p), sum((x - n) ** 2 for x, n in zip(p, alone)), p))
 
@@ -44,14 +39,10 @@ def small(number):
 def expected(auction, won):
     """The prices of the rule for an award, from what is feasible without each group of its winners."""
     bids = [tied_auctions.bid_of(auction, each) for each in won]
-
-    def cost(group):
-        best = tied_auctions.greatest(auction, [won[at][0] for at in group])[0]
-        more = tied_auctions.total(auction, best) - tied_auctions.total(auction, won)
-        return more + sum(bids[at].amount for at in group)
-
     reserves = [tied_auctions.weighed(auction.reserves, bid.package) for bid in bids]
-    costs = {group: cost(group) for group in subsets(range(len(won)))}
+    groups = tied_auctions.subsets(range(len(won)))
+    without = {group: [won[at][0] for at in group] for group in groups}
+    costs = {it: tied_auctions.cost_of(auction, won, without[it]) for it in groups}
     return rule([bid.amount for bid in bids], reserves, costs)
 
 
@@ -132,13 +123,10 @@ def test_large_amounts_stay_exact(unit):
 
 office = functools.partial(run, stdin=subprocess.DEVNULL)
 
-TABLE = """\
-Winner  Cost alone  Price  Amount  Bound by
-Alpha            0     10      30  reserve
-Beta             8     14      20  Beta + Gamma
-Gamma            0      6      12  Beta + Gamma
-All              8     30      62
-"""
+# what docs/OFFICE.md shows of the prices of the worked example
+TABLE = (
+    content("docs", "OFFICE.md").split("prices worked --quiet 2> printed.txt\n")[1].split("```")[0]
+)
 ADDED = "group 5 Gamma\nAlpha 2 50\ntotal 50\ncost 0\nprices\nAlpha 10\nBeta 14\nGamma 6\nsum 30\nleast\n"
 
 

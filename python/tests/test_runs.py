@@ -6,14 +6,14 @@ import sys
 from pathlib import Path
 
 import pytest
-from commands import EXAMPLES, content, environment, is_in, rows, run
+from commands import EXAMPLES, content, environment, is_in, rows, run, running, wait_for
 
 
 @pytest.mark.parametrize(
     "change, words, status, said", rows(content("fixtures", "office", "runs.txt"))
 )
-def test_run(office, monkeypatch, change, words, status, said):
-    """What is refused has no output and leaves all as it was; what gather says of faults, explain says, too."""
+def test_run(office, monkeypatch, mark, change, words, status, said):
+    """What is refused has no output, and nothing is changed or left at work; what gather says of faults, explain says, too."""
     monkeypatch.chdir(office.folder)
     for name in ("worked.txt", "worked_pool.txt", "worked_pool.report.txt"):
         shutil.copy(EXAMPLES / name, name)
@@ -23,10 +23,17 @@ def test_run(office, monkeypatch, change, words, status, said):
         monkeypatch.setenv("WDP", str(office.folder / "wdp"))
     given, before = shlex.split(words.replace("@", "rules.csv forms groups.txt")), office.there()
     seen = run(*given)
-    assert seen.status == int(status) and is_in(said, seen.err or seen.out), seen
+    assert seen.status == int(status) and is_in(said, "^" + (seen.err or seen.out)), seen
     assert office.there() == before
-    assert seen.status or not words.startswith("gather") or seen.out.startswith("%rules\n")
-    assert not seen.status or words.startswith("explain") or seen.out == "", seen
+    wait_for(lambda: not running(mark), 30)
+    if seen.status:
+        # (what explain is asked for are faults)
+        is_listed = words.startswith("explain") and seen.err == ""
+        assert is_listed or seen.out == "", seen
+        has_more = is_listed or words.startswith(("gather", "certify"))
+        assert has_more or seen.err.count("\n") == 1, seen
+    elif words.startswith("gather"):
+        assert seen.out.startswith("%rules\n"), seen
     if words.startswith("gather @") and status == "1" and "--output" not in words:
         *faults, _ = seen.err.splitlines()
         assert run("explain", *given[1:]).out.splitlines()[: len(faults)] == faults

@@ -58,6 +58,17 @@ def greatest(auction, left_out=()):
     return [allocation for allocation in found if total(auction, allocation) == most]
 
 
+def subsets(things):
+    sizes = range(len(things) + 1)
+    return [some for size in sizes for some in itertools.combinations(things, size)]
+
+
+def cost_of(auction, won, group):
+    """What bidders cost the others if these win."""
+    own = sum(bid_of(auction, winner).amount for winner in won if winner[0] in group)
+    return total(auction, greatest(auction, group)[0]) - (total(auction, won) - own)
+
+
 def rivals(auction, allocation):
     """With another bid in a winner's place, what is feasible and has the same total: winner by winner, and by the bid's number."""
     others = [

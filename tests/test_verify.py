@@ -1,28 +1,36 @@
-"""What `wdp verify` tells of ties, of winners who are the only ones, and of prices, beside all that can win in small auctions.
+"""`wdp verify` beside an independent checker, and all that can win in small auctions: ties, winners who are the only ones, prices, and
+damaged certificates.
 
 Random auctions have few lots, bidders and amounts, so that much ties; some have values of unsold lots and pools, bids of net 0, bids
 that have no column, or nobody who wins. All that is feasible is listed from the definitions, over all bids, and the independent
-checker judges each certificate. (What is refused is shown by cases.)
+checker judges each certificate. (What else is refused is shown by cases.)
 
 - One of the allocations of the greatest total is the solution of group 1, and what the search among all other points of its program
   comes to is claimed: `unique` is printed where the list has one of the greatest total, and else `tie` and another of the list.
 - A cover is accepted if and only if the prices cover the cost of each set of bidders, and `least` is printed if and only if the weights
   show it; and then no whole prices that cover every set and meet the reserves have a lower sum.
+- Ten thousand certificates are damaged copies of seven, three of these of winners who are the only ones. The report is printed where
+  the checker finds the bound shown, and else the number, the kind and the line of its first fault. Where it says that a sum could
+  leave 128 bits at a line, `wdp` may stop there.
 """
 
 import itertools
 import math
 import random
+import re
 from copy import deepcopy
+from pathlib import Path
 
 import pytest
 import tied_auctions as tied
+from damage import damaged
 from oracle import Checker
-from tied_auctions import BIDDERS, CATEGORIES, bid_of, total
+from tied_auctions import BIDDERS, bid_of
 from trials.judging import KINDS, done, refused, row, seen
+from trials.program import ROOT
 from wdp.certify.layout import Layout
 from wdp.certify.search import Beaten, OnlySearch, Search
-from wdp.texts.solution import solution_text
+from wdp.texts.solution import read_solution, solution_text
 from wdp.texts.zero_one import read_program
 
 # so many auctions are tried in one test
@@ -112,47 +120,32 @@ def test_winners(wdp, first):
     assert first or [kinds[number] for number in NUMBERS.values()] == list(NUMBERS)
 
 
-def subsets(things):
-    sizes = range(len(things) + 1)
-    return [it for size in sizes for it in itertools.combinations(things, size)]
-
-
 class Pricing:
     """An auction with reserves, what sets of its bidders cost by the definitions, and its input before the prices."""
 
     def __init__(self, wdp, auction, draw):
-        self.wdp, self.auction, self.draw = wdp, auction, draw
         reserves, bids = [0] * len(auction.supply), sum(auction.forms, [])
         if bids and draw.random() < 0.5:
             most = min(bid.amount // sum(bid.package) for bid in bids)
             reserves = [draw.randrange(most + 1) for _ in auction.supply]
-        self.first = Group(auction, programs_of(wdp, self.text([()], reserves))[0], (), draw)
+        auction = auction._replace(reserves=reserves)
+        self.wdp, self.auction, self.draw = wdp, auction, draw
+        text = tied.input_text(auction, [()]).encode()
+        self.first = Group(auction, programs_of(wdp, text)[0], (), draw)
         self.bid = {bidder: bid_of(auction, (bidder, bid)) for bidder, bid in self.first.won}
         self.reserve = {it: tied.weighed(reserves, bid.package) for it, bid in self.bid.items()}
-        everybody = range(1, len(auction.forms) + 1)
-        self.cost = {group: self.cost_of(group) for group in subsets(everybody)}
-        self.groups = subsets(sorted(self.bid))[:8]
-        text = self.text(self.groups, reserves)
+        everybody = tied.subsets(range(1, len(auction.forms) + 1))
+        self.cost = {group: tied.cost_of(auction, self.first.won, group) for group in everybody}
+        self.groups = tied.subsets(sorted(self.bid))[:8]
+        text = tied.input_text(auction, self.groups).encode()
         others = list(zip(programs_of(wdp, text), self.groups))[1:]
         answers = [self.first] + [Group(auction, *it, draw) for it in others]
         self.input, self.report = answered(auction, text, self.groups, answers)
-
-    def text(self, groups, reserves):
-        text = tied.input_text(self.auction, groups)
-        for name, lots, reserve in zip(CATEGORIES, self.auction.supply, reserves):
-            head = f"category,{name},{lots},"
-            text = text.replace(f"{head}0,1", f"{head}{reserve},1")
-        return text.encode()
 
     def verified(self, *parts):
         return seen(self.wdp, ["verify"], self.input + b"".join(parts))
 
     # By the definitions.
-
-    def cost_of(self, group):
-        without = total(self.auction, tied.greatest(self.auction, group)[0])
-        own = sum(bid.amount for bidder, bid in self.bid.items() if bidder in group)
-        return without - (total(self.auction, self.first.won) - own)
 
     def covers(self, price):
         sums = ((sum(price.get(it, 0) for it in group), cost) for group, cost in self.cost.items())
@@ -260,3 +253,53 @@ def test_prices(wdp, first):
     came_up = set().union(*(priced(wdp, number) for number in range(first, first + COUNT)))
     # (the first block shows that each outcome comes up; the auctions are the same in each run)
     assert first or len(came_up) == 4
+
+
+# Damaged certificates.
+
+# so many certificates are tried in one test; a solution, an auction, and what is damaged
+DAMAGES, CERTIFICATES = 200, Path(ROOT, "fixtures", "certificates")
+
+
+class Certified:
+    """An auction with a certificate of its total, or one that no other is as good, which is the last part of a text, and is damaged."""
+
+    def __init__(self, wdp, text):
+        parts = re.split(rb"(?m)^%(\w+)\n", text)
+        of, kind, self.damaged = dict(zip(parts[1::2], parts[2::2])), parts[-2], parts[-1]
+        self.before = text.removesuffix(self.damaged)
+        uncertified = text.partition(b"%certificate")[0]
+        program = programs_of(wdp, uncertified.removeprefix(b"%solution\n" + of[b"solution"]))[0]
+        ones, checker = read_solution(of[b"solution"], program, "the solution"), Checker(program)
+        self.report, self.what = seen(wdp, ["report"], uncertified)[1], "certificate 1"
+        self.judge = lambda it: checker.verdict(program.objective(ones), it)
+        if kind == b"unique":
+            self.report, self.what = self.report + b"unique\n", "unique"
+            self.judge = lambda it: checker.only_verdict(ones, it)
+
+    def wanted(self, certificate):
+        """What wdp may say: status, output and standard error."""
+        fault, large_lines = self.judge(certificate)
+        faults = [(fault.line, fault.kind)] if fault else []
+        faults += [(line, "TooLarge") for line in large_lines]
+        told = [f"{KINDS.index(kind) + 1} {kind} at line {line}" for line, kind in faults]
+        shown = [] if fault else [done(self.report)]
+        return [refused(f"{self.what}: {it}") for it in told] + shown
+
+
+@pytest.fixture(scope="module")
+def prepared(wdp):
+    return [Certified(wdp, path.read_bytes()) for path in sorted(CERTIFICATES.iterdir())]
+
+
+@pytest.mark.parametrize("first", range(0, 10_000, DAMAGES))
+def test_damaged(wdp, prepared, first):
+    """The first copies are whole."""
+    for number in range(first, first + DAMAGES):
+        auction, is_whole = prepared[number % len(prepared)], number < len(prepared)
+        whole = auction.damaged, []
+        certificate, names = whole if is_whole else damaged(auction.damaged, "1", number)
+        with row(f"certificate {number} ({'+'.join(names)})"):
+            wanted = auction.wanted(certificate)
+            assert not is_whole or wanted == [done(auction.report)]
+            assert seen(wdp, ["verify"], auction.before + certificate) in wanted
