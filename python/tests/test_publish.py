@@ -295,13 +295,14 @@ def objects(value):
 def test_the_schema_takes_each_field_of_its_kind_and_no_others():
     jsonschema.Draft202012Validator.check_schema(SCHEMA.schema)
     listed = [each for each in objects(SCHEMA.schema) if "properties" in each]
-    assert len(listed) == 10
+    # (numbers are whole ones)
+    assert len(listed) == 10 and '"type": "number"' not in json.dumps(SCHEMA.schema)
     for each in listed:
-        assert each["required"] == list(each["properties"]) and not each["additionalProperties"]
-        kinds = [
-            {"$ref", "anyOf", "enum", "type"} & set(field) for field in each["properties"].values()
-        ]
-        assert all(kinds), each
+        fields, has_others = each["properties"], each["additionalProperties"]
+        assert (each["required"], has_others) == (list(fields), False)
+        assert all(
+            {"$ref", "anyOf", "enum", "type"} & set(field) for field in fields.values()
+        ), each
 
 
 # widths in CSS pixels; of paper what a page shows of 1/96 inch: A4 upright is 210 mm, less margins of 12 mm
