@@ -1,4 +1,4 @@
-"""The program on damaged texts: cut at every byte, with carriage returns, odd numbers and values, too long, and many. What each
+"""The program on damaged texts: cut at every byte, with odd numbers and values, too long, and many. What each
 text has to give is in tables here and in fixtures/damaged, made by hand from what the formats say."""
 
 import os
@@ -84,11 +84,6 @@ def many_forms():
         first = min(faulty)
         wanted = refused(f"form {first}: {faulty[first][1]}")
         yield f"5,000 forms, faulty in {list(faulty)}", TEXT, rules_and(*forms), wanted
-    # A bidder has a thousand calls. Form 4,097 is the last one, and Alpha's.
-    forms = [f"{it},A,B\n" for it in "Beta Gamma Delta Epsilon".split() for _ in range(1_000)]
-    more = rules_and(*forms, *["Alpha,A,B\n"] * 96, ALPHA)
-    more = more.replace(RULES, RULES + "bidder,Delta,9,1,\nbidder,Epsilon,9,1,\n")
-    yield "4,097 forms", TEXT, more, done(TWO_BIDS_OF_ALPHA)
     no_form = refused("form 1: 2 Header at record 1")
     yield "two million forms without a header", TEXT, rules_and(*[""] * 2_000_000), no_form
 

@@ -25,10 +25,8 @@ def test_nine_exports_join_to_the_text_made_by_hand(office):
     assert office.explain() == ["nothing is wrong"]
     lines = seen.err.split("\n\n")[0].splitlines()
     assert [line.split(": ")[0] for line in lines] == ["rules", *BIDDERS, "groups", "input"]
-    for rule, groups in (["each"], BIDDERS), (
-        ["winners", office.folder / "report.txt"],
-        ["Bee", "Fox"],
-    ):
+    winners = ["winners", office.folder / "report.txt"]
+    for rule, groups in ((["each"], BIDDERS), (winners, ["Bee", "Fox"])):
         joined = office.gather("--groups", *rule).out
         assert joined.split("%groups\n")[1].split() == ["-", *groups]
 
@@ -57,12 +55,8 @@ def test_both_files_are_written_or_neither_and_a_link_stays_one(office):
     assert office.there() == before
     words[3].symlink_to("elsewhere.txt")
     seen = office.gather(*words)
-    assert (seen.status, words[1].read_text(), os.readlink(words[3])) == (
-        0,
-        BY_HAND,
-        "elsewhere.txt",
-    )
-    assert (office.folder / "elsewhere.txt").read_text() == seen.err
+    assert (seen.status, words[1].read_text()) == (0, BY_HAND)
+    assert os.readlink(words[3]) == "elsewhere.txt" and words[3].read_text() == seen.err
 
 
 SHEET = [["Fox", "Low", "High"], [5000, 2, 1], [9900, 4, 0], [3000, 0, 3]]

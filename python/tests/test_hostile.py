@@ -186,10 +186,8 @@ def test_no_answer_is_taken_for_another(pytestconfig):
     more = {"prices": prices, "cover": cover, "weights": weights}
     report = wdp.Auction.from_text(own).verify([], [], **more)
     assert report == read_report(verified, Asked(audit.encode()), True) and report.is_certified
-    asked, right = (
-        Asked(f"{audit}%tie\n".encode()),
-        verified + b"tie\nAlpha 2 50\nGamma 1 12\ntotal 62\n",
-    )
+    asked = Asked(f"{audit}%tie\n".encode())
+    right = verified + b"tie\nAlpha 2 50\nGamma 1 12\ntotal 62\n"
     report = read_report(right, asked, True)
     for _ in range(5_000):
         answer = bytearray(right)

@@ -124,9 +124,8 @@ def test_large_amounts_stay_exact(unit):
 office = functools.partial(run, stdin=subprocess.DEVNULL)
 
 # what docs/OFFICE.md shows of the prices of the worked example
-TABLE = (
-    content("docs", "OFFICE.md").split("prices worked --quiet 2> printed.txt\n")[1].split("```")[0]
-)
+SHOWN = content("docs", "OFFICE.md").split("prices worked --quiet 2> printed.txt\n")[1]
+TABLE = SHOWN.split("```")[0]
 ADDED = "group 5 Gamma\nAlpha 2 50\ntotal 50\ncost 0\nprices\nAlpha 10\nBeta 14\nGamma 6\nsum 30\nleast\n"
 
 

@@ -11,7 +11,7 @@ from html import escape, unescape
 
 import jsonschema
 import pytest
-from commands import content, output, run, small_files, stopped, without
+from commands import OFFICE, content, output, run, small_files, stopped, without
 
 from wdp.publish.results import cell_text
 
@@ -19,13 +19,10 @@ NAMES = ["worked", "worked_pool", "spectrum", "unsold_values", "spectrum_cap", "
 FILES = ["bidders.csv", "categories.csv", "groups.csv", "pools.csv", "results.html", "results.json"]
 # One lot, and two bids of 10 for it: by which is first, Alpha's cost is 10 or 0.
 TIE, TIE_REPORT, AUDIT, TIED = (
-    content("fixtures", "office", "folder", f"tie.{kind}txt")
-    for kind in ("", "report.", "audit.", "tied.")
+    (OFFICE / f"tie{kind}.txt").read_text() for kind in ("", ".report", ".audit", ".tied")
 )
-SOLUTIONS, CERTIFICATES = (
-    "%solution\nX1_1 1\n%solution\nX2_1 1\n",
-    "%certificate\nbound 1 C1 10\n" * 2,
-)
+SOLUTIONS = "%solution\nX1_1 1\n%solution\nX2_1 1\n"
+CERTIFICATES = "%certificate\nbound 1 C1 10\n" * 2
 SCHEMA = jsonschema.Draft202012Validator(json.loads(content("docs", "results.schema.json")))
 CELL = re.compile(r'<(t[hd])(?: scope="(\w+)")?[^>]*>(.*?)</t[hd]>', re.S)
 POOL_TEXT = content("fixtures", "office", "results.txt")

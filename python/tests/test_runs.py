@@ -9,9 +9,10 @@ import pytest
 from commands import EXAMPLES, content, environment, is_in, rows, run, running, wait_for
 
 
-@pytest.mark.parametrize(
-    "change, words, status, said", rows(content("fixtures", "office", "runs.txt"))
-)
+RUNS = rows(content("fixtures", "office", "runs.txt"))
+
+
+@pytest.mark.parametrize("change, words, status, said", RUNS)
 def test_run(office, monkeypatch, mark, change, words, status, said):
     """What is refused has no output, and nothing is changed or left at work; what gather says of faults, explain says, too."""
     monkeypatch.chdir(office.folder)
