@@ -60,6 +60,11 @@ least-step f i cs sum next n all e s h =
     let moved : next +ℤ least_sum f (i + 1) (drop (suc i) cs) ≡ all = omega (arith, ints) in
     rw after moved
 
+pub least-end : (f : ℕ → TableColumn → ℤ) (i : ℕ) (cs : List TableColumn) (sum all : ℤ) → length cs ≤ i → sum +ℤ least_sum f i (drop i cs) ≡ all → sum ≡ all
+least-end f i cs sum all l h =
+    let e : sum +ℤ pos 0 ≡ all = ap (λ (ds : List TableColumn). sum +ℤ least_sum f i ds) (sym (drop_all i cs l)) ∙ h in
+    omega (arith, ints)
+
 -- ---------- what columns are given ----------
 
 columns_there : (ys : List ℤ) (p i : ℕ) (cs : List TableColumn) (es : Form) (q : ℕ) → option_map (λ c. c.entries) (slice_get cs i) ≡ Some es

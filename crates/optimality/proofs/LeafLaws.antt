@@ -185,16 +185,17 @@ given-is p scale ys cuts rows numbers given =
     omega (arith, ints))
 
 -- what the code computes of a column
-pub given-cost : (scale : ℤ) (cs : List TableColumn) (place : ℕ) (cost product given n : ℤ) → option_map (λ c. c.cost) (slice_get cs place) ≡ Some cost
-    → product ≡ scale *ℤ cost → n ≡ product +ℤ given → option_map (λ c. scale *ℤ c.cost +ℤ given) (slice_get cs place) ≡ Some n
-given-cost scale cs place cost product given n k p s = by (slice_get cs place) k
+pub given-cost : (scale : ℤ) (cs : List TableColumn) (place : ℕ) (cost given n : ℤ) → option_map (λ c. c.cost) (slice_get cs place) ≡ Some cost
+    → n ≡ given +ℤ scale *ℤ cost → option_map (λ c. scale *ℤ c.cost +ℤ given) (slice_get cs place) ≡ Some n
+given-cost scale cs place cost given n k s = by (slice_get cs place) k
   where
     by : (o : Option TableColumn) → option_map (λ c. c.cost) o ≡ Some cost → option_map (λ c. scale *ℤ c.cost +ℤ given) o ≡ Some n
     by None x = absurd cc
     by (Some c) x =
         let same : c.cost ≡ cost = cc in
-        let of_cost : scale *ℤ c.cost ≡ product = ap (λ (m : ℤ). scale *ℤ m) same ∙ sym p in
-        ap Some (ap (λ (m : ℤ). m +ℤ given) of_cost ∙ sym s)
+        let of_cost : scale *ℤ c.cost ≡ scale *ℤ cost = ap (λ (m : ℤ). scale *ℤ m) same in
+        let all : scale *ℤ c.cost +ℤ given ≡ n = omega (arith, ints) in
+        ap Some all
 
 pub least-is : (p : Table) (scale : ℕ) (ys : List ℕ) (cuts : List Cut) (rows : Form) (numbers : List ℤ) → IsProgram p
     → ((q : ℕ) → number_at numbers q ≡ cuts_given ys cuts q +ℤ rows_given rows (row_forms p) q)

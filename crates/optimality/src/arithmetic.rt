@@ -36,13 +36,6 @@ pub fn narrow(number: i128) -> Option<i64>
     i64::try_from(number).ok()
 }
 
-/// The product of numbers of 64 bits, if it fits 64 bits too.
-pub fn narrow_product(factor: i64, number: i64) -> Option<i64>
-    ensures { IfSome result (λ n. n ≡ factor *ℤ number) }
-{
-    factor.checked_mul(number)
-}
-
 /// The product of numbers of 64 bits, which never leaves 128 bits: no check, and one instruction.
 pub fn product(a: i64, b: i64) -> i128
     ensures { result ≡ a *ℤ b }
@@ -61,6 +54,16 @@ pub fn plus_product(number: i128, product: i128) -> Result<i128, Limit>
         return Err(Limit::TooLarge);
     }
     Ok(number + product)
+}
+
+/// The same without a reason.
+pub fn plus_multiple(sum: i128, factor: i64, number: i64) -> Option<i128>
+    ensures { IfSome result (λ n. n ≡ sum +ℤ factor *ℤ number) }
+{
+    match plus_product(sum, product(factor, number)) {
+        Ok(next) => Some(next),
+        Err(_) => None,
+    }
 }
 
 /// A product of numbers that mostly fit 64 bits.

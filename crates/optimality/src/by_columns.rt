@@ -1,7 +1,7 @@
 //! The least that all columns come to, by what cuts and rows give each of them. Each call answers nothing if a number is beyond what it
 //! takes, or if there is no memory.
 
-ghost use Rattle.std.specs.Prelude.{◌≡◌, ◌<◌, ◌+ℤ◌, ◌*ℤ◌, IfSome, Some, length, pos, slice_get};
+ghost use Rattle.std.specs.Prelude.{◌≡◌, ◌<◌, ◌+ℤ◌, ◌*ℤ◌, IfSome, Some, length, slice_get};
 ghost use Rattle.std.specs.List.{enumerate_from};
 ghost use Rattle.std.specs.Option.{option_map};
 ghost use Rattle.optimality.specs.Certificates.{sum_of};
@@ -12,7 +12,7 @@ ghost use Rattle.optimality.specs.inside.Holding.{cuts_of};
 ghost use Rattle.optimality.specs.inside.RowForms.{forms_held, row_forms as forms_of};
 ghost use Rattle.optimality.specs.Reduced as reduced;
 
-use crate::arithmetic::scaled;
+use crate::arithmetic::{narrow, plus_multiple};
 use crate::by_entries::add_rows_by_entries;
 use crate::checker::Checker;
 use crate::leaf::Leaf;
@@ -74,19 +74,19 @@ fn plus(a: i128, b: i128) -> Option<i128>
 }
 
 /// The scaled cost of a column, with what it is given.
-fn reduced_cost(program: &Selection<'_>, scale: u64, given: &[i64], column: usize) -> Option<i128>
+fn reduced_cost(program: &Selection<'_>, scale: i64, given: &[i64], column: usize) -> Option<i128>
     requires { column < length program.now.columns }
-    ensures { IfSome result (λ n. option_map (λ c. pos scale *ℤ c.cost
+    ensures { IfSome result (λ n. option_map (λ c. scale *ℤ c.cost
         +ℤ adding.number_at given.now column) (slice_get program.now.columns column) ≡ Some n) }
 {
-    let cost = scaled(scale, program.cost(column));
-    plus(cost, i128::from(number_at(given, column)))
+    let given = i128::from(number_at(given, column));
+    plus_multiple(given, scale, program.cost(column))
 }
 
 /// The least that a column contributes.
-fn part_of(program: &Selection<'_>, scale: u64, given: &[i64], column: usize) -> Option<i128>
+fn part_of(program: &Selection<'_>, scale: i64, given: &[i64], column: usize) -> Option<i128>
     requires { column < length program.now.columns }
-    ensures { IfSome result (λ n. option_map (λ c. reduced.least_part c.bounds (pos scale *ℤ c.cost
+    ensures { IfSome result (λ n. option_map (λ c. reduced.least_part c.bounds (scale *ℤ c.cost
         +ℤ adding.number_at given.now column)) (slice_get program.now.columns column) ≡ Some n) }
 {
     let cost = reduced_cost(program, scale, given, column)?;
@@ -94,8 +94,9 @@ fn part_of(program: &Selection<'_>, scale: u64, given: &[i64], column: usize) ->
 }
 
 /// The least that columns contribute that are given these numbers.
-fn least_given(program: &Selection<'_>, scale: u64, given: &[i64]) -> Option<i128>
-    ensures { IfSome result (λ n. n ≡ least_with (pos scale) (adding.number_at given.now)
+#[inline(never)]
+fn least_given(program: &Selection<'_>, scale: i64, given: &[i64]) -> Option<i128>
+    ensures { IfSome result (λ n. n ≡ least_with scale (adding.number_at given.now)
         program.now.columns) }
 {
     let mut sum: i128 = 0;
@@ -136,5 +137,6 @@ pub fn least_by_columns(
         e.0 e.1)) (enumerate_from 0 checker.now.program.now.columns)) }
 {
     let given = given_to_all(checker, splits, leaf, rows)?;
-    least_given(checker.program, leaf.scale, given.as_slice())
+    let scale = narrow(i128::from(leaf.scale))?;
+    least_given(checker.program, scale, given.as_slice())
 }

@@ -4,7 +4,7 @@ ghost use Rattle.std.specs.Prelude.{◌≡◌, IfSome};
 ghost use Rattle.optimality.specs.inside.Adding.{AreGivenMore, AreNone, AreOf, HaveRows};
 ghost use Rattle.optimality.specs.inside.ByEntries.{columns_given, entries_given};
 
-use crate::arithmetic::{narrow, narrow_product};
+use crate::arithmetic::{narrow, plus_multiple};
 use crate::narrow_sums::{add_at, number_at, zeros};
 use program_rows::{Entries, Selection};
 use std::alloc::Global;
@@ -30,15 +30,14 @@ fn row_multipliers(alloc: Global, count: usize, rows: &[(usize, i128)]) -> Optio
     Some(multipliers)
 }
 
-/// What the rows of a column's entries give it; nothing if that leaves 64 bits.
-fn given_by_rows(multipliers: &[i64], entries: &Entries<'_>) -> Option<i64>
+/// What the rows of a column's entries give it.
+fn given_by_rows(multipliers: &[i64], entries: &Entries<'_>) -> Option<i128>
     ensures { IfSome result (λ n. n ≡ entries_given multipliers.now entries.now) }
 {
-    let mut sum: i64 = 0;
+    let mut sum: i128 = 0;
     for i in 0..entries.len() {
         let (row, number) = entries.entry(i);
-        let multiple = narrow_product(number_at(multipliers, row), number)?;
-        sum = sum.checked_add(multiple)?;
+        sum = plus_multiple(sum, number_at(multipliers, row), number)?;
     }
     Some(sum)
 }
@@ -50,7 +49,7 @@ fn add_columns(sums: &mut [i64], program: &Selection<'_>, multipliers: &[i64]) -
 {
     for column in 0..program.column_count() {
         let given = given_by_rows(multipliers, &program.entries(column))?;
-        add_at(sums, column, given)?;
+        add_at(sums, column, narrow(given)?)?;
     }
     Some(())
 }

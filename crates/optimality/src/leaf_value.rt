@@ -216,7 +216,7 @@ fn gives_many(checker: &Checker, splits: &[OpenSplit], leaf: &Leaf, rows: &[(usi
     };
     let of_cuts = cut_terms(leaf.multipliers.as_slice(), splits);
     let count = named_entries(all.forms.as_slice(), rows).saturating_add(of_cuts);
-    count >= checker.program.column_count() / 2
+    count >= checker.program.column_count() / 3
 }
 
 fn leaf_value(

@@ -7,7 +7,7 @@ ghost use Rattle.optimality.specs.inside.Adding.{AreGivenMore, AreNone, at_place
 ghost use Rattle.optimality.specs.inside.Holding.{cut_of, cuts_of};
 ghost use Rattle.optimality.specs.inside.RowForms.{forms_held};
 
-use crate::arithmetic::{narrow, narrow_product, signed};
+use crate::arithmetic::{narrow, plus_multiple, signed};
 use crate::open_split::OpenSplit;
 use crate::row_forms::Form;
 use std::alloc::Global;
@@ -37,14 +37,22 @@ pub fn add_at(sums: &mut [i64], place: usize, number: i64) -> Option<()>
     Some(())
 }
 
+/// Adds a product, which is calculated in 128 bits by one instruction, and so is its sum.
 fn add_product(sums: &mut [i64], factor: i64, place: usize, number: i64) -> Option<()>
     ensures { IfSome result (λ _. AreGivenMore (at_place place (factor *ℤ number)) sums.old
         sums.new) }
 {
-    add_at(sums, place, narrow_product(factor, number)?)
+    if place >= sums.len() {
+        return None;
+    }
+    let sum = plus_multiple(i128::from(sums[place]), factor, number)?;
+    let next = narrow(sum)?;
+    sums[place] = next;
+    Some(())
 }
 
 /// Adds a multiple of a form.
+#[inline(never)]
 fn add_form(sums: &mut [i64], factor: i64, form: &[(usize, i64)]) -> Option<()>
     ensures { IfSome result (λ _. AreGivenMore (form_given factor form.now) sums.old sums.new) }
 {
@@ -56,6 +64,7 @@ fn add_form(sums: &mut [i64], factor: i64, form: &[(usize, i64)]) -> Option<()>
 }
 
 /// The same of a form of sums.
+#[inline(never)]
 fn add_wide_form(sums: &mut [i64], factor: i64, form: &[(usize, i128)]) -> Option<()>
     ensures { IfSome result (λ _. AreGivenMore (form_given factor form.now) sums.old sums.new) }
 {
