@@ -18,12 +18,9 @@ from wdp import example
 
 RULES = [("rules", 1, 1), ("category", "A", 2, 10, 1), ("category", "B", 1, 5, 1)]
 RULES += [("bidder", "Alpha", 9, 2), ("bidder", "Beta", 9, 1), ("bidder", "Gamma", 9, 1)]
-FIELDS = {
-    "rules": "version step",
-    "category": "name supply reserve points value",
-    "pool": "name cap",
-}
-FIELDS |= {"bidder": "name eligibility sessions", "member": "pool category weight"}
+FIELDS = {"rules": "version step", "category": "name supply reserve points value"}
+FIELDS |= {"pool": "name cap", "member": "pool category weight"}
+FIELDS |= {"bidder": "name eligibility sessions"}
 NAMED_RULES = [{"record": kind, **dict(zip(FIELDS[kind].split(), its))} for kind, *its in RULES]
 ALPHAS = [(30, 1, 0), (50, 2, 1), (28, 1, 1)]
 FORMS = [("Alpha", ALPHAS), ("Beta", [(20, 1, 0), (45, 3, 0)]), ("Gamma", [(12, 0, 1)])]
@@ -32,11 +29,8 @@ ROWS = list(csv.DictReader(io.StringIO(TABLE)))
 DROPPED = [{name: value for name, value in row.items() if name != "B"} for row in ROWS]
 MORE = [*ROWS, {"bidder": "Gamma", "amount": "11", "A": "many", "B": "1"}]
 # bids with names, of which some lack what counts as 0
-ALPHA_BIDS = [
-    {"amount": 30, "A": 1},
-    {"B": 1, "A": 2, "amount": 50},
-    {"amount": 28.0, "A": 1, "B": 1},
-]
+ALPHA_BIDS = [{"amount": 30, "A": 1}, {"B": 1, "A": 2, "amount": 50}]
+ALPHA_BIDS += [{"amount": 28.0, "A": 1, "B": 1}]
 BETA_BIDS = [{"amount": "20", "A": "1"}, {"amount": 45, "A": 3}]
 LACKING = [{"bidder": "Alpha", "bids": ALPHA_BIDS}, ("Beta", BETA_BIDS), "Gamma,A,B\n12,0,1"]
 GROUPS, NAMES = ["-", "Alpha", ("Beta",), {"Gamma", "Beta"}], ["-", "Alpha", "Beta", "Beta+Gamma"]
@@ -44,9 +38,7 @@ ALPHA, BETA, GAMMA, ALL = ("Alpha", 1, 30), ("Beta", 1, 20), ("Gamma", 1, 12), (
 EXPECTED = [((), [ALPHA, BETA, GAMMA], 62, 0), (("Alpha",), [BETA, GAMMA], 32, 0)]
 EXPECTED += [(("Beta",), [ALL], 50, 8), (("Beta", "Gamma"), [ALL], 50, 20)]
 # docs/REFERENCE.md: cost -12 of bidder 3's bid, which is in the rows of its bidder and of the second category
-SMALLEST = (
-    "NAME wdp\n" + content("docs", "REFERENCE.md").split("```\nNAME wdp\n")[1].split("```")[0]
-)
+SMALLEST = re.search("```\n(NAME wdp\n.*?)```", content("docs", "REFERENCE.md"), re.DOTALL)[1]
 SOLUTIONS, CERTIFICATES = example.SOLUTIONS, example.CERTIFICATES
 FORGED = "Alpha,A,B\n30,1,0\n%form\nBeta,A,B\n99,1,0\n"
 auction, from_files = wdp.Auction.from_text(example.INPUT), wdp.Auction.from_files
