@@ -6,8 +6,7 @@ import sys
 from pathlib import Path
 
 import pytest
-from commands import EXAMPLES, content, environment, is_in, rows, run, running, wait_for
-
+from commands import EXAMPLES, ROOT, content, environment, is_in, rows, run, running, wait_for
 
 RUNS = rows(content("fixtures", "office", "runs.txt"))
 
@@ -16,8 +15,8 @@ RUNS = rows(content("fixtures", "office", "runs.txt"))
 def test_run(office, monkeypatch, mark, change, words, status, said):
     """What is refused has no output, and nothing is changed or left at work; what gather says of faults, explain says, too."""
     monkeypatch.chdir(office.folder)
-    for name in ("worked.txt", "worked_pool.txt", "worked_pool.report.txt"):
-        shutil.copy(EXAMPLES / name, name)
+    for path in (*EXAMPLES.glob("worked*"), ROOT / "fixtures/solvers/three.mps"):
+        shutil.copy(path, office.folder)
     how = {"cwd": office.forms, "env": environment(OFFICE=f"{sys.executable} -m wdp")}
     subprocess.run(["sh", "-ec", change], check=True, **how)
     if Path("wdp").exists():
