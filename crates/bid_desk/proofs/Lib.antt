@@ -1,5 +1,5 @@
-pub mod ClosingLemmas
-pub mod CompareLemmas
-mod HeldLemmas
-pub mod SettleLemmas
-pub mod SlotLemmas
+pub mod ClosingFacts
+pub mod CompareFacts
+mod HeldFacts
+pub mod SettleFacts
+pub mod SlotFacts

@@ -1,8 +1,9 @@
 //! The chair, with the calls that it made.
+
 ghost use Rattle.std.specs.Prelude.{◌≡◌, map, length};
 ghost use Rattle.bid_desk.specs.Holding.{pair_value};
 
-use crate::round::Round;
+use crate::brand::Round;
 use bid_book::{Call, Reply};
 use std::marker::Model;
 use std::sync::ledger::Share;

@@ -1,4 +1,5 @@
 //! How far the callers' own lists agree with a history.
+
 ghost use Rattle.std.specs.Prelude.{ℕ, ◌≡◌, ◌+◌, ◌<◌, ◌↔◌, [], ◌∷◌, ◌++◌, List, Some, slice_get, map, take, length, IsTrue, IfSome, IfNone, IfOk, All};
 ghost use Rattle.bid_forms.specs.Offers.{Offers};
 ghost use Rattle.bid_book.specs.declared.call.Call.{Call};
@@ -9,8 +10,8 @@ ghost use Rattle.bid_desk.specs.Settlement.{IsFirstDifference, StandOnce};
 ghost use Rattle.bid_desk.specs.inside.Slots.{AreSlots};
 ghost use Rattle.bid_desk.specs.inside.Comparing.{AreCompared, IsCompared, IsWithin};
 
+use crate::brand::Round;
 use crate::chair::Chair;
-use crate::round::Round;
 use crate::session::Session;
 use crate::slots::{Slot, slot_of};
 use bid_book::{Call, Caller, Entry, Reply};

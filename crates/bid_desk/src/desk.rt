@@ -1,10 +1,11 @@
 //! The desk, open and stopped.
+
 ghost use Rattle.std.specs.Prelude.{◌≡◌, map, length, All};
 ghost use Rattle.bid_book.specs.History.{entry_value, IsLegalHistory};
 ghost use Rattle.bid_desk.specs.Holding.{IsEntryOf};
 
+use crate::brand::Round;
 use crate::held::Held;
-use crate::round::Round;
 use auction_terms::Rules;
 use bid_book::Entry;
 use std::marker::Model;

@@ -1,4 +1,5 @@
 //! What is held under the lock.
+
 ghost use Rattle.std.specs.Prelude.{◌≡◌, ◌≢◌, ◌<◌, ◌∷◌, ◌++◌, [], map, length, vec_len, vec_capacity, Option, IfOk, OnErr, All, not, true};
 ghost use Rattle.std.specs.Option.{option_map};
 ghost use Rattle.std.specs.Arc.{arc_value};
@@ -9,9 +10,9 @@ ghost use Rattle.bid_book.specs.History.{entry_value, call_value, reply_value, s
 ghost use Rattle.bid_desk.specs.Closing.{closing};
 ghost use Rattle.bid_desk.specs.Holding.{caller_of, CallMeets, IsEntryOf, IsRecordedBy, IsRecordedByChair};
 
+use crate::brand::Round;
 use crate::chair::Chair;
 use crate::closed::ClosedBook;
-use crate::round::Round;
 use crate::session::Session;
 use auction_terms::Rules;
 use bid_book::{Book, Call, Caller, Entry, Reply, Standing, StepError};

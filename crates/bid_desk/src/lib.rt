@@ -5,22 +5,22 @@
 //! settled against all of them.
 #![tactic(auto)]
 
+mod brand;
 mod chair;
 mod closed;
 mod comparing;
 mod desk;
 mod held;
 mod open;
-mod round;
 mod session;
 mod settle;
 mod slots;
 
+pub use brand::Round;
 pub use chair::Chair;
 pub use closed::ClosedBook;
 pub use desk::{Desk, Stopped};
 pub use held::{DeskError, Held};
 pub use open::OpenError;
-pub use round::Round;
 pub use session::Session;
 pub use settle::{Cause, Unsettled};

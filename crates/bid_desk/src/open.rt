@@ -1,13 +1,14 @@
 //! A desk is opened.
+
 ghost use Rattle.std.specs.Prelude.{ℕ, ◌≡◌, ◌+◌, ◌<◌, ◌≤◌, ◌∷◌, ◌++◌, [], length, vec_len, vec_capacity, IfOk, IfErr};
 ghost use Rattle.auction_terms.specs.Terms.{session_count};
 ghost use Rattle.bid_desk.specs.Sessions.{IsSessionOf};
 ghost use Rattle.bid_desk.specs.Opening.{all_sessions, sessions_of, fresh_session};
 
+use crate::brand::Round;
 use crate::chair::Chair;
 use crate::desk::Desk;
 use crate::held::Held;
-use crate::round::Round;
 use crate::session::Session;
 use auction_terms::Rules;
 use bid_book::Book;

@@ -1,10 +1,11 @@
 //! Sessions, each with the calls that it made.
+
 ghost use Rattle.std.specs.Prelude.{◌≡◌, ◌*◌, ◌<◌, map, length};
 ghost use Rattle.bid_desk.specs.Holding.{pair_value};
 ghost use Rattle.bid_desk.specs.inside.Slots.{slot_of};
 ghost use Rattle.bid_desk.specs.Sessions.{IsSessionOf};
 
-use crate::round::Round;
+use crate::brand::Round;
 use crate::slots::slot_of;
 use bid_book::{Call, Reply};
 use std::marker::Model;

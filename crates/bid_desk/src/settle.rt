@@ -16,6 +16,7 @@
 //! To mind when changing it: whatever ends it, the stopped desk, the chair and the sessions go back as they came, so nothing is
 //! taken out of them before the last step. A cause is reported only if it holds, even when it is reported late: 'differs' names a
 //! place at which the two really differ. Memory is the last cause; it may come in place of 2 and 3, never of 1.
+
 ghost use Rattle.std.specs.Prelude.{◌≡◌, map, length, true, IfSome, IfNone, IfOk, IfErr, All};
 ghost use Rattle.auction_terms.specs.Terms.{AreTerms};
 ghost use Rattle.bid_book.specs.History.{entry_value, is_closed, own_pairs};
@@ -23,11 +24,11 @@ ghost use Rattle.bid_desk.specs.Holding.{IsEntryOf};
 ghost use Rattle.bid_desk.specs.Settlement.{IsSettled, IsCause, IsFirstOfAll, StandOnce, AgreeAll};
 ghost use Rattle.bid_desk.specs.inside.Slots.{AreSlots};
 
+use crate::brand::Round;
 use crate::chair::Chair;
 use crate::closed::ClosedBook;
 use crate::comparing::compare;
 use crate::desk::Stopped;
-use crate::round::Round;
 use crate::session::Session;
 use crate::slots::{Slot, missing, session_at, slots_of};
 use auction_terms::Rules;

@@ -1,10 +1,11 @@
 //! The place of each session in a list of sessions.
+
 ghost use Rattle.std.specs.Prelude.{ℕ, ◌≡◌, ◌≢◌, ◌*◌, ◌<◌, ◌≤◌, length, IfOk, IfSome, IfNone};
 ghost use Rattle.auction_terms.specs.Terms.{AreTerms};
 ghost use Rattle.bid_desk.specs.Sessions.{IsSessionOf};
 ghost use Rattle.bid_desk.specs.inside.Slots.{AllOnce, AreSlots, IsFirstWrong, slot_of};
 
-use crate::round::Round;
+use crate::brand::Round;
 use crate::session::Session;
 use auction_terms::{MOST_SESSIONS, Rules};
 use std::alloc::{AllocError, Global};

@@ -1,7 +1,7 @@
 use Rattle.std.proofs.Common.{ap, ◌∙◌, arith}
 use Rattle.bid_book.specs.declared.reply.Reply.TheVariants.{Accepted, Withdrawn, Shown, Closed}
 use Rattle.std.specs.Prelude.{Some}
-use Rattle.bid_book.proofs.HistoryLemmas.{changes_fit, change_reported}
+use Rattle.bid_book.proofs.HistoryFacts.{changes_fit, change_reported}
 use Rattle.bid_book.specs.History.{standing_of, is_closed}
 use Rattle.bid_book.proofs.records.reply_to.Goals as goal
 

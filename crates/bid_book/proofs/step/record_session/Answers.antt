@@ -3,7 +3,7 @@ use Rattle.std.proofs.lemmas.List.{map-append}
 use Rattle.std.specs.Prelude.{if◌then◌else◌, nat_eq}
 use Rattle.bid_book.specs.History.{is_change_reply, reply_value, call_value, left_standing}
 use Rattle.bid_book.specs.inside.Records.{counts_after, counts_at, standing_at, history_of}
-use Rattle.bid_book.proofs.HistoryLemmas.{Summarizes-session, changes_fit}
+use Rattle.bid_book.proofs.HistoryFacts.{Summarizes-session, changes_fit}
 use Rattle.bid_book.proofs.step.record_session.Goals as goal
 
 pub one_more-requires : goal.one_more-requires

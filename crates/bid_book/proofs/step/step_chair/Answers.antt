@@ -5,7 +5,7 @@ use Rattle.bid_book.specs.declared.caller.Caller.TheVariants.{Chair}
 use Rattle.bid_book.specs.declared.reply.Reply.TheVariants.{Closed}
 use Rattle.bid_book.specs.History.{call_limit, entries_beside, call_value}
 use Rattle.bid_book.specs.inside.Records.{history_of}
-use Rattle.bid_book.proofs.HistoryLemmas.{answer-limit, after-limit, answer-below, after-below, answer-below_recorded, answer-close, chair_closes, Summarizes-close, right_below}
+use Rattle.bid_book.proofs.HistoryFacts.{answer-limit, after-limit, answer-below, after-below, answer-below_recorded, answer-close, chair_closes, Summarizes-close, right_below}
 use Rattle.bid_book.proofs.step.step_chair.Goals as goal
 
 pub returns-then-records-ge-CALL_LIMIT-clause-answered : goal.returns-then-records-ge-CALL_LIMIT-clause-answered

@@ -2,7 +2,7 @@ use Rattle.std.proofs.Common.{[], ◌∷◌, ◌++◌, arith, sym, ◌∙◌}
 use Rattle.bid_book.specs.declared.caller.Caller.TheVariants.{Session}
 use Rattle.bid_book.specs.History.{call_value}
 use Rattle.bid_book.specs.inside.Records.{history_of}
-use Rattle.bid_book.proofs.HistoryLemmas.{answer-limit, after-limit, answer-below, after-below, answer-below_recorded, at_limit, below_limit, right_below}
+use Rattle.bid_book.proofs.HistoryFacts.{answer-limit, after-limit, answer-below, after-below, answer-below_recorded, at_limit, below_limit, right_below}
 use Rattle.bid_book.proofs.step.step_session.Goals as goal
 
 pub returns-then-counts-ge-CALL_LIMIT-clause-answered : goal.returns-then-counts-ge-CALL_LIMIT-clause-answered

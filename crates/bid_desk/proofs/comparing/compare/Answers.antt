@@ -1,5 +1,5 @@
 use Rattle.std.proofs.Common.{refl}
-use Rattle.bid_desk.proofs.CompareLemmas.{compared-start}
+use Rattle.bid_desk.proofs.CompareFacts.{compared-start}
 use Rattle.bid_desk.proofs.comparing.compare.Goals as goal
 
 pub loop-place-init : goal.loop-place-init

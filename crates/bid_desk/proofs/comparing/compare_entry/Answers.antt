@@ -17,7 +17,7 @@ use Rattle.bid_desk.specs.Holding.{IsEntryOf, SessionOwn, caller_of, pair_value}
 use Rattle.bid_desk.specs.Sessions.{IsSessionOf}
 use Rattle.bid_desk.specs.Settlement.{StandOnce}
 use Rattle.bid_desk.specs.inside.Slots.{AreSlots, empty_slot, slot_of}
-use Rattle.bid_desk.proofs.CompareLemmas.{compared-chair, compared-session, compared-within, entry-known, slot-leads, slot-small}
+use Rattle.bid_desk.proofs.CompareFacts.{compared-chair, compared-session, compared-within, entry-known, slot-leads, slot-small}
 use Rattle.bid_desk.proofs.comparing.compare_entry.Goals as goal
 
 -- the entry that was read, as contracts see it

@@ -9,8 +9,8 @@ use Rattle.bid_desk.specs.Sessions.{IsSessionOf}
 use Rattle.bid_desk.specs.Holding.{SessionOwn}
 use Rattle.bid_desk.specs.Settlement.{AgreeAll, IsFirstOfAll, StandOnce}
 use Rattle.bid_desk.specs.inside.Slots.{AllOnce, AreSlots, IsFirstWrong}
-use Rattle.bid_desk.proofs.SettleLemmas.{callers_from_entries, own_from_agrees}
-use Rattle.bid_desk.proofs.SlotLemmas.{first-missing, stand-once}
+use Rattle.bid_desk.proofs.SettleFacts.{callers_from_entries, own_from_agrees}
+use Rattle.bid_desk.proofs.SlotFacts.{first-missing, stand-once}
 use Rattle.bid_desk.proofs.settle.cause_of.Goals as goal
 
 pub missing-requires-clause-most : goal.missing-requires-clause-most

@@ -12,8 +12,8 @@ use Rattle.bid_desk.specs.Holding.{caller_of}
 use Rattle.bid_desk.specs.Sessions.{IsSessionOf}
 use Rattle.bid_desk.specs.Settlement.{AgreesAt, IsFirstDifference}
 use Rattle.bid_desk.specs.inside.Slots.{empty_slot, slot_of}
-use Rattle.bid_desk.proofs.CompareLemmas.{session-agrees, session-differs, slot-leads, slot-small}
-use Rattle.bid_desk.proofs.SlotLemmas.{slot-before, slot-same}
+use Rattle.bid_desk.proofs.CompareFacts.{session-agrees, session-differs, slot-leads, slot-small}
+use Rattle.bid_desk.proofs.SlotFacts.{slot-before, slot-same}
 use Rattle.bid_desk.proofs.settle.differing.Goals.{in-Some+in_default-difference, in_default}
 use Rattle.bid_desk.proofs.settle.differing.Goals as goal
 

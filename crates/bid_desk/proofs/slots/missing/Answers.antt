@@ -1,6 +1,6 @@
 use Rattle.std.proofs.Common.{◌<◌, length, ap, sym, ◌∙◌, subst, arith}
 use Rattle.std.specs.Prelude.{slice_index_or}
-use Rattle.bid_desk.proofs.SlotLemmas.{slot-before, slot-within}
+use Rattle.bid_desk.proofs.SlotFacts.{slot-before, slot-within}
 use Rattle.bid_desk.specs.inside.Slots.{empty_slot, slot_of}
 use Rattle.bid_desk.proofs.slots.missing.Goals as goal
 

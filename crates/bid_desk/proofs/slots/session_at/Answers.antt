@@ -1,6 +1,6 @@
 use Rattle.std.proofs.Common.{◌≡◌, ap, sym, ◌∙◌, arith}
 use Rattle.std.specs.Prelude.{slice_index_or}
-use Rattle.bid_desk.proofs.SlotLemmas.{few-sessions, limit-at, slot-place}
+use Rattle.bid_desk.proofs.SlotFacts.{few-sessions, limit-at, slot-place}
 use Rattle.auction_terms.specs.declared.rules.Bidder.{Bidder}
 use Rattle.bid_desk.specs.Sessions.{session_limit}
 use Rattle.bid_desk.proofs.slots.session_at.Goals as goal

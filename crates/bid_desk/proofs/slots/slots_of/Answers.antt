@@ -10,7 +10,7 @@ use Rattle.bid_desk.specs.Holding.{SessionOwn}
 use Rattle.bid_desk.specs.Sessions.{IsSessionOf}
 use Rattle.bid_desk.specs.Settlement.{is_named}
 use Rattle.bid_desk.specs.inside.Slots.{AreSlots, empty_slot, slot_at, slot_of}
-use Rattle.bid_desk.proofs.SlotLemmas.{slot-within, slots-empty, slots-more}
+use Rattle.bid_desk.proofs.SlotFacts.{slot-within, slots-empty, slots-more}
 use Rattle.bid_desk.proofs.slots.slots_of.Goals as goal
 
 pub loop-place-init : goal.loop-place-init

@@ -1,6 +1,6 @@
 use Rattle.bid_book.specs.declared.caller.Caller.TheVariants.{Session, Chair}
 use Rattle.bid_book.specs.History.{call_value}
-use Rattle.bid_book.proofs.HistoryLemmas.{recorded_reply, unrecorded_reply}
+use Rattle.bid_book.proofs.HistoryFacts.{recorded_reply, unrecorded_reply}
 use Rattle.bid_book.proofs.book.Book.step.Goals as goal
 
 pub returns-in-Session-clause-recorded : goal.returns-in-Session-clause-recorded

@@ -4,7 +4,7 @@ use Rattle.std.specs.Option.{option_map}
 use Rattle.bid_forms.specs.Offers.{Offers, Meets}
 use Rattle.bid_book.specs.declared.standing.Standing.{Standing}
 use Rattle.bid_desk.specs.Closing.{bids_in, closing}
-use Rattle.bid_desk.proofs.ClosingLemmas.{form_of-book_of, standing_of-meets}
+use Rattle.bid_desk.proofs.ClosingFacts.{form_of-book_of, standing_of-meets}
 use Rattle.bid_desk.proofs.closed.ClosedBook.form.Goals as goal
 
 pub returns-in-None-clause-bids : goal.returns-in-None-clause-bids

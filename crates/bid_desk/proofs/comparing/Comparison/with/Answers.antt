@@ -2,7 +2,7 @@ use Rattle.std.proofs.Common.{map}
 use Rattle.std.proofs.lemmas.Bool.{both_ways}
 use Rattle.bid_book.specs.History.{call_value, reply_value}
 use Rattle.bid_desk.specs.Holding.{pair_value}
-use Rattle.bid_desk.proofs.CompareLemmas.{compared-agree, compared-part, compared-parted}
+use Rattle.bid_desk.proofs.CompareFacts.{compared-agree, compared-part, compared-parted}
 use Rattle.bid_desk.proofs.comparing.Comparison.with.Goals as goal
 
 pub returns-in-Differs : goal.returns-in-Differs

@@ -8,9 +8,9 @@ use Rattle.bid_book.specs.declared.reply.Reply.TheVariants.{CallLimit}
 use Rattle.bid_book.specs.declared.entry.Entry.{Entry}
 use Rattle.bid_book.specs.declared.reply.Reply.{Reply}
 use Rattle.bid_book.specs.History.{reply_value}
-use Rattle.bid_book.proofs.HistoryLemmas.{answer-close_not_shown}
+use Rattle.bid_book.proofs.HistoryFacts.{answer-close_not_shown}
 use Rattle.bid_desk.specs.Holding.{ChairOwn, Holding, IsEntryOf, IsRecordedByChair, pair_value}
-use Rattle.bid_desk.proofs.HeldLemmas.{one-pair-more, share-is}
+use Rattle.bid_desk.proofs.HeldFacts.{one-pair-more, share-is}
 use Rattle.bid_desk.proofs.held.Held.close.Goals as goal
 
 pub same_reply-requires : goal.same_reply-requires

@@ -8,9 +8,9 @@ use Rattle.bid_book.specs.declared.call.Call.{Call}
 use Rattle.bid_book.specs.declared.entry.Entry.{Entry}
 use Rattle.bid_book.specs.declared.reply.Reply.{Reply}
 use Rattle.bid_book.specs.History.{call_value, reply_due, reply_value}
-use Rattle.bid_book.proofs.HistoryLemmas.{answer-shown}
+use Rattle.bid_book.proofs.HistoryFacts.{answer-shown}
 use Rattle.bid_desk.specs.Holding.{Holding, IsEntryOf, IsRecordedBy, SessionOwn, caller_of, pair_value}
-use Rattle.bid_desk.proofs.HeldLemmas.{one-pair-more, share-is}
+use Rattle.bid_desk.proofs.HeldFacts.{one-pair-more, share-is}
 use Rattle.bid_desk.proofs.held.Held.make.Goals as goal
 
 pub same_reply-requires : goal.same_reply-requires

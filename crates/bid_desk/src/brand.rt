@@ -1,4 +1,5 @@
 //! Which desk a value belongs to.
+
 ghost use Rattle.std.specs.Prelude.{ℕ, []};
 ghost use Rattle.auction_terms.specs.Terms.{Terms};
 

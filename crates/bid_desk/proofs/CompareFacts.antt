@@ -22,8 +22,8 @@ use Rattle.bid_desk.specs.Sessions.{IsSessionOf}
 use Rattle.bid_desk.specs.Settlement.{AgreesAt, DiffersAt, IsFirstDifference, OwnIs, StandOnce, is_named, times_session}
 use Rattle.bid_desk.specs.inside.Slots.{AreSlots, empty_slot, slot_at, slot_of}
 use Rattle.bid_desk.specs.inside.Comparing.{AreCompared, IsCompared, IsWithin}
-use Rattle.bid_desk.proofs.SettleLemmas.{first_here, own_pairs_more, own_pairs_other, take_next}
-use Rattle.bid_desk.proofs.SlotLemmas.{named-is, slot-within}
+use Rattle.bid_desk.proofs.SettleFacts.{first_here, own_pairs_more, own_pairs_other, take_next}
+use Rattle.bid_desk.proofs.SlotFacts.{named-is, slot-within}
 
 module _ {X : Type 0} (theirs own : List X) (x : X) where
   slice_get-first : (i : ℕ) → i < length theirs → slice_get (theirs ++ x ∷ []) i ≡ slice_get theirs i
