@@ -1,10 +1,25 @@
 //! Which bids of a closed book are kept. It doesn't depend on who is left out, so one `Flags` serves every group.
 
-use crate::choices::{by_rising_bid, is_repeated};
+ghost use Rattle.std.specs.Prelude.{◌≡◌, ◌≤◌, ◌-◌, IfOk, map, ◌<◌, ◌↔◌, AllPairs, IsPermutation, IsTrue, length, ◌+◌, ◌&&◌, pos, not, int_le, slice_index_or, All};
+ghost use Rattle.std.specs.List.{range_with_len, list_any};
+ghost use Rattle.auction_terms.specs.Allocations.{form_of};
+ghost use Rattle.auction_terms.specs.Terms.{lots_in};
+ghost use Rattle.bid_desk.specs.Closing.{book_of};
+ghost use Rattle.presolve.specs.Flags.{flags_of, flags_of_form};
+ghost use Rattle.presolve.specs.inside.Flags.{flags_of_bidders, IsRepeated};
+ghost use Rattle.presolve.specs.Sizes.{IsUpTo};
+ghost use Rattle.auction_terms.specs.Domination.{is_kept};
+ghost use Rattle.auction_terms.specs.declared.limits.TheConstants.{MOST_BIDS, MOST_CATEGORIES};
+ghost use Rattle.bid_forms.specs.Offers.{IsBidWithinLimits};
+ghost use Rattle.presolve.specs.inside.Sieves.{IsSieve};
+ghost use Rattle.presolve.specs.inside.Sizes.{AreRivals, beats};
+
 use crate::few_bids::has_few_bids;
-use crate::form_flags::flags_of_form;
 use crate::keeping::{keep_bidder, keep_form};
-use auction_terms::{Choice, Group, Kept, KeptBid};
+use crate::order::{SizedBid, ordered};
+use crate::search::is_beaten;
+use crate::sieve::{Sieve, sieves};
+use auction_terms::{Bid, Choice, Group, Kept, KeptBid, Rules};
 use bid_desk::ClosedBook;
 use rayon::prelude::*;
 use std::alloc::{AllocError, Global};
@@ -153,14 +168,6 @@ impl Flags {
     }
 }
 
-ghost use Rattle.std.specs.Prelude.{◌≡◌, ◌≤◌, ◌-◌, IfOk, map};
-ghost use Rattle.std.specs.List.{range_with_len};
-ghost use Rattle.auction_terms.specs.Allocations.{form_of};
-ghost use Rattle.auction_terms.specs.Terms.{lots_in};
-ghost use Rattle.bid_desk.specs.Closing.{book_of};
-ghost use Rattle.presolve.specs.Flags.{flags_of, flags_of_form};
-ghost use Rattle.presolve.specs.inside.Flags.{flags_of_bidders};
-
 // The flags of every form, by rising bidder. Both halves of the bidders are flagged side by side, each by as many threads
 // as `rayon` takes: with fewer, longer pieces more processors would be without work at the end. Few bids take one thread.
 fn flags_by_bidder(
@@ -232,4 +239,68 @@ fn flags_of_bidder(alloc: Global, book: &ClosedBook, bidder: u16) -> Result<Vec<
         None => Ok(Vec::new(alloc)),
         Some(form) => flags_of_form(alloc, book.rules(), form.bids()),
     }
+}
+
+// The choices by rising bidder, then bid.
+fn by_rising_bid(mut choices: Vec<Choice>) -> Vec<Choice>
+    ensures same { IsPermutation choices.items result.items }
+    ensures rising { AllPairs (λ c d. IsUpTo c.bidder c.bid d.bidder d.bid) result.items }
+{
+    choices.sort_unstable_by_key(
+        |choice: &Choice| -> (u16, u16)
+            ensures { result ≡ (choice.now.bidder, choice.now.bid) }
+        { (choice.bidder, choice.bid) },
+    );
+    choices
+}
+
+// Whether the choice at a place is the one before it again.
+fn is_repeated(choices: &[Choice], place: usize) -> bool
+    requires { place < length choices.now }
+    ensures { IsTrue result ↔ IsRepeated choices.now place }
+{
+    if place == 0 {
+        return false;
+    }
+    let choice = choices[place];
+    let before = choices[place - 1];
+    choice.bidder == before.bidder && choice.bid == before.bid
+}
+
+// Whether a bid that fits, at its place among the rivals, is kept: its net isn't below 0, and none of them dominates it.
+fn is_kept_beside(
+    rivals: &[SizedBid<'_>],
+    sieves: &[Sieve],
+    place: usize,
+    bid: &SizedBid<'_>,
+) -> bool
+    requires rivals { AreRivals (length bid.now.bid.now.package) rivals.now }
+    requires sieves { All (IsSieve rivals.now) sieves.now }
+    requires many { length rivals.now ≤ MOST_BIDS }
+    requires some { 1 ≤ length sieves.now }
+    requires few { length sieves.now ≤ MOST_CATEGORIES + 1 }
+    requires within { place < length rivals.now }
+    requires bid { bid.now ≡ slice_index_or rivals.now place bid.now }
+    ensures { result ≡ (int_le (pos 0) bid.now.net && not (list_any (beats bid.now) rivals.now)) }
+{
+    bid.net >= 0 && !is_beaten(rivals, sieves, place, bid)
+}
+
+// Whether each bid of a form is kept, in the form's order.
+fn flags_of_form(alloc: Global, rules: &Rules, bids: &[Bid]) -> Result<Vec<bool>, AllocError>
+    requires few { length bids.now ≤ MOST_BIDS }
+    requires sized { All (λ bid. length bid.package ≡ length rules.now.categories) bids.now }
+    requires limits { All IsBidWithinLimits bids.now }
+    ensures { IfOk result (λ flags. flags.items
+        ≡ map (is_kept (lots_in rules.now) bids.now) bids.now) }
+{
+    let rivals = ordered(alloc, rules, bids)?;
+    let sieves = sieves(alloc, &rivals, rules.categories().len())?;
+    let mut flags = vec![in alloc; false; bids.len()]?;
+    for (place, rival) in rivals.iter().enumerate() {
+        if is_kept_beside(&rivals, &sieves, place, rival) {
+            flags[usize::from(rival.number) - 1] = true;
+        }
+    }
+    Ok(flags)
 }

@@ -2,19 +2,17 @@
 //! or since their lots are worth more where they are left.
 #![tactic(auto)]
 
-mod choices;
 mod few_bids;
 mod flags;
-mod form_flags;
 mod keeping;
 pub mod laws;
 mod order;
 mod ranks;
 mod reason;
+mod reason_words;
 mod reasons;
+mod search;
 mod sieve;
-mod why;
-mod words;
 mod writing;
 
 pub use few_bids::{FEW_BIDS, has_few_bids};

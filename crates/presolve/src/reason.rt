@@ -1,5 +1,19 @@
 //! Why a bid is in no program.
 
+ghost use Rattle.std.specs.Prelude.{◌≡◌, ◌≤◌, ◌<◌, ◌+◌, All, List, length, map, slice_index, slice_index_or};
+ghost use Rattle.std.specs.Option.{option_or};
+ghost use Rattle.auction_terms.specs.Terms.{lots_in};
+ghost use Rattle.auction_terms.specs.declared.bids.Bid.{Bid};
+ghost use Rattle.auction_terms.specs.declared.limits.TheConstants.{MOST_BIDS, MOST_CATEGORIES};
+ghost use Rattle.presolve.specs.Reasons.{over_cap, over_supply, why_left_out};
+ghost use Rattle.presolve.specs.inside.Sieves.{IsSieve};
+ghost use Rattle.presolve.specs.inside.Sizes.{AreNumbered};
+
+use crate::order::SizedBid;
+use crate::search::first_beating;
+use crate::sieve::Sieve;
+use auction_terms::{Category, Package, Rules};
+
 /// The first reason for which no program has a bid. Categories and pools are named by their places, from 0.
 #[derive(Clone, Copy, Debug, PartialEq, Eq)]
 pub enum Reason {
@@ -23,4 +37,92 @@ pub enum Reason {
     Dominated {
         by: usize,
     },
+}
+
+// The supply at a place, in the words of lists.
+fn supply_at(categories: &[Category], place: usize) -> u32
+    requires { place < length categories.now }
+    ensures { result ≡ slice_index (map (λ category. category.supply) categories.now) place }
+{
+    categories[place].supply
+}
+
+// The first category of which a package asks for more than there is.
+fn over_supply(rules: &Rules, package: &Package) -> Option<Reason>
+    requires { length «package».now ≡ length rules.now.categories }
+    ensures { result ≡ over_supply (lots_in rules.now) «package».now }
+{
+    let quantities = package.quantities();
+    for category in 0..quantities.len() {
+        let asked = u32::from(quantities[category]);
+        let supply = supply_at(rules.categories(), category);
+        if asked > supply {
+            return Some(Reason::OverSupply {
+                category,
+                asked,
+                supply,
+            });
+        }
+    }
+    None
+}
+
+// The first pool that a package loads above its cap.
+fn over_cap(rules: &Rules, package: &Package) -> Option<Reason>
+    ensures { result ≡ over_cap (lots_in rules.now) «package».now }
+{
+    let pools = rules.pools();
+    for pool in 0..pools.len() {
+        let found = &pools[pool];
+        let load = found.load(package);
+        if load > found.cap {
+            return Some(Reason::OverCap {
+                pool,
+                load,
+                cap: found.cap,
+            });
+        }
+    }
+    None
+}
+
+// Why a package doesn't fit by itself.
+fn beyond_lots(rules: &Rules, package: &Package) -> Option<Reason>
+    requires { length «package».now ≡ length rules.now.categories }
+    ensures { result ≡ option_or (over_supply (lots_in rules.now) «package».now)
+        (over_cap (lots_in rules.now) «package».now) }
+{
+    match over_supply(rules, package) {
+        Some(reason) => Some(reason),
+        None => over_cap(rules, package),
+    }
+}
+
+// Why the bid at a place of a form is in no program.
+pub(crate) fn why_left_out(
+    rules: &Rules,
+    rivals: &[SizedBid<'_>],
+    sieves: &[Sieve],
+    place: usize,
+) -> Option<Reason>
+    requires sized { All (λ s. length s.bid.now.package ≡ length rules.now.categories) rivals.now }
+    requires many { length rivals.now ≤ MOST_BIDS }
+    requires sieves { All (IsSieve rivals.now) sieves.now }
+    requires some { 1 ≤ length sieves.now }
+    requires few { length sieves.now ≤ MOST_CATEGORIES + 1 }
+    requires within { place < length rivals.now }
+    ensures { (form : List Bid) (bid : Bid) → AreNumbered (lots_in rules.now) form rivals.now
+        → result ≡ why_left_out (lots_in rules.now) form (slice_index_or form place bid) }
+{
+    let rival = &rivals[place];
+    if let Some(reason) = beyond_lots(rules, &rival.bid.package) {
+        return Some(reason);
+    }
+    if rival.net < 0 {
+        return Some(Reason::BelowWorth {
+            less: rival.net.unsigned_abs(),
+        });
+    }
+    let first = first_beating(rivals, sieves, place, rival)?;
+    Some(Reason::Dominated { by: first + 1 })
 }

@@ -1,10 +1,17 @@
 //! Why each bid of a closed book is in no program.
 
+ghost use Rattle.std.specs.Prelude.{◌≡◌, ◌≤◌, All, IfOk, length, map};
+ghost use Rattle.auction_terms.specs.Allocations.{form_of};
+ghost use Rattle.auction_terms.specs.Terms.{lots_in};
+ghost use Rattle.auction_terms.specs.declared.limits.TheConstants.{MOST_BIDS};
+ghost use Rattle.bid_desk.specs.Closing.{book_of};
+ghost use Rattle.bid_forms.specs.Offers.{IsBidWithinLimits};
+ghost use Rattle.presolve.specs.Reasons.{reasons_of, reasons_of_form};
+
 use crate::few_bids::has_few_bids;
 use crate::order::numbered;
-use crate::reason::Reason;
+use crate::reason::{Reason, why_left_out};
 use crate::sieve::sieves;
-use crate::why::why_left_out;
 use auction_terms::{Bid, Rules};
 use bid_desk::ClosedBook;
 use rayon::prelude::*;
@@ -47,14 +54,6 @@ impl Reasons {
         Ok(Reasons { forms })
     }
 }
-
-ghost use Rattle.std.specs.Prelude.{◌≡◌, ◌≤◌, All, IfOk, length, map};
-ghost use Rattle.auction_terms.specs.Allocations.{form_of};
-ghost use Rattle.auction_terms.specs.Terms.{lots_in};
-ghost use Rattle.auction_terms.specs.declared.limits.TheConstants.{MOST_BIDS};
-ghost use Rattle.bid_desk.specs.Closing.{book_of};
-ghost use Rattle.bid_forms.specs.Offers.{IsBidWithinLimits};
-ghost use Rattle.presolve.specs.Reasons.{reasons_of, reasons_of_form};
 
 // The reasons of every form, by rising bidder. Few bids take one thread.
 fn reasons_by_bidder(

@@ -10,8 +10,8 @@ ghost use Rattle.byte_sinks.specs.Written.{written_of};
 ghost use Rattle.presolve.specs.Lines.{form_lines, forms_by, left_out_line, left_out_lines, replaced_line, replaced_lines};
 
 use crate::reason::Reason;
+use crate::reason_words::{add_line, add_replaced_line};
 use crate::reasons::Reasons;
-use crate::words::{add_line, add_replaced_line};
 use auction_terms::Rules;
 use byte_sinks::{Sink, WriteFault, Writer};
 

@@ -1,0 +1,6 @@
+use Rattle.std.proofs.Common.{rules}
+use Rattle.byte_sinks.proofs.Adding.{Adds-to}
+use Rattle.presolve.proofs.reason_words.add_over_cap.Goals as goal
+
+pub returns : goal.returns
+returns g c = Adds-to c.add_pieces.ensures (search rules)
