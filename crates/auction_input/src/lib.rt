@@ -19,7 +19,6 @@ mod part_kind;
 mod parts;
 mod places;
 mod price_fault;
-mod price_line;
 mod price_names;
 mod price_reading;
 mod reading;
