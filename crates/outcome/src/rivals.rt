@@ -13,7 +13,7 @@ ghost use Rattle.bid_desk.specs.Closing.{book_of};
 ghost use Rattle.outcome.specs.inside.Rivals.{both_packages, first_rival_number, first_suiting, rival_of, suits};
 
 use crate::allocation::Allocation;
-use crate::unsold::lots_taken;
+use crate::costs::lots_taken;
 use arrayvec::ArrayVec;
 use auction_terms::{Bid, Choice, GREATEST_QUANTITY, Package};
 use bid_desk::ClosedBook;

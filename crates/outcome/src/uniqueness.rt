@@ -7,7 +7,7 @@ ghost use Rattle.bid_desk.specs.Sale.{sale_of};
 ghost use Rattle.outcome.specs.Uniqueness.{uniqueness_text};
 
 use crate::allocation::Allocation;
-use crate::winners::add_allocation;
+use crate::report_lines::add_allocation;
 use bid_desk::ClosedBook;
 use byte_sinks::{Sink, Writer};
 

@@ -16,9 +16,8 @@ ghost use Rattle.outcome.specs.Uniqueness.{uniqueness_text};
 
 use crate::allocation::Allocation;
 use crate::pricing::{Pricing, add_pricing};
-use crate::reporting::add_groups;
+use crate::report_lines::{add_allocation, add_groups};
 use crate::uniqueness::{Uniqueness, add_uniqueness};
-use crate::winners::add_allocation;
 use auction_terms::Groups;
 use bid_desk::ClosedBook;
 use byte_sinks::{Sink, WriteFault, Writer};

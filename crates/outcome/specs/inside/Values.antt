@@ -4,8 +4,8 @@ use Rattle.outcome.specs.declared.limits.TheConstants.{TOLERANCE_PARTS}
 use Rattle.auction_terms.specs.Decimals.{is_minus, is_number_token, is_too_long, scaled_up, scale, signed}
 use Rattle.program_rows.specs.declared.solution_fault.SolutionFault.{SolutionFault}
 use Rattle.program_rows.specs.declared.solution_fault.SolutionFault.TheVariants as fault
-use Rattle.outcome.specs.declared.value_fault.ValueFault.{ValueFault}
-use Rattle.outcome.specs.declared.value_fault.ValueFault.TheVariants.{ValueText, NotZeroOne}
+use Rattle.outcome.specs.declared.values.ValueFault.{ValueFault}
+use Rattle.outcome.specs.declared.values.ValueFault.TheVariants.{ValueText, NotZeroOne}
 
 -- numerator / scale is away from a whole number by at most the tolerance
 abbrev pub is_around : ℕ → ℤ → ℕ → Bool

@@ -1,5 +1,0 @@
-use Rattle.byte_sinks.proofs.Adding.{Adds-then}
-use Rattle.outcome.proofs.heading.add_names_line.Goals as goal
-
-pub returns : goal.returns
-returns g c = Adds-then c.add_names.ensures c.add.ensures

@@ -1,0 +1,12 @@
+use Rattle.std.proofs.Common.{◌<◌, ◌∷◌, length, arith}
+use Rattle.byte_sinks.proofs.Adding.{Adds-then, Adds-to}
+use Rattle.byte_sinks.proofs.Known.{flat_map-next_or}
+use Rattle.bid_desk.specs.Sale.{bidder_name, sale_of}
+use Rattle.outcome.proofs.report_lines.add_more_names.Goals as goal
+
+pub loop-bidder-preserved : goal.loop-bidder-preserved
+loop-bidder-preserved g c =
+    let at = c.loop-bidder.bidder-index in
+    let all = c.args.bidders.now in
+    let lt : at < length all = omega arith in
+    Adds-to (Adds-then c.loop-bidder.invariant c.add_further.ensures) (flat_map-next_or (λ further. 43 ∷ bidder_name (sale_of c.args.book.now).names further) all at 0 lt)

@@ -1,0 +1,13 @@
+use Rattle.std.proofs.Common.{◌<◌, length, arith}
+use Rattle.byte_sinks.proofs.Adding.{Adds-then, Adds-to}
+use Rattle.byte_sinks.proofs.Known.{flat_map-next_or}
+use Rattle.bid_desk.specs.Sale.{sale_of}
+use Rattle.outcome.specs.Report.{winner_line}
+use Rattle.outcome.proofs.report_lines.add_winners.Goals as goal
+
+pub loop-choice-preserved : goal.loop-choice-preserved
+loop-choice-preserved g c =
+    let at = c.loop-choice.choice-index in
+    let all = c.args.choices.now in
+    let lt : at < length all = omega arith in
+    Adds-to (Adds-then c.loop-choice.invariant c.add_winner.ensures) (flat_map-next_or (winner_line (sale_of c.args.book.now)) all at (record { bidder = 0; bid = 0 }) lt)

@@ -1,0 +1,10 @@
+use Rattle.std.proofs.Common.{take}
+use Rattle.std.specs.Prelude.{flat_map}
+use Rattle.byte_sinks.specs.Adds.{Adds}
+use Rattle.bid_desk.specs.Sale.{sale_of}
+use Rattle.outcome.specs.Report.{winner_line}
+use Rattle.outcome.proofs.report_lines.add_winners.Given as goal
+
+-- the lines so far are added
+abbrev pub invariant-loop-choice : goal.invariant-loop-choice
+invariant-loop-choice g l = Adds g.S.Sink.taken g.S.Sink.failures l.initial.writer l.writer (flat_map (winner_line (sale_of l.book)) (take l.choice-index l.choices))

@@ -1,6 +1,0 @@
-use Rattle.std.proofs.Common.{rules}
-use Rattle.byte_sinks.proofs.Adding.{Adds-then, Adds-to}
-use Rattle.outcome.proofs.winners.add_allocation.Goals as goal
-
-pub returns : goal.returns
-returns g c = Adds-then c.add_winners.ensures (Adds-to c.add_total.ensures (search rules))
