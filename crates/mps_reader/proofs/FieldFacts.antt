@@ -38,7 +38,8 @@ IsPrintable b = (33 ≤ b) × (b ≤ 126)
 printable : (b : ℕ) → is_text_byte b ≡ true → is_space b ≡ false → IsPrintable b
 printable b h s = (grind (arith, common_steps, nat_tests, h, s), grind (arith, common_steps, nat_tests, h, s))
 
-onto-printable : (b : ℕ) (ps : List (List ℕ)) → IsPrintable b → AllByRecursion (λ part. AllByRecursion IsPrintable part) ps → AllByRecursion (λ part. AllByRecursion IsPrintable part) (onto_first b ps)
+onto-printable : (b : ℕ) (ps : List (List ℕ)) → IsPrintable b → AllByRecursion (λ part. AllByRecursion IsPrintable part) ps
+    → AllByRecursion (λ part. AllByRecursion IsPrintable part) (onto_first b ps)
 onto-printable b [] h hs = ((h, tt), tt)
 onto-printable b (p ∷ ps) h hs = ((h, hs.0), hs.1)
 
@@ -48,11 +49,13 @@ parts-printable (b ∷ bs) h =
     let both = and_parts (is_text_byte b) (list_all is_text_byte bs) h in
     by (is_space b) refl both.0 (parts-printable bs both.1)
   where
-    by : (s : Bool) → is_space b ≡ s → is_text_byte b ≡ true → AllByRecursion (λ part. AllByRecursion IsPrintable part) (slice_split is_space bs) → AllByRecursion (λ part. AllByRecursion IsPrintable part) (cond s ([] ∷ slice_split is_space bs) (onto_first b (slice_split is_space bs)))
+    by : (s : Bool) → is_space b ≡ s → is_text_byte b ≡ true → AllByRecursion (λ part. AllByRecursion IsPrintable part) (slice_split is_space bs)
+        → AllByRecursion (λ part. AllByRecursion IsPrintable part) (cond s ([] ∷ slice_split is_space bs) (onto_first b (slice_split is_space bs)))
     by true e t more = (tt, more)
     by false e t more = onto-printable b (slice_split is_space bs) (printable b t e) more
 
-filled-names : (ps : List (List ℕ)) → AllByRecursion (λ part. AllByRecursion IsPrintable part) ps → AllByRecursion IsName (filter (λ part. not (length part == 0)) ps)
+filled-names : (ps : List (List ℕ)) → AllByRecursion (λ part. AllByRecursion IsPrintable part) ps
+    → AllByRecursion IsName (filter (λ part. not (length part == 0)) ps)
 filled-names [] h = tt
 filled-names ([] ∷ ps) h = filled-names ps h.1
 filled-names ((b ∷ part) ∷ ps) h =
@@ -65,7 +68,8 @@ take-all _ _ h = tt
 
 pub fields_names : (bs : List ℕ) → list_all is_text_byte bs ≡ true → AllByRecursion IsName (take 6 (fields bs))
 unfolding fields
-fields_names bs h = take-all 6 (filter (λ part. not (length part == 0)) (slice_split is_space bs)) (filled-names (slice_split is_space bs) (parts-printable bs h))
+fields_names bs h =
+    take-all 6 (filter (λ part. not (length part == 0)) (slice_split is_space bs)) (filled-names (slice_split is_space bs) (parts-printable bs h))
 
 -- white space after a field is no part of the next
 space-first : (b : ℕ) (bs : List ℕ) → is_space b ≡ true → fields (b ∷ bs) ≡ fields bs
@@ -78,31 +82,37 @@ behind-space text j less space = ap fields parts ∙ space-first (get_or text j 
     parts : drop j text ≡ get_or text j 0 ∷ drop (j + 1) text
     parts = rw (add-one, drop-cons text j 0) refl
 
-pub field-found : (bs text rest : List ℕ) (i j : ℕ) → Some i ≡ position is_other bs → text ≡ drop i bs → Some j ≡ position is_space text → rest ≡ drop (j + 1) text → fields bs ≡ take j text ∷ fields rest
+pub field-found : (bs text rest : List ℕ) (i j : ℕ) → Some i ≡ position is_other bs → text ≡ drop i bs → Some j ≡ position is_space text
+    → rest ≡ drop (j + 1) text → fields bs ≡ take j text ∷ fields rest
 field-found bs text rest i j h t k r =
     let found = some-is (nat_lt (position_or_len is_other bs) (length bs)) (position_or_len is_other bs) i h in
     let ended = some-is (nat_lt (position_or_len is_space text) (length text)) (position_or_len is_space text) j k in
     let within : i < length bs = rw found.1 at (ltb-true _ _ found.0) in
     let less : j < length text = rw ended.1 at (ltb-true _ _ ended.0) in
     let space : is_space (get_or text j 0) ≡ true = rw ended.1 at (passes_at_first is_space text 0 (ltb-true _ _ ended.0)) in
-    first_field bs text i j (sym found.1) within t (sym ended.1) (omega arith) ∙ ap (λ fs. take j text ∷ fs) (behind-space text j less space ∙ ap fields (sym r))
+    first_field bs text i j (sym found.1) within t (sym ended.1) (omega arith) ∙ ap (λ fs. take j text ∷ fs) (behind-space text j less space
+    ∙ ap fields (sym r))
 
-pub field-at-end : (bs text rest : List ℕ) (i : ℕ) → Some i ≡ position is_other bs → text ≡ drop i bs → None ≡ position is_space text → rest ≡ drop (length text) text → fields bs ≡ text ∷ fields rest
+pub field-at-end : (bs text rest : List ℕ) (i : ℕ) → Some i ≡ position is_other bs → text ≡ drop i bs → None ≡ position is_space text
+    → rest ≡ drop (length text) text → fields bs ≡ text ∷ fields rest
 field-at-end bs text rest i h t k r =
     let found = some-is (nat_lt (position_or_len is_other bs) (length bs)) (position_or_len is_other bs) i h in
     let far = ltb-false _ _ (none-is (nat_lt (position_or_len is_space text) (length text)) (position_or_len is_space text) k) in
     let end : length text ≡ position_or_len is_space text = omega (arith, prefix_len-le-length (λ b. not (is_space b)) text) in
     let within : i < length bs = rw found.1 at (ltb-true _ _ found.0) in
-    first_field bs text i (length text) (sym found.1) within t end (omega arith) ∙ ap (λ fs. fs ∷ fields (drop (length text) text)) (take-length text) ∙ ap (λ fs. text ∷ fields fs) (sym r)
+    first_field bs text i (length text) (sym found.1) within t end (omega arith) ∙ ap (λ fs. fs ∷ fields (drop (length text) text)) (take-length text)
+    ∙ ap (λ fs. text ∷ fields fs) (sym r)
 
 -- ---- the first byte that passes a test, by a loop
 
-pub place_is : (p : ℕ → Bool) (bs : List ℕ) (i : ℕ) → i < length bs → ((k : ℕ) → k < i → p (get_or bs k 0) ≡ false) → p (get_or bs i 0) ≡ true → Some i ≡ position p bs
+pub place_is : (p : ℕ → Bool) (bs : List ℕ) (i : ℕ) → i < length bs → ((k : ℕ) → k < i → p (get_or bs k 0) ≡ false)
+    → p (get_or bs i 0) ≡ true → Some i ≡ position p bs
 place_is p bs i within before here =
     let at : position_or_len p bs ≡ i = position_or_len_is p bs i 0 (omega arith) before (λ _. here) in
     rw (at, lt-ltb i (length bs) within) refl
 
 pub no_place : (p : ℕ → Bool) (bs : List ℕ) (i : ℕ) → length bs ≤ i → ((k : ℕ) → k < i → p (get_or bs k 0) ≡ false) → None ≡ position p bs
 no_place p bs i end before =
-    let far : position_or_len p bs ≡ length bs = position_or_len_is p bs (length bs) 0 (omega arith) (λ k less. before k (omega arith)) (λ less. absurd (omega arith)) in
+    let far : position_or_len p bs ≡ length bs =
+    position_or_len_is p bs (length bs) 0 (omega arith) (λ k less. before k (omega arith)) (λ less. absurd (omega arith)) in
     rw (far, le-ltb (length bs) (length bs) (omega arith)) refl

@@ -36,7 +36,8 @@ bytes-push (x ∷ ks) k = ap (λ ns. x.now ∷ ns) (bytes-push ks k)
 pub length-bytes : (ks : List (Bor (List ℕ))) → length (bytes_of ks) ≡ length ks
 length-bytes ks = length-map ks (λ k. k.now)
 
-all-bytes : (name : List ℕ) (ks : List (Bor (List ℕ))) → AllByRecursion (λ k. bytes_eq name k.now ≡ false) ks → AllByRecursion (λ k. bytes_eq name k ≡ false) (bytes_of ks)
+all-bytes : (name : List ℕ) (ks : List (Bor (List ℕ))) → AllByRecursion (λ k. bytes_eq name k.now ≡ false) ks
+    → AllByRecursion (λ k. bytes_eq name k ≡ false) (bytes_of ks)
 all-bytes name [] h = tt
 all-bytes name (k ∷ ks) h = (h.0, all-bytes name ks h.1)
 
@@ -70,31 +71,38 @@ any-last name (n ∷ ns) = by (bytes_eq name n) (any-last name ns)
 
 -- ---- places of rows
 
-pub at-free : (p : ℕ) (ns : List (List ℕ)) (ps : List (Option ℕ)) (rows : List (List ℕ)) (n : List ℕ) → AreAt p ns ps rows → AreAt p (ns ++ n ∷ []) (ps ++ None ∷ []) rows
+pub at-free : (p : ℕ) (ns : List (List ℕ)) (ps : List (Option ℕ)) (rows : List (List ℕ)) (n : List ℕ) → AreAt p ns ps rows
+    → AreAt p (ns ++ n ∷ []) (ps ++ None ∷ []) rows
 at-free p [] [] [] n h = tt
 at-free p (m ∷ ns) (None ∷ ps) rows n h = at-free p ns ps rows n h
 at-free p (m ∷ ns) (Some q ∷ ps) (r ∷ rows) n h = (h.0, h.1, at-free (suc p) ns ps rows n h.2)
 at-free p _ _ _ n h = absurd h
 
-pub at-bound : (p q : ℕ) (ns : List (List ℕ)) (ps : List (Option ℕ)) (rows : List (List ℕ)) (n : List ℕ) → q ≡ p + length rows → AreAt p ns ps rows → AreAt p (ns ++ n ∷ []) (ps ++ Some q ∷ []) (rows ++ n ∷ [])
+pub at-bound : (p q : ℕ) (ns : List (List ℕ)) (ps : List (Option ℕ)) (rows : List (List ℕ)) (n : List ℕ) → q ≡ p + length rows
+    → AreAt p ns ps rows → AreAt p (ns ++ n ∷ []) (ps ++ Some q ∷ []) (rows ++ n ∷ [])
 at-bound p q [] [] [] n e h = (omega arith, refl, tt)
 at-bound p q (m ∷ ns) (None ∷ ps) rows n e h = at-bound p q ns ps rows n e h
 at-bound p q (m ∷ ns) (Some k ∷ ps) (r ∷ rows) n e h = (h.0, h.1, at-bound (suc p) q ns ps rows n (omega arith) h.2)
 at-bound p q _ _ _ n e h = absurd h
 
 -- what holds of all names holds of the rows
-pub all-rows : (P : List ℕ → Type 0) (p : ℕ) (ns : List (List ℕ)) (ps : List (Option ℕ)) (rows : List (List ℕ)) → AreAt p ns ps rows → AllByRecursion P ns → AllByRecursion P rows
+pub all-rows : (P : List ℕ → Type 0) (p : ℕ) (ns : List (List ℕ)) (ps : List (Option ℕ)) (rows : List (List ℕ)) → AreAt p ns ps rows
+    → AllByRecursion P ns → AllByRecursion P rows
 all-rows P p [] [] [] h a = tt
 all-rows P p (m ∷ ns) (None ∷ ps) rows h a = all-rows P p ns ps rows h a.1
 all-rows P p (m ∷ ns) (Some k ∷ ps) (r ∷ rows) h a = (subst (λ n. P n) (sym h.1) a.0, all-rows P (suc p) ns ps rows h.2 a.1)
 all-rows P p _ _ _ h a = absurd h
 
-pub distinct-rows : (p : ℕ) (ns : List (List ℕ)) (ps : List (Option ℕ)) (rows : List (List ℕ)) → AreAt p ns ps rows → IsDistinct bytes_eq ns → IsDistinct bytes_eq rows
+pub distinct-rows : (p : ℕ) (ns : List (List ℕ)) (ps : List (Option ℕ)) (rows : List (List ℕ)) → AreAt p ns ps rows → IsDistinct bytes_eq ns
+    → IsDistinct bytes_eq rows
 unfolding IsDistinct
 distinct-rows p [] [] [] h a = tt
 distinct-rows p (m ∷ ns) (None ∷ ps) rows h a = distinct-rows p ns ps rows h a.1
-distinct-rows p (m ∷ ns) (Some k ∷ ps) (r ∷ rows) h a =
-    (subst (λ (n : List ℕ). AllByRecursion (λ y. bytes_eq n y ≡ false) rows) (sym h.1) (all-rows (λ y. bytes_eq m y ≡ false) (suc p) ns ps rows h.2 a.0), distinct-rows (suc p) ns ps rows h.2 a.1)
+distinct-rows p (m ∷ ns) (Some k ∷ ps) (r ∷ rows) h a = (
+  subst (λ (n : List ℕ). AllByRecursion (λ y. bytes_eq n y ≡ false) rows) (sym h.1)
+      (all-rows (λ y. bytes_eq m y ≡ false) (suc p) ns ps rows h.2 a.0),
+  distinct-rows (suc p) ns ps rows h.2 a.1,
+)
 distinct-rows p _ _ _ h a = absurd h
 
 pub length-places : (p : ℕ) (ns : List (List ℕ)) (ps : List (Option ℕ)) (rows : List (List ℕ)) → AreAt p ns ps rows → length ps ≡ length ns
@@ -104,7 +112,8 @@ length-places p (m ∷ ns) (Some k ∷ ps) (r ∷ rows) h = ap suc (length-place
 length-places p _ _ _ h = absurd h
 
 -- a name with a place is the row there
-pub placed : (p : ℕ) (ns : List (List ℕ)) (ps : List (Option ℕ)) (rows : List (List ℕ)) (i q : ℕ) → AreAt p ns ps rows → slice_get ps i ≡ Some (Some q) → (p ≤ q) × (q < p + length rows)
+pub placed : (p : ℕ) (ns : List (List ℕ)) (ps : List (Option ℕ)) (rows : List (List ℕ)) (i q : ℕ) → AreAt p ns ps rows
+    → slice_get ps i ≡ Some (Some q) → (p ≤ q) × (q < p + length rows)
 placed p [] [] [] i q h e = absurd cc
 placed p (m ∷ ns) (None ∷ ps) rows zero q h e = absurd cc
 placed p (m ∷ ns) (None ∷ ps) rows (suc i) q h e = placed p ns ps rows i q h e
@@ -113,34 +122,41 @@ placed p (m ∷ ns) (Some k ∷ ps) (r ∷ rows) (suc i) q h e = let more = plac
 placed p _ _ _ i q h e = absurd h
 
 -- a row with a place isn't the objective
-pub not-cost : (objective : List ℕ) (p : ℕ) (ns : List (List ℕ)) (ps : List (Option ℕ)) (rows : List (List ℕ)) (i q : ℕ) (name : List ℕ) → AreAt p ns ps rows → AllByRecursion (λ r. bytes_eq objective r ≡ false) rows → slice_get ns i ≡ Some name → slice_get ps i ≡ Some (Some q) → bytes_eq name objective ≡ false
+pub not-cost : (objective : List ℕ) (p : ℕ) (ns : List (List ℕ)) (ps : List (Option ℕ)) (rows : List (List ℕ)) (i q : ℕ) (name : List ℕ)
+    → AreAt p ns ps rows → AllByRecursion (λ r. bytes_eq objective r ≡ false) rows → slice_get ns i ≡ Some name
+    → slice_get ps i ≡ Some (Some q) → bytes_eq name objective ≡ false
 not-cost o p [] [] [] i q name h a e f = absurd cc
 not-cost o p (m ∷ ns) (None ∷ ps) rows zero q name h a e f = absurd cc
 not-cost o p (m ∷ ns) (None ∷ ps) rows (suc i) q name h a e f = not-cost o p ns ps rows i q name h a e f
 not-cost o p (m ∷ ns) (Some k ∷ ps) (r ∷ rows) zero q name h a e f =
     let here : m ≡ name = cc in
-    false_from_ne_true _ (λ t. both_ways _ a.0 (subst (λ n. bytes_eq o n ≡ true) (sym (h.1 ∙ here)) (subst (λ n. bytes_eq o n ≡ true) (sym (same_name name o t)) (own_name o))))
+    false_from_ne_true _ (λ t. both_ways _ a.0 (subst (λ n. bytes_eq o n ≡ true) (sym (h.1 ∙ here))
+    (subst (λ n. bytes_eq o n ≡ true) (sym (same_name name o t)) (own_name o))))
 not-cost o p (m ∷ ns) (Some k ∷ ps) (r ∷ rows) (suc i) q name h a e f = not-cost o (suc p) ns ps rows i q name h.2 a.1 e f
 not-cost o p _ _ _ i q name h a e f = absurd h
 
-pub no-cost : (objective : Option (Bor (List ℕ))) (ns : List (List ℕ)) (ps : List (Option ℕ)) (rows : List (List ℕ)) (i : ℕ) (name : List ℕ) (place : Option ℕ) → AreAt 0 ns ps rows → IfSome objective (λ o. IsObjective ns rows o.now)
+pub no-cost : (objective : Option (Bor (List ℕ))) (ns : List (List ℕ)) (ps : List (Option ℕ)) (rows : List (List ℕ)) (i : ℕ) (name : List ℕ) (place : Option ℕ)
+    → AreAt 0 ns ps rows → IfSome objective (λ o. IsObjective ns rows o.now)
     → slice_get ns i ≡ Some name → slice_get ps i ≡ Some place → is_some place ≡ true → option_map_or (λ o. bytes_eq name o.now) objective false ≡ false
 no-cost None ns ps rows i name place h o e f some = refl
 no-cost (Some o) ns ps rows i name None h known e f some = absurd cc
 no-cost (Some o) ns ps rows i name (Some q) h known e f some = not-cost o.now 0 ns ps rows i q name h known.apart e f
 
 -- places of different names differ
-pub apart : (p : ℕ) (ns : List (List ℕ)) (ps : List (Option ℕ)) (rows : List (List ℕ)) (i j q r : ℕ) → AreAt p ns ps rows → slice_get ps i ≡ Some (Some q) → slice_get ps j ≡ Some (Some r) → i < j → q < r
+pub apart : (p : ℕ) (ns : List (List ℕ)) (ps : List (Option ℕ)) (rows : List (List ℕ)) (i j q r : ℕ) → AreAt p ns ps rows
+    → slice_get ps i ≡ Some (Some q) → slice_get ps j ≡ Some (Some r) → i < j → q < r
 apart p [] [] [] i j q r h e f lt = absurd cc
 apart p (m ∷ ns) (None ∷ ps) rows zero j q r h e f lt = absurd cc
 apart p (m ∷ ns) (None ∷ ps) rows (suc i) zero q r h e f lt = absurd (omega arith)
 apart p (m ∷ ns) (None ∷ ps) rows (suc i) (suc j) q r h e f lt = apart p ns ps rows i j q r h e f (omega arith)
 apart p (m ∷ ns) (Some k ∷ ps) (x ∷ rows) i zero q r h e f lt = absurd (omega arith)
-apart p (m ∷ ns) (Some k ∷ ps) (x ∷ rows) zero (suc j) q r h e f lt = let here : k ≡ q = cc in let at = h.0 in let more = placed (suc p) ns ps rows j r h.2 f in omega arith
+apart p (m ∷ ns) (Some k ∷ ps) (x ∷ rows) zero (suc j) q r h e f lt =
+    let here : k ≡ q = cc in let at = h.0 in let more = placed (suc p) ns ps rows j r h.2 f in omega arith
 apart p (m ∷ ns) (Some k ∷ ps) (x ∷ rows) (suc i) (suc j) q r h e f lt = apart (suc p) ns ps rows i j q r h.2 e f (omega arith)
 apart p _ _ _ i j q r h e f lt = absurd h
 
-pub inserted : (ks new : List (Bor (List ℕ))) (k : Bor (List ℕ)) (b : Bool) → new ≡ (if list_any (λ x. bytes_eq k.now x.now) ks then ks else ks ++ k ∷ []) → b ≡ not (list_any (λ x. bytes_eq k.now x.now) ks)
+pub inserted : (ks new : List (Bor (List ℕ))) (k : Bor (List ℕ)) (b : Bool)
+    → new ≡ (if list_any (λ x. bytes_eq k.now x.now) ks then ks else ks ++ k ∷ []) → b ≡ not (list_any (λ x. bytes_eq k.now x.now) ks)
     → bytes_of new ≡ (if b then bytes_of ks ++ k.now ∷ [] else bytes_of ks)
 inserted ks new k b e h = by (list_any (λ x. bytes_eq k.now x.now) ks) e h
   where

@@ -16,7 +16,8 @@ text-behind : (p t : ℕ → Bool) → ((b : ℕ) → p b ≡ false → t b ≡ 
 text-behind p t h [] = refl
 text-behind p t h (b ∷ bs) = by (p b) refl (text-behind p t h bs)
   where
-    by : (s : Bool) → p b ≡ s → list_all t bs ≡ list_all t (drop (position_or_len p bs) bs) → list_all t (b ∷ bs) ≡ list_all t (drop (position_or_len p (b ∷ bs)) (b ∷ bs))
+    by : (s : Bool) → p b ≡ s → list_all t bs ≡ list_all t (drop (position_or_len p bs) bs) → list_all t (b ∷ bs)
+        ≡ list_all t (drop (position_or_len p (b ∷ bs)) (b ∷ bs))
     by false e more = let next : 1 + position_or_len p bs ≡ suc (position_or_len p bs) = omega arith in rw (e, next, h b e) more
     by true e more = rw e refl
 
@@ -40,7 +41,8 @@ same-end : (bs : List ℕ) → is_space (get_or bs (position_or_len is_behind bs
 same-end [] h = refl
 same-end (b ∷ bs) h = by (is_behind b) refl (same-end bs) h
   where
-    by : (s : Bool) → is_behind b ≡ s → (is_space (get_or bs (position_or_len is_behind bs) 0) ≡ true → position_or_len is_space bs ≡ position_or_len is_behind bs) → is_space (get_or (b ∷ bs) (position_or_len is_behind (b ∷ bs)) 0) ≡ true
+    by : (s : Bool) → is_behind b ≡ s → (is_space (get_or bs (position_or_len is_behind bs) 0) ≡ true → position_or_len is_space bs
+        ≡ position_or_len is_behind bs) → is_space (get_or (b ∷ bs) (position_or_len is_behind (b ∷ bs)) 0) ≡ true
         → position_or_len is_space (b ∷ bs) ≡ position_or_len is_behind (b ∷ bs)
     by false e more at =
         let next : 1 + position_or_len is_behind bs ≡ suc (position_or_len is_behind bs) = omega arith in
@@ -54,7 +56,8 @@ no-end : (bs : List ℕ) → length bs ≤ position_or_len is_behind bs → leng
 no-end [] h = omega arith
 no-end (b ∷ bs) h = by (is_behind b) refl (no-end bs) h
   where
-    by : (s : Bool) → is_behind b ≡ s → (length bs ≤ position_or_len is_behind bs → length bs ≤ position_or_len is_space bs) → length (b ∷ bs) ≤ position_or_len is_behind (b ∷ bs) → length (b ∷ bs) ≤ position_or_len is_space (b ∷ bs)
+    by : (s : Bool) → is_behind b ≡ s → (length bs ≤ position_or_len is_behind bs → length bs ≤ position_or_len is_space bs)
+        → length (b ∷ bs) ≤ position_or_len is_behind (b ∷ bs) → length (b ∷ bs) ≤ position_or_len is_space (b ∷ bs)
     by false e more at =
         let here : suc (length bs) ≤ 1 + position_or_len is_behind bs = rw e at at in
         let next = more (omega arith) in
@@ -73,10 +76,13 @@ pub blank-text : (bs : List ℕ) → None ≡ position is_other bs → list_all 
 blank-text bs h = text-behind is_other is_text_byte space-text bs ∙ rw (drop_all (position_or_len is_other bs) bs (is-far is_other bs h)) refl
 
 front-text : (bs text : List ℕ) (i : ℕ) → Some i ≡ position is_other bs → text ≡ drop i bs → list_all is_text_byte bs ≡ list_all is_text_byte text
-front-text bs text i h t = text-behind is_other is_text_byte space-text bs ∙ ap (λ (n : ℕ). list_all is_text_byte (drop n bs)) (is-at is_other bs i h).1 ∙ ap (list_all is_text_byte) (sym t)
+front-text bs text i h t =
+    text-behind is_other is_text_byte space-text bs ∙ ap (λ (n : ℕ). list_all is_text_byte (drop n bs)) (is-at is_other bs i h).1
+    ∙ ap (list_all is_text_byte) (sym t)
 
 -- the end of a field: the byte there, and the rest
-end-text : (text : List ℕ) (j : ℕ) → Some j ≡ position is_behind text → list_all is_text_byte text ≡ (is_text_byte (get_or text j 0) && list_all is_text_byte (drop (j + 1) text))
+end-text : (text : List ℕ) (j : ℕ) → Some j ≡ position is_behind text
+    → list_all is_text_byte text ≡ (is_text_byte (get_or text j 0) && list_all is_text_byte (drop (j + 1) text))
 end-text text j h =
     let found = is-at is_behind text j h in
     let within : j < length text = rw found.1 at found.0 in
@@ -86,24 +92,29 @@ end-text text j h =
 is-end : (text : List ℕ) (j : ℕ) → Some j ≡ position is_behind text → is_behind (get_or text j 0) ≡ true
 is-end text j h = let found = is-at is_behind text j h in rw found.1 at (passes_at_first is_behind text 0 found.0)
 
-pub ended-text : (bs text rest : List ℕ) (i j : ℕ) → Some i ≡ position is_other bs → text ≡ drop i bs → Some j ≡ position is_behind text → is_space (get_or text j 0) ≡ true → rest ≡ drop (j + 1) text → list_all is_text_byte bs ≡ list_all is_text_byte rest
-ended-text bs text rest i j h t k s r = front-text bs text i h t ∙ end-text text j k ∙ rw (is-space-text (get_or text j 0) s) (ap (list_all is_text_byte) (sym r))
+pub ended-text : (bs text rest : List ℕ) (i j : ℕ) → Some i ≡ position is_other bs → text ≡ drop i bs → Some j ≡ position is_behind text
+    → is_space (get_or text j 0) ≡ true → rest ≡ drop (j + 1) text → list_all is_text_byte bs ≡ list_all is_text_byte rest
+ended-text bs text rest i j h t k s r =
+    front-text bs text i h t ∙ end-text text j k ∙ rw (is-space-text (get_or text j 0) s) (ap (list_all is_text_byte) (sym r))
 
 pub ended-field : (text : List ℕ) (j : ℕ) → Some j ≡ position is_behind text → is_space (get_or text j 0) ≡ true → Some j ≡ position is_space text
 ended-field text j k s =
     let found = is-at is_behind text j k in
     k ∙ ap (λ (n : ℕ). cond (nat_lt n (length text)) (Some n) None) (sym (same-end text (rw (← found.1) at s)))
 
-pub last-text : (bs text rest : List ℕ) (i : ℕ) → Some i ≡ position is_other bs → text ≡ drop i bs → None ≡ position is_behind text → rest ≡ drop (length text) text → list_all is_text_byte bs ≡ list_all is_text_byte rest
+pub last-text : (bs text rest : List ℕ) (i : ℕ) → Some i ≡ position is_other bs → text ≡ drop i bs → None ≡ position is_behind text
+    → rest ≡ drop (length text) text → list_all is_text_byte bs ≡ list_all is_text_byte rest
 last-text bs text rest i h t k r =
     front-text bs text i h t
     ∙ text-behind is_behind is_text_byte inner-text text
-    ∙ ap (list_all is_text_byte) (drop_all (position_or_len is_behind text) text (is-far is_behind text k) ∙ sym (drop_all (length text) text (omega arith)) ∙ sym r)
+    ∙ ap (list_all is_text_byte) (drop_all (position_or_len is_behind text) text (is-far is_behind text k)
+    ∙ sym (drop_all (length text) text (omega arith)) ∙ sym r)
 
 pub last-field : (text : List ℕ) → None ≡ position is_behind text → None ≡ position is_space text
 last-field text k = rw (le-ltb _ _ (no-end text (is-far is_behind text k))) refl
 
-pub other-text : (bs text : List ℕ) (i j : ℕ) → Some i ≡ position is_other bs → text ≡ drop i bs → Some j ≡ position is_behind text → is_space (get_or text j 0) ≡ false → list_all is_text_byte bs ≡ false
+pub other-text : (bs text : List ℕ) (i j : ℕ) → Some i ≡ position is_other bs → text ≡ drop i bs → Some j ≡ position is_behind text
+    → is_space (get_or text j 0) ≡ false → list_all is_text_byte bs ≡ false
 other-text bs text i j h t k s = front-text bs text i h t ∙ end-text text j k ∙ rw (behind-text (get_or text j 0) (is-end text j k) s) refl
 
 -- a line with another byte has a field
@@ -114,8 +125,10 @@ other-filled bs h = by (position is_other bs) refl
     filled first more e = rw e (ne_eqb (suc (length more)) 0 (λ k. omega arith))
 
     begun : (i : ℕ) → Some i ≡ position is_other bs → (end : Option ℕ) → end ≡ position is_space (drop i bs) → (length (fields bs) == 0) ≡ false
-    begun i e None k = filled (drop i bs) (fields (drop (length (drop i bs)) (drop i bs))) (field-at-end bs (drop i bs) (drop (length (drop i bs)) (drop i bs)) i e refl k refl)
-    begun i e (Some j) k = filled (take j (drop i bs)) (fields (drop (j + 1) (drop i bs))) (field-found bs (drop i bs) (drop (j + 1) (drop i bs)) i j e refl k refl)
+    begun i e None k = filled (drop i bs) (fields (drop (length (drop i bs)) (drop i bs)))
+        (field-at-end bs (drop i bs) (drop (length (drop i bs)) (drop i bs)) i e refl k refl)
+    begun i e (Some j) k = filled (take j (drop i bs)) (fields (drop (j + 1) (drop i bs)))
+        (field-found bs (drop i bs) (drop (j + 1) (drop i bs)) i j e refl k refl)
 
     by : (start : Option ℕ) → start ≡ position is_other bs → (length (fields bs) == 0) ≡ false
     by None e = let text = blank-text bs e in absurd cc

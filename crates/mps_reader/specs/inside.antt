@@ -1,4 +1,3 @@
-pub mod Answer
 pub mod Columns
 pub mod Agreeing
 pub mod Reading

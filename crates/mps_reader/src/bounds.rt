@@ -12,13 +12,11 @@ ghost use Rattle.mps_reader.specs.inside.Columns.{BothFit};
 ghost use Rattle.mps_reader.specs.inside.Rows.{names_of};
 ghost use Rattle.mps_reader.specs.inside.Tracking.{ColumnsTell, bit, state_values, bounded_values};
 ghost use Rattle.std.specs.Bool.{then_some as when};
-ghost use Rattle.mps_reader.specs.declared.row_table.Rows as row_table;
+ghost use Rattle.mps_reader.specs.declared.tables.Rows as row_table;
 
-use crate::column_state::ColumnState;
-use crate::column_table::ColumnTable;
+use crate::fields::{is_word, take_bit};
 use crate::refusal::Refusal;
-use crate::values::take_bit;
-use crate::words::is_word;
+use crate::tables::{ColumnState, ColumnTable};
 use program_rows::{MpsFaultKind, place_of};
 
 fn is_bound_type(word: &[u8]) -> bool

@@ -13,19 +13,16 @@ ghost use Rattle.auction_terms.specs.Borrowed.{bytes_of};
 ghost use Rattle.mps_reader.specs.inside.Reading.{AnswersFault};
 ghost use Rattle.mps_reader.specs.inside.Rows.{RowsFit, StampsAre, names_of, declared_row_names, option_now};
 ghost use Rattle.mps_reader.specs.inside.Tracking.{AreStampsUpTo, OpenTells, ColumnsTell, InColumns};
-ghost use Rattle.mps_reader.specs.declared.row_table.Rows as row_table;
+ghost use Rattle.mps_reader.specs.declared.tables.Rows as row_table;
 ghost use Rattle.mps_reader.specs.inside.Columns.{ColumnsFit, put_entries, PairsFit, BothFit};
 ghost use Rattle.auction_terms.specs.Decimals.{number};
 ghost use Rattle.std.specs.Bool.{then_some as when};
 
-use crate::column_table::ColumnTable;
-use crate::columns::{close_column, open_column};
-use crate::markers::{names_marker, take_marker};
-use crate::open_column::OpenColumn;
+use crate::columns::{close_column, names_marker, open_column, take_marker};
+use crate::fields::take_number;
 use crate::refusal::Refusal;
-use crate::row_table::Rows;
 use crate::rows::{is_objective, stamp_row};
-use crate::values::take_number;
+use crate::tables::{ColumnTable, OpenColumn, Rows};
 use program_rows::MpsFaultKind;
 use std::alloc::AllocError;
 

@@ -1,12 +1,20 @@
-//! The fields of a line.
+//! What the lines of an MPS text are, their fields, and the numbers and words that fields are.
 
-ghost use Rattle.std.specs.Prelude.{◌≡◌, ◌≤◌, ◌<◌, ◌∷◌, [], true, false, take, drop, length, position, MatchOption, IfSome, IfOk, OnErr};
+ghost use Rattle.std.specs.Prelude.{◌≡◌, ◌≤◌, ◌<◌, ◌∷◌, [], true, false, take, drop, length, position, MatchOption, IfSome, IfOk, OnErr, ◌==◌, slice_index, bytes_eq};
 ghost use Rattle.std.specs.List.{list_all};
 ghost use Rattle.auction_terms.specs.LineFields.{fields, is_space};
 ghost use Rattle.auction_terms.specs.Borrowed.{bytes_of};
-ghost use Rattle.mps_reader.specs.inside.Reading.{is_other, is_behind, is_text_byte};
+ghost use Rattle.mps_reader.specs.inside.Reading.{is_other, is_behind, is_text_byte, IsLine, AnswersFault, bit_fault};
+ghost use Rattle.program_rows.specs.MpsLines.{line_of};
+ghost use Rattle.program_rows.specs.MpsProgram.{value};
+ghost use Rattle.program_rows.specs.MpsFaults.{number_fault};
+ghost use Rattle.mps_reader.specs.inside.Tracking.{bit};
+ghost use Rattle.auction_terms.specs.Decimals.{number};
 
+use crate::refusal::Refusal;
 use arrayvec::ArrayVec;
+use auction_terms::{NumberFault, read_number};
+use program_rows::MpsFaultKind;
 
 /// The first fields of a line. No line that is accepted has more than five, so six tell all lines apart.
 pub type Fields<'t> = ArrayVec<&'t [u8], 6>;
@@ -86,7 +94,7 @@ fn next_field(rest: &[u8]) -> Result<Option<(&[u8], &[u8])>, NotText>
 }
 
 /// The first fields of a line of text.
-pub fn first_fields(line: &[u8]) -> Result<Fields<'_>, NotText>
+fn first_fields(line: &[u8]) -> Result<Fields<'_>, NotText>
     ensures fields { IfOk result (λ found. bytes_of found.items ≡ take 6 (fields line.now)) }
     ensures text { IfOk result (λ _. list_all is_text_byte line.now ≡ true) }
     ensures other { OnErr result (list_all is_text_byte line.now ≡ false) }
@@ -100,4 +108,83 @@ pub fn first_fields(line: &[u8]) -> Result<Fields<'_>, NotText>
         rest = behind;
     }
     Ok(fields)
+}
+
+/// A line.
+#[derive(Drop)]
+pub enum Line<'t> {
+    Skipped,
+    Unprintable,
+    Header(Fields<'t>),
+    Data(Fields<'t>),
+}
+
+fn is_comment(line: &[u8]) -> bool
+    requires { 1 ≤ length line.now }
+    ensures { result ≡ (slice_index line.now 0 == 42) }
+{
+    line[0] == b'*'
+}
+
+fn is_data(line: &[u8]) -> bool
+    requires { 1 ≤ length line.now }
+    ensures { result ≡ is_space (slice_index line.now 0) }
+{
+    line[0] == b' ' || line[0] == b'\t'
+}
+
+/// What a line is, with its first fields.
+pub fn read_line(bytes: &[u8]) -> Line<'_>
+    ensures { IsLine result bytes.now }
+{
+    if bytes.is_empty() {
+        return Line::Skipped;
+    }
+    if is_comment(bytes) {
+        return Line::Skipped;
+    }
+    let Ok(fields) = first_fields(bytes) else {
+        return Line::Unprintable;
+    };
+    if fields.is_empty() {
+        return Line::Skipped;
+    }
+    if is_data(bytes) {
+        return Line::Data(fields);
+    }
+    Line::Header(fields)
+}
+
+/// Whether the bytes are those of the word.
+pub fn is_word(bytes: &[u8], word: &[u8]) -> bool
+    ensures { result ≡ bytes_eq bytes.now word.now }
+{
+    bytes == word
+}
+
+/// A number.
+#[inline(always)]
+pub fn take_number(token: &[u8]) -> Result<i64, Refusal>
+    ensures fault { AnswersFault result (number_fault (number token.now)) }
+    ensures value { IfOk result (λ n. value token.now ≡ n) }
+{
+    match read_number(token) {
+        Ok(value) => Ok(value),
+        Err(NumberFault::NumberText) => Err(Refusal::Fault(MpsFaultKind::NumberText)),
+        Err(NumberFault::NumberRange) => Err(Refusal::Fault(MpsFaultKind::NumberRange)),
+        Err(NumberFault::NotWhole) => Err(Refusal::Fault(MpsFaultKind::NotWhole)),
+    }
+}
+
+/// A number that is 0 or 1.
+pub fn take_bit(token: &[u8]) -> Result<bool, Refusal>
+    ensures fault { AnswersFault result (bit_fault token.now) }
+    ensures value { IfOk result (λ b. value token.now ≡ bit b) }
+{
+    let value = take_number(token)?;
+    if value == 0 {
+        return Ok(false);
+    }
+    refuse!(value != 1, BoundValue);
+    Ok(true)
 }

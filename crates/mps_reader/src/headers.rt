@@ -1,7 +1,7 @@
-//! Headers: the sections and their order.
+//! Headers: the sections and their order, and the sense of the objective.
 
 ghost use Rattle.std.specs.Prelude.{◌≡◌, ◌∷◌, [], ◌==◌, ◌<◌, ◌&&◌, not, codes, nat_lt, length, is_none, bytes_eq, true, IfOk, OnOk, None, if◌then◌else◌, position, option_map};
-ghost use Rattle.program_rows.specs.declared.mps_fault_kind.MpsFaultKind.TheVariants.{SectionLeftOut, Section, Fields, NoObjective, NotBinary};
+ghost use Rattle.program_rows.specs.declared.mps_fault_kind.MpsFaultKind.TheVariants.{SectionLeftOut, Section, Fields, NoObjective, NotBinary, SenseMax};
 ghost use Rattle.auction_terms.specs.LineFields.{field};
 ghost use Rattle.program_rows.specs.MpsSections.{Sections};
 ghost use Rattle.program_rows.specs.MpsProgram.{is_one_of, first_free, columns_named};
@@ -11,11 +11,47 @@ ghost use Rattle.mps_reader.specs.inside.Reading.{AnswersFault, AnswersUpTo};
 ghost use Rattle.mps_reader.specs.inside.Sections.{word_of};
 ghost use Rattle.std.specs.Bool.{then_some as when};
 
+use crate::fields::is_word;
 use crate::refusal::Refusal;
 use crate::sections::{Section, place, section_of};
-use crate::senses::take_sense_line;
-use crate::words::is_word;
 use program_rows::MpsFaultKind;
+
+fn is_greatest(word: &[u8]) -> bool
+    ensures { result ≡ is_one_of word.now (codes "MAX" ∷ codes "MAXIMIZE" ∷ []) }
+{
+    is_word(word, b"MAX") || is_word(word, b"MAXIMIZE")
+}
+
+fn is_least(word: &[u8]) -> bool
+    ensures { result ≡ is_one_of word.now (codes "MIN" ∷ codes "MINIMIZE" ∷ []) }
+{
+    is_word(word, b"MIN") || is_word(word, b"MINIMIZE")
+}
+
+/// A sense.
+fn take_sense(word: &[u8]) -> Result<(), Refusal>
+    ensures { AnswersFault result (earliest_fault
+        (when (is_one_of word.now (codes "MAX" ∷ codes "MAXIMIZE" ∷ [])) SenseMax
+        ∷ when (not (is_one_of word.now (codes "MIN" ∷ codes "MINIMIZE" ∷ []))) Fields ∷ [])) }
+{
+    if is_greatest(word) {
+        return Err(Refusal::Fault(MpsFaultKind::SenseMax));
+    }
+    if !is_least(word) {
+        return Err(Refusal::Fault(MpsFaultKind::Fields));
+    }
+    Ok(())
+}
+
+/// The one field of a line of OBJSENSE, or of its header.
+pub fn take_sense_line(fields: &[&[u8]]) -> Result<(), Refusal>
+    ensures { AnswersFault result (sense_fault (bytes_of fields.now)) }
+{
+    if fields.len() != 1 {
+        return Err(Refusal::Fault(MpsFaultKind::Fields));
+    }
+    take_sense(fields[0])
+}
 
 fn is_left_out(word: &[u8]) -> bool
     ensures { result ≡ is_one_of word.now sections_left_out }

@@ -11,30 +11,18 @@ macro_rules! refuse {
 }
 
 mod bounds;
-mod column_state;
-mod column_table;
 mod columns;
 mod entries;
 mod fields;
-mod finishing;
 mod headers;
 pub mod laws;
 mod limits;
-mod lines;
-mod markers;
-mod names;
-mod open_column;
 mod reader;
-mod reading;
-mod reading_state;
 mod refusal;
 mod right_sides;
-mod row_table;
 mod rows;
 mod sections;
-mod senses;
-mod values;
-mod words;
+mod tables;
 
 pub use limits::PROGRAM_LIMIT;
 pub use reader::read_program;

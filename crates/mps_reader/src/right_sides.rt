@@ -14,10 +14,10 @@ ghost use Rattle.program_rows.specs.Parts.{shown_row};
 ghost use Rattle.mps_reader.specs.inside.Rows.{RowsFit, StampsAre, names_of, with_side, rows_by, side_fault};
 ghost use Rattle.mps_reader.specs.inside.Tracking.{RowsTell};
 
+use crate::fields::take_number;
 use crate::refusal::Refusal;
-use crate::row_table::Rows;
 use crate::rows::{is_objective, stamp_row};
-use crate::values::take_number;
+use crate::tables::Rows;
 use program_rows::{MpsFaultKind, Row};
 
 fn is_constant(is_cost: bool, value: i64) -> bool

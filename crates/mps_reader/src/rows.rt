@@ -14,10 +14,9 @@ ghost use Rattle.mps_reader.specs.inside.Rows.{names_of, RowsFit, AddsFree, Adds
 ghost use Rattle.mps_reader.specs.inside.Tracking.{RowsTell, AreStampsUpTo};
 ghost use Rattle.std.specs.Bool.{then_some as when};
 
-use crate::names::insert_name;
+use crate::fields::is_word;
 use crate::refusal::Refusal;
-use crate::row_table::Rows;
-use crate::words::is_word;
+use crate::tables::{Rows, insert_name};
 use program_rows::{MpsFaultKind, NameSet, Row, RowKind, place_of};
 use std::alloc::{AllocError, Global};
 use std::cell::Cell;

@@ -4,7 +4,7 @@ ghost use Rattle.std.specs.Prelude.{◌≡◌};
 ghost use Rattle.program_rows.specs.MpsFaults.{place_of};
 ghost use Rattle.mps_reader.specs.inside.Sections.{word_of, section_named};
 
-use crate::words::is_word;
+use crate::fields::is_word;
 
 /// The section that is open.
 #[derive(Clone, Copy, PartialEq, Eq)]

@@ -4,8 +4,8 @@ use Rattle.mps_reader.specs.inside.Rows.{RowsFit}
 use Rattle.mps_reader.specs.inside.Columns.{BothFit}
 use Rattle.mps_reader.specs.declared.sections.Section.{Section}
 use Rattle.mps_reader.specs.declared.sections.Section.TheVariants as sections
-use Rattle.mps_reader.specs.declared.column_table.ColumnTable.{ColumnTable}
-use Rattle.mps_reader.specs.declared.reading_state.Reading.{Reading}
+use Rattle.mps_reader.specs.declared.tables.ColumnTable.{ColumnTable}
+use Rattle.mps_reader.specs.declared.tables.Reading.{Reading}
 
 -- a column is open in its section alone
 abbrev pub IsClosed : Section → ColumnTable → Type 0

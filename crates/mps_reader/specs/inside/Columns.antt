@@ -7,9 +7,9 @@ use Rattle.program_rows.specs.Parts.{IsName, AreEntries}
 use Rattle.auction_terms.specs.LineFields.{LineFields, field}
 use Rattle.program_rows.specs.MpsProgram.{is_marker}
 use Rattle.mps_reader.specs.inside.Rows.{names_of, option_now}
-use Rattle.mps_reader.specs.declared.open_column.OpenColumn.{OpenColumn}
-use Rattle.mps_reader.specs.declared.column_table.ColumnTable.{ColumnTable}
-use Rattle.mps_reader.specs.declared.row_table.Rows.{Rows}
+use Rattle.mps_reader.specs.declared.tables.OpenColumn.{OpenColumn}
+use Rattle.mps_reader.specs.declared.tables.ColumnTable.{ColumnTable}
+use Rattle.mps_reader.specs.declared.tables.Rows.{Rows}
 
 abbrev pub same_place : ℕ × ℤ → ℕ × ℤ → Bool
 same_place a b = a.0 == b.0
@@ -21,7 +21,8 @@ pub record AreDistinctEntries (count : ℕ) (entries : List (ℕ × ℤ)) : Type
 
 -- a row without the stamp has no entry
 abbrev pub IsApart : List ℕ → List (Option ℕ) → ℕ → List (ℕ × ℤ) → Type 0
-IsApart stamps places stamp entries = (i p d : ℕ) → slice_get places i ≡ Some (Some p) → slice_get stamps i ≡ Some d → (d == stamp) ≡ false → AllByRecursion (λ e. (e.0 == p) ≡ false) entries
+IsApart stamps places stamp entries =
+    (i p d : ℕ) → slice_get places i ≡ Some (Some p) → slice_get stamps i ≡ Some d → (d == stamp) ≡ false → AllByRecursion (λ e. (e.0 == p) ≡ false) entries
 
 pub record ColumnsFit (count : ℕ) (c : ColumnTable) : Type 0 where
   pub distinct : IsDistinct bytes_eq (names_of c.names)
@@ -73,7 +74,8 @@ pub record IsEmptyColumns (c : ColumnTable) : Type 0 where
 -- the numbers of rows that are not 0, from a place on
 abbrev pub entries_at : ℕ → (List ℕ → ℤ) → List (List ℕ) → List (ℕ × ℤ)
 entries_at place number [] = []
-entries_at place number (row ∷ rows) = if int_eq (number row) (pos 0) then entries_at (suc place) number rows else (place, number row) ∷ entries_at (suc place) number rows
+entries_at place number (row ∷ rows) =
+    if int_eq (number row) (pos 0) then entries_at (suc place) number rows else (place, number row) ∷ entries_at (suc place) number rows
 
 -- the column of the nearest line, unless that is a marker
 abbrev pub nearest_column : List LineFields → Option (List ℕ)

@@ -10,9 +10,10 @@ use Rattle.program_rows.specs.MpsProgram.{value}
 use Rattle.program_rows.specs.MpsFaults.{number_fault}
 use Rattle.program_rows.specs.Parts.{IsName}
 use Rattle.program_rows.specs.declared.mps_fault_kind.MpsFaultKind.{MpsFaultKind}
-use Rattle.program_rows.specs.declared.mps_fault_kind.MpsFaultKind.TheVariants.{BoundValue}
-use Rattle.mps_reader.specs.declared.lines.Line.{Line}
-use Rattle.mps_reader.specs.declared.lines.Line.TheVariants.{Skipped, Unprintable, Header, Data}
+use Rattle.program_rows.specs.declared.mps_fault_kind.MpsFaultKind.TheVariants.{BoundValue, OutOfMemory}
+use Rattle.program_rows.specs.declared.mps_fault.MpsFault.{MpsFault}
+use Rattle.mps_reader.specs.declared.fields.Line.{Line}
+use Rattle.mps_reader.specs.declared.fields.Line.TheVariants.{Skipped, Unprintable, Header, Data}
 use Rattle.mps_reader.specs.declared.refusal.Refusal.{Refusal}
 use Rattle.mps_reader.specs.declared.refusal.Refusal.TheVariants.{Memory, Fault}
 use Rattle.auction_terms.specs.Borrowed.{bytes_of}
@@ -59,3 +60,8 @@ AnswersUpTo (Err (Fault kind)) fault last = fault ≡ Some kind
 -- a number that is 0 or 1
 abbrev pub bit_fault : List ℕ → Option MpsFaultKind
 bit_fault token = option_or (number_fault (number token)) (when (not (int_eq (value token) (pos 0) || int_eq (value token) (pos 1))) BoundValue)
+
+-- the fault of a refused line; memory that was short has no line
+abbrev pub IsRefusedLine : ℕ → Refusal → MpsFault → Type 0
+IsRefusedLine line Memory fault = fault ≡ record { line = 0; kind = OutOfMemory }
+IsRefusedLine line (Fault kind) fault = fault ≡ record { line = line; kind = kind }

@@ -15,7 +15,7 @@ use Rattle.program_rows.specs.MpsFaults.{earliest_fault, number_fault}
 use Rattle.program_rows.specs.declared.mps_fault_kind.MpsFaultKind.{MpsFaultKind}
 use Rattle.program_rows.specs.declared.mps_fault_kind.MpsFaultKind.TheVariants.{UnknownRow, EntryRepeated, ObjectiveConstant}
 use Rattle.auction_terms.specs.Borrowed.{bytes_of}
-use Rattle.mps_reader.specs.declared.row_table.Rows.{Rows}
+use Rattle.mps_reader.specs.declared.tables.Rows.{Rows}
 use Rattle.auction_terms.specs.Decimals.{number as token_number}
 use Rattle.std.specs.Bool.{then_some as when}
 
@@ -100,4 +100,6 @@ rows_by side lines = map (λ fields. record { name = field 1 fields; kind = row_
 
 -- the checks of a pair, whose row is known or not, repeated or not, and the objective or not
 abbrev pub side_fault : Bool → Bool → Bool → List ℕ → Option MpsFaultKind
-side_fault known repeated cost number = earliest_fault (when (not known) UnknownRow ∷ when repeated EntryRepeated ∷ number_fault (token_number number) ∷ when (cost && not (int_eq (value number) (pos 0))) ObjectiveConstant ∷ [])
+side_fault known repeated cost number =
+    earliest_fault (when (not known) UnknownRow ∷ when repeated EntryRepeated ∷ number_fault (token_number number)
+    ∷ when (cost && not (int_eq (value number) (pos 0))) ObjectiveConstant ∷ [])

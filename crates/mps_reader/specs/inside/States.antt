@@ -2,7 +2,7 @@
 use Rattle.std.specs.Prelude.{Bool, true, false, not, ◌&&◌, ◌||◌, Option, Some, None, if◌then◌else◌}
 use Rattle.program_rows.specs.declared.bounds.Bounds.{Bounds}
 use Rattle.program_rows.specs.declared.bounds.Bounds.TheVariants.{ZeroOrOne, Zero, One}
-use Rattle.mps_reader.specs.declared.column_state.ColumnState.{ColumnState}
+use Rattle.mps_reader.specs.declared.tables.ColumnState.{ColumnState}
 
 abbrev pub below_or_equal : Option Bool → Bool → Bool
 below_or_equal None lower = false

@@ -15,11 +15,11 @@ use Rattle.mps_reader.specs.inside.Rows.{names_of, option_now, declared_row_name
 use Rattle.mps_reader.specs.inside.Sections.{word_of}
 use Rattle.mps_reader.specs.declared.sections.Section.{Section}
 use Rattle.mps_reader.specs.declared.sections.Section.TheVariants as sections
-use Rattle.mps_reader.specs.declared.row_table.Rows.{Rows}
-use Rattle.mps_reader.specs.declared.column_state.ColumnState.{ColumnState}
-use Rattle.mps_reader.specs.declared.column_table.ColumnTable.{ColumnTable}
-use Rattle.mps_reader.specs.declared.open_column.OpenColumn.{OpenColumn}
-use Rattle.mps_reader.specs.declared.reading_state.Reading.{Reading}
+use Rattle.mps_reader.specs.declared.tables.Rows.{Rows}
+use Rattle.mps_reader.specs.declared.tables.ColumnState.{ColumnState}
+use Rattle.mps_reader.specs.declared.tables.ColumnTable.{ColumnTable}
+use Rattle.mps_reader.specs.declared.tables.OpenColumn.{OpenColumn}
+use Rattle.mps_reader.specs.declared.tables.Reading.{Reading}
 
 pub record RowsTell (rows rights : List LineFields) (r : Rows) : Type 0 where
   pub names : names_of r.names ≡ declared_names rows
@@ -61,7 +61,14 @@ parsed_values lines bounds column = (
 
 -- a column whose lines are all read, but for its bounds
 abbrev pub gathered_column : Option (List ℕ) → List (List ℕ) → List LineFields → List ℕ → TableColumn
-gathered_column objective rows lines name = record { name = name; bounds = ZeroOrOne; cost = number_beside (column_pairs lines name) (unwrap_or objective []); entries = entries_at 0 (number_beside (column_pairs lines name)) rows }
+gathered_column objective rows lines name =
+    record {
+      name = name;
+      bounds = ZeroOrOne;
+      cost = number_beside (column_pairs lines name) (unwrap_or objective []);
+      entries =
+          entries_at 0 (number_beside (column_pairs lines name)) rows;
+    }
 
 pub record ColumnsTell (objective : Option (List ℕ)) (rows : List (List ℕ)) (lines bounds : List LineFields) (c : ColumnTable) : Type 0 where
   pub names : names_of c.names ≡ columns_named lines
@@ -91,7 +98,8 @@ pub record InColumns (lines rights bounds : List LineFields) (r : Rows) (c : Col
   pub no_bounds : bounds ≡ []
   pub low : AreStampsUpTo (length (names_of c.names)) r
   pub current : option_now c.current ≡ nearest_column lines
-  pub stamps : IfSome c.current (λ name. StampsAre r.stamps.items (length (names_of c.names)) (names_of r.names) (λ row. list_any (λ other. bytes_eq row other.0) (column_pairs lines name.now)))
+  pub stamps : IfSome c.current (λ name. StampsAre r.stamps.items (length (names_of c.names)) (names_of r.names)
+      (λ row. list_any (λ other. bytes_eq row other.0) (column_pairs lines name.now)))
 
 pub record InRows (lines rights bounds : List LineFields) (r : Rows) (c : ColumnTable) : Type 0 where
   pub no_lines : lines ≡ []
@@ -106,7 +114,8 @@ pub record BeforeRows (rows lines rights bounds : List LineFields) (r : Rows) (c
 -- those of a line of RHS are those of the rows that a right side has named
 pub record InRightSides (rights bounds : List LineFields) (r : Rows) (c : ColumnTable) : Type 0 where
   pub no_bounds : bounds ≡ []
-  pub stamps : StampsAre r.stamps.items (length (names_of c.names) + 1) (names_of r.names) (λ row. list_any (λ other. bytes_eq row other.0) (flat_map line_right_sides rights))
+  pub stamps : StampsAre r.stamps.items (length (names_of c.names) + 1) (names_of r.names)
+      (λ row. list_any (λ other. bytes_eq row other.0) (flat_map line_right_sides rights))
 
 abbrev pub SectionTells : Section → List LineFields → List LineFields → List LineFields → List LineFields → Rows → ColumnTable → Type 0
 SectionTells sections.Start rows lines rights bounds r c = BeforeRows rows lines rights bounds r c

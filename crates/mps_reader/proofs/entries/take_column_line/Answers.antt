@@ -7,12 +7,12 @@ use Rattle.auction_terms.specs.Borrowed.{bytes_of}
 use Rattle.mps_reader.specs.inside.Rows.{names_of, option_now, declared_row_names, StampsAre}
 use Rattle.mps_reader.specs.inside.Tracking.{AreStampsUpTo}
 use Rattle.mps_reader.specs.inside.Columns.{ColumnsFit, IsApart, PairsFit}
-use Rattle.mps_reader.proofs.RowSteps.{no_name, field-at}
-use Rattle.mps_reader.proofs.PairSteps.{length-names}
+use Rattle.mps_reader.proofs.RowStepFacts.{no_name, field-at}
+use Rattle.mps_reader.proofs.PairStepFacts.{length-names}
 use Rattle.mps_reader.proofs.AnswerFacts.{handed-on}
-use Rattle.mps_reader.proofs.LineTells.{ready-of, split-refused, not-split, pairs-fault, line-tells, line-stays}
+use Rattle.mps_reader.proofs.LineFacts.{ready-of, split-refused, not-split, pairs-fault, line-tells, line-stays}
 use Rattle.mps_reader.proofs.NameFacts.{length-bytes}
-use Rattle.mps_reader.proofs.ColumnSteps.{line-fits}
+use Rattle.mps_reader.proofs.ColumnStepFacts.{line-fits}
 use Rattle.mps_reader.proofs.entries.take_column_line.Goals as goal
 
 pub returns-clause-columns : goal.returns-clause-columns
@@ -28,7 +28,8 @@ returns-then-names_marker-clause-columns c = c.in_ok-take_marker_line.ensures.fi
 pub returns-in_err-open_column-clause-fault : goal.returns-in_err-open_column-clause-fault
 returns-in_err-open_column-clause-fault c = λ before d both h at.
     let fields = bytes_of c.args.fields.now in
-    let count : ((length fields == 3) || (length fields == 5)) ≡ true = ap (λ n. (n == 3) || (n == 5)) (length-bytes c.args.fields.now) ∙ sym c.is_three_or_five.ensures.value ∙ c.if-not-is_three_or_five.false in
+    let count : ((length fields == 3) || (length fields == 5)) ≡ true = ap (λ n. (n == 3) || (n == 5)) (length-bytes c.args.fields.now)
+    ∙ sym c.is_three_or_five.ensures.value ∙ c.if-not-is_three_or_five.false in
     let marker : is_marker fields ≡ false = sym c.names_marker.ensures ∙ c.if-names_marker.false in
     let named = field-at c.args.fields.now 0 (omega (arith, c.is_three_or_five.ensures.some c.if-not-is_three_or_five.false)) in
     handed-on (Unit {0}) c.from_residual-in_err-open_column.result c.in_err-open_column.field-0.0 _ _ (search rules)
@@ -38,24 +39,34 @@ returns-in_err-open_column-clause-fault c = λ before d both h at.
 pub returns-in_err-take_entries-clause-fault : goal.returns-in_err-take_entries-clause-fault
 returns-in_err-take_entries-clause-fault c = λ before d both h at.
     let fields = bytes_of c.args.fields.now in
-    let count : ((length fields == 3) || (length fields == 5)) ≡ true = ap (λ n. (n == 3) || (n == 5)) (length-bytes c.args.fields.now) ∙ sym c.is_three_or_five.ensures.value ∙ c.if-not-is_three_or_five.false in
+    let count : ((length fields == 3) || (length fields == 5)) ≡ true = ap (λ n. (n == 3) || (n == 5)) (length-bytes c.args.fields.now)
+    ∙ sym c.is_three_or_five.ensures.value ∙ c.if-not-is_three_or_five.false in
     let marker : is_marker fields ≡ false = sym c.names_marker.ensures ∙ c.if-names_marker.false in
     let named = field-at c.args.fields.now 0 (omega (arith, c.is_three_or_five.ensures.some c.if-not-is_three_or_five.false)) in
-    let ready = ready-of fields (option_now c.args.rows.now.objective) before.columns c.args.rows.now c.args.columns.now c.open_column.new.columns (get_or c.args.fields.now 0 no_name).now marker named c.requires.fit c.in_ok-open_column.ensures.same c.in_ok-open_column.ensures.added both.columns h at in
-    let stamp : c.len.result ≡ length (names_of c.open_column.new.columns.names) = c.len.ensures.len ∙ sym (length-bytes c.open_column.new.columns.names.keys) in
+    let ready = ready-of fields (option_now c.args.rows.now.objective) before.columns c.args.rows.now c.args.columns.now c.open_column.new.columns
+    (get_or c.args.fields.now 0 no_name).now marker named c.requires.fit c.in_ok-open_column.ensures.same c.in_ok-open_column.ensures.added
+    both.columns h at in
+    let stamp : c.len.result ≡ length (names_of c.open_column.new.columns.names) =
+    c.len.ensures.len ∙ sym (length-bytes c.open_column.new.columns.names.keys) in
     handed-on (Unit {0}) c.from_residual-in_err-take_entries.result c.in_err-take_entries.field-0.0 _ _ (search rules)
-    (λ kind k. pairs-fault before fields count marker (not-split before fields c.args.columns.now (get_or c.args.fields.now 0 no_name).now named at.current h.names c.in_ok-open_column.ensures.fault) ∙ k)
+    (λ kind k. pairs-fault before fields count marker (not-split before fields c.args.columns.now (get_or c.args.fields.now 0 no_name).now named
+    at.current h.names c.in_ok-open_column.ensures.fault) ∙ k)
     (c.in_err-take_entries.ensures.fault before.rows (column_pairs before.columns (field 0 fields)) d (rw stamp ready.stamps))
 
 pub returns-clause-fault : goal.returns-clause-fault
 returns-clause-fault c = λ before d both h at.
     let fields = bytes_of c.args.fields.now in
-    let count : ((length fields == 3) || (length fields == 5)) ≡ true = ap (λ n. (n == 3) || (n == 5)) (length-bytes c.args.fields.now) ∙ sym c.is_three_or_five.ensures.value ∙ c.if-not-is_three_or_five.false in
+    let count : ((length fields == 3) || (length fields == 5)) ≡ true = ap (λ n. (n == 3) || (n == 5)) (length-bytes c.args.fields.now)
+    ∙ sym c.is_three_or_five.ensures.value ∙ c.if-not-is_three_or_five.false in
     let marker : is_marker fields ≡ false = sym c.names_marker.ensures ∙ c.if-names_marker.false in
     let named = field-at c.args.fields.now 0 (omega (arith, c.is_three_or_five.ensures.some c.if-not-is_three_or_five.false)) in
-    let ready = ready-of fields (option_now c.args.rows.now.objective) before.columns c.args.rows.now c.args.columns.now c.open_column.new.columns (get_or c.args.fields.now 0 no_name).now marker named c.requires.fit c.in_ok-open_column.ensures.same c.in_ok-open_column.ensures.added both.columns h at in
-    let stamp : c.len.result ≡ length (names_of c.open_column.new.columns.names) = c.len.ensures.len ∙ sym (length-bytes c.open_column.new.columns.names.keys) in
-    pairs-fault before fields count marker (not-split before fields c.args.columns.now (get_or c.args.fields.now 0 no_name).now named at.current h.names c.in_ok-open_column.ensures.fault)
+    let ready = ready-of fields (option_now c.args.rows.now.objective) before.columns c.args.rows.now c.args.columns.now c.open_column.new.columns
+    (get_or c.args.fields.now 0 no_name).now marker named c.requires.fit c.in_ok-open_column.ensures.same c.in_ok-open_column.ensures.added
+    both.columns h at in
+    let stamp : c.len.result ≡ length (names_of c.open_column.new.columns.names) =
+    c.len.ensures.len ∙ sym (length-bytes c.open_column.new.columns.names.keys) in
+    pairs-fault before fields count marker (not-split before fields c.args.columns.now (get_or c.args.fields.now 0 no_name).now named at.current
+    h.names c.in_ok-open_column.ensures.fault)
     ∙ c.in_ok-take_entries.ensures.fault before.rows (column_pairs before.columns (field 0 fields)) d (rw stamp ready.stamps)
 
 pub returns-clause-tells : goal.returns-clause-tells
@@ -63,17 +74,31 @@ returns-clause-tells c = λ lines both h at.
     let fields = bytes_of c.args.fields.now in
     let marker : is_marker fields ≡ false = sym c.names_marker.ensures ∙ c.if-names_marker.false in
     let named = field-at c.args.fields.now 0 (omega (arith, c.is_three_or_five.ensures.some c.if-not-is_three_or_five.false)) in
-    let ready = ready-of fields (option_now c.args.rows.now.objective) lines c.args.rows.now c.args.columns.now c.open_column.new.columns (get_or c.args.fields.now 0 no_name).now marker named c.requires.fit c.in_ok-open_column.ensures.same c.in_ok-open_column.ensures.added both.columns h at in
-    let stamp : c.len.result ≡ length (names_of c.open_column.new.columns.names) = c.len.ensures.len ∙ sym (length-bytes c.open_column.new.columns.names.keys) in
+    let ready = ready-of fields (option_now c.args.rows.now.objective) lines c.args.rows.now c.args.columns.now c.open_column.new.columns
+    (get_or c.args.fields.now 0 no_name).now marker named c.requires.fit c.in_ok-open_column.ensures.same c.in_ok-open_column.ensures.added
+    both.columns h at in
+    let stamp : c.len.result ≡ length (names_of c.open_column.new.columns.names) =
+    c.len.ensures.len ∙ sym (length-bytes c.open_column.new.columns.names.keys) in
     let fit = c.in_ok-open_column.ensures.fit (length c.args.rows.now.rows.items) both.columns in
-    let apart = c.in_ok-open_column.ensures.apart (length c.args.rows.now.rows.items) c.args.rows.now.stamps.items c.args.rows.now.places.items both.columns both.apart in
-    let paired : PairsFit c.len.result c.args.rows.now c.open_column.new.columns.current_column = record { entries = fit.opened; apart = subst (λ n. IsApart c.args.rows.now.stamps.items c.args.rows.now.places.items n c.open_column.new.columns.current_column.entries.items) (sym stamp) apart } in
+    let apart = c.in_ok-open_column.ensures.apart (length c.args.rows.now.rows.items) c.args.rows.now.stamps.items c.args.rows.now.places.items
+    both.columns both.apart in
+    let paired : PairsFit c.len.result c.args.rows.now c.open_column.new.columns.current_column =
+    record {
+      entries = fit.opened;
+      apart =
+          subst (λ n. IsApart c.args.rows.now.stamps.items c.args.rows.now.places.items n c.open_column.new.columns.current_column.entries.items)
+          (sym stamp) apart;
+    } in
     let current = c.in_ok-open_column.ensures.current ∙ ap (λ n. Some n) (sym named) in
     let kept = ap (λ q. q.names) c.in_ok-take_entries.ensures.frame in (
-      line-tells fields (option_now c.args.rows.now.objective) (declared_row_names c.args.rows.now.rows.items) lines c.args.rows.now c.open_column.new.columns c.take_entries.new.column marker
+      line-tells fields (option_now c.args.rows.now.objective) (declared_row_names c.args.rows.now.rows.items) lines c.args.rows.now
+          c.open_column.new.columns c.take_entries.new.column marker
           (subst (λ n. ColumnsFit n c.open_column.new.columns) (sym (length-names c.args.rows.now.rows.items)) fit) current ready
           (c.in_ok-take_entries.ensures.tells paired (column_pairs lines (field 0 fields)) (rw stamp ready.stamps) ready.tells),
       line-stays fields lines c.args.rows.now c.take_entries.new.rows c.open_column.new.columns c.take_entries.new.column marker current kept
-          (subst (λ n. AreStampsUpTo n c.take_entries.new.rows) stamp (c.in_ok-take_entries.ensures.low (subst (λ n. AreStampsUpTo n c.args.rows.now) (sym stamp) ready.low)))
-          (subst (λ n. StampsAre c.take_entries.new.rows.stamps.items n (names_of c.args.rows.now.names) (λ row. list_any (λ other. bytes_eq row other.0) (pairs (drop 1 fields) ++ column_pairs lines (field 0 fields)))) stamp (c.in_ok-take_entries.ensures.stamps (column_pairs lines (field 0 fields)) (rw stamp ready.stamps))),
+          (subst (λ n. AreStampsUpTo n c.take_entries.new.rows) stamp (c.in_ok-take_entries.ensures.low
+          (subst (λ n. AreStampsUpTo n c.args.rows.now) (sym stamp) ready.low)))
+          (subst (λ n. StampsAre c.take_entries.new.rows.stamps.items n (names_of c.args.rows.now.names)
+          (λ row. list_any (λ other. bytes_eq row other.0) (pairs (drop 1 fields) ++ column_pairs lines (field 0 fields)))) stamp
+          (c.in_ok-take_entries.ensures.stamps (column_pairs lines (field 0 fields)) (rw stamp ready.stamps))),
     )

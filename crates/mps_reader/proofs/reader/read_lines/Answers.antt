@@ -5,7 +5,7 @@ use Rattle.mps_reader.proofs.EndFacts.{moved}
 use Rattle.std.specs.Prelude.{Ok}
 use Rattle.program_rows.specs.MpsLines.{line_of}
 use Rattle.program_rows.specs.MpsSections.{no_lines, with_line}
-use Rattle.mps_reader.proofs.LineAnswers.{meaning-starts, meaning-goes-on, meaning-ends, program-ended}
+use Rattle.mps_reader.proofs.LineAnswerFacts.{meaning-starts, meaning-goes-on, meaning-ends, program-ended}
 use Rattle.program_rows.specs.MpsMeaning.{meaning_behind}
 use Rattle.mps_reader.proofs.reader.read_lines.Goals as goal
 
@@ -28,7 +28,8 @@ loop-line-preserved c =
       ),
       (
         with_line m.0 (line_of c.in-Some.line.now),
-        meaning-goes-on c.args.text.now c.loop-line.place m.0 c.loop-line.lines c.next.new.self c.in-Some.line.now m.1 c.in-Some.ensures (c.in-Ok.ensures.fault m.0 m.2) (sym c.in-Ok.ensures.end ∙ c.if-is_end.false),
+        meaning-goes-on c.args.text.now c.loop-line.place m.0 c.loop-line.lines c.next.new.self c.in-Some.line.now m.1 c.in-Some.ensures
+            (c.in-Ok.ensures.fault m.0 m.2) (sym c.in-Ok.ensures.end ∙ c.if-is_end.false),
         c.in-Ok.ensures.tells m.0 m.2,
       ),
     )
@@ -44,5 +45,7 @@ pub returns-in-Ok-finished-clause-meaning : goal.returns-in-Ok-finished-clause-m
 returns-in-Ok-finished-clause-meaning c =
     let m = c.loop-line.invariant.2 in
     let end = sym c.in-Ok.ensures.end ∙ c.if-is_end.true in
-    meaning-ends c.args.text.now c.loop-line.place m.0 c.loop-line.lines c.next.new.self c.in-Some.line.now m.1 c.in-Some.ensures (c.in-Ok.ensures.fault m.0 m.2) end
-    ∙ ap (λ p. Ok p) (sym (program-ended m.0 (line_of c.in-Some.line.now) end) ∙ c.in-Ok-finished.ensures (with_line m.0 (line_of c.in-Some.line.now)) (c.in-Ok.ensures.tells m.0 m.2))
+    meaning-ends c.args.text.now c.loop-line.place m.0 c.loop-line.lines c.next.new.self c.in-Some.line.now m.1 c.in-Some.ensures
+    (c.in-Ok.ensures.fault m.0 m.2) end
+    ∙ ap (λ p. Ok p) (sym (program-ended m.0 (line_of c.in-Some.line.now) end) ∙ c.in-Ok-finished.ensures (with_line m.0 (line_of c.in-Some.line.now))
+    (c.in-Ok.ensures.tells m.0 m.2))

@@ -8,22 +8,27 @@ use Rattle.mps_reader.proofs.StampFacts.{found-row, unknown-fault, repeated-faul
 use Rattle.mps_reader.proofs.rows.stamp_row.Goals as goal
 
 pub returns-in_default-clause-fault : goal.returns-in_default-clause-fault
-returns-in_default-clause-fault c = λ has s. unknown-fault _ (has c.args.row.now) (sym (any-names c.args.row.now c.args.names.now.keys) ∙ sym c.in_default.ensures.found)
+returns-in_default-clause-fault c =
+    λ has s. unknown-fault _ (has c.args.row.now) (sym (any-names c.args.row.now c.args.names.now.keys) ∙ sym c.in_default.ensures.found)
 
 pub returns-then-index-stamp-clause-fault : goal.returns-then-index-stamp-clause-fault
 returns-then-index-stamp-clause-fault c = λ has s.
     repeated-fault c.args.stamp has c.args.stamps.now.items (names_of c.args.names.now) c.in-Some.index c.index.result.now c.args.row.now
-    (sym (any-names c.args.row.now c.args.names.now.keys) ∙ sym c.in-Some.ensures.found) s (found-row c.args.row.now c.args.names.now.keys c.in-Some.index c.in-Some.ensures.index)
+    (sym (any-names c.args.row.now c.args.names.now.keys) ∙ sym c.in-Some.ensures.found) s
+    (found-row c.args.row.now c.args.names.now.keys c.in-Some.index c.in-Some.ensures.index)
     (ap (λ (n : ℕ). n == c.args.stamp) (sym c.index.ensures) ∙ eq-eqb _ _ c.if-index-stamp.true)
 
 pub returns-clause-fault : goal.returns-clause-fault
 returns-clause-fault c = λ has s.
     no-fault c.args.stamp has c.args.stamps.now.items (names_of c.args.names.now) c.in-Some.index c.index.result.now c.args.row.now
-    (sym (any-names c.args.row.now c.args.names.now.keys) ∙ sym c.in-Some.ensures.found) s (found-row c.args.row.now c.args.names.now.keys c.in-Some.index c.in-Some.ensures.index)
+    (sym (any-names c.args.row.now c.args.names.now.keys) ∙ sym c.in-Some.ensures.found) s
+    (found-row c.args.row.now c.args.names.now.keys c.in-Some.index c.in-Some.ensures.index)
     (ap (λ (n : ℕ). n == c.args.stamp) (sym c.index.ensures) ∙ ne_eqb _ _ c.if-index-stamp.false)
 
 pub returns-clause-index : goal.returns-clause-index
 returns-clause-index c = found-row c.args.row.now c.args.names.now.keys c.in-Some.index c.in-Some.ensures.index
 
 pub returns-clause-fresh : goal.returns-clause-fresh
-returns-clause-fresh c = λ d e. ap (λ (n : ℕ). n == c.args.stamp) (sym (get_or_from_slice_get c.args.stamps.now.items c.in-Some.index d c.index.result.now e) ∙ sym c.index.ensures) ∙ ne_eqb _ _ c.if-index-stamp.false
+returns-clause-fresh c =
+    λ d e. ap (λ (n : ℕ). n == c.args.stamp) (sym (get_or_from_slice_get c.args.stamps.now.items c.in-Some.index d c.index.result.now e) ∙ sym
+    c.index.ensures) ∙ ne_eqb _ _ c.if-index-stamp.false

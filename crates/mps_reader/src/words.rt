@@ -1,8 +1,0 @@
-ghost use Rattle.std.specs.Prelude.{◌≡◌, bytes_eq};
-
-/// Whether the bytes are those of the word.
-pub fn is_word(bytes: &[u8], word: &[u8]) -> bool
-    ensures { result ≡ bytes_eq bytes.now word.now }
-{
-    bytes == word
-}
