@@ -36,11 +36,8 @@ UNCERTIFIED, PAGE, RESULTS = "report.uncertified.txt", "page.json", "results"
 MOST_OF_INPUT = 128 * 1024 * 1024  # bytes
 WRONG = 3  # the status if an answer can't be the best one
 TOLD_EVERY = {True: 0.5, False: 30.0}  # seconds, at a terminal and elsewhere
-EPILOG = (
-    "Exit status: 0 everything is there; 1 refused, or something is missing, which the next run "
-    "goes on with; 2 the words are wrong; 3 without certificates, figures that can't all be of "
-    "the greatest totals."
-)
+EPILOG = "Exit status: 0 everything is there; 1 refused, or something is missing, which the next run goes on with; "
+EPILOG += "2 the words are wrong; 3 without certificates, figures that can't all be of the greatest totals."
 
 
 def is_at_terminal() -> bool:

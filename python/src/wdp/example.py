@@ -31,12 +31,7 @@ Beta
 Beta+Gamma
 """
 
-SOLUTIONS: tuple[str, ...] = (
-    "X1_1 1\nX2_1 1\nX3_1 1\n",
-    "X2_1 1\nX3_1 1\n",
-    "X1_2 1\n",
-    "X1_2 1\n",
-)
+SOLUTIONS = ("X1_1 1\nX2_1 1\nX3_1 1\n", "X2_1 1\nX3_1 1\n", "X1_2 1\n", "X1_2 1\n")
 
 CERTIFICATES: tuple[str, ...] = (
     "bound 1 B1 10 C1 20 C2 12\n",

@@ -79,10 +79,12 @@ def point_of(
     if not program.columns:
         return b""
     if solver == "highs":
-        return checked_point(by_highs(program, seconds), program, "the answer of HiGHS")
-    with tempfile.TemporaryDirectory(prefix="solve.") as folder:
-        answer = answer_of(text, solver, seconds, Path(folder), log or Path(folder, "printed.txt"))
-    name = os.path.basename(command_words(solver)[0])
+        name, answer = "HiGHS", solution_text(by_highs(program, seconds), program)
+    else:
+        name = os.path.basename(command_words(solver)[0])
+        with tempfile.TemporaryDirectory(prefix="solve.") as folder:
+            printed = log or Path(folder, "printed.txt")
+            answer = answer_of(text, solver, seconds, Path(folder), printed)
     return solution_text(read_solution(answer, program, f"the answer of {name}"), program)
 
 
@@ -90,13 +92,8 @@ def nothing(text: bytes) -> bytes:
     """The point of a program at which all columns are 0 that may be. Refused if it isn't feasible."""
     program = read_program(text, "the program")
     ones = {place for place, column in enumerate(program.columns) if column.lower == 1}
-    return checked_point(ones, program, "no point is known to begin with")
-
-
-def checked_point(ones: set[int], program: ZeroOne, source: str) -> bytes:
-    """The point with these columns at 1, as a solution has it; Refused if it isn't feasible."""
     if broken := program.fault_of(ones):
-        raise Refused(f"{source}: {broken}")
+        raise Refused(f"no point is known to begin with: {broken}")
     return solution_text(ones, program)
 
 

@@ -12,6 +12,7 @@ from typing import Any
 import numpy as np
 from numpy.typing import NDArray
 
+from wdp.texts.mps import matrix_of
 from wdp.texts.refusals import Refused
 from wdp.texts.zero_one import AT_LEAST, AT_MOST, EQUAL, ZeroOne
 
@@ -35,7 +36,8 @@ class Layout:
         columns = program.columns
         self.count = len(columns)
         self.is_open: Array = np.array([not column.is_fixed for column in columns], bool)
-        self.members, self.block_rows = blocks_of(program, self.is_open)
+        self.matrix = matrix_of(program)
+        self.members, self.block_rows = blocks_of(program, self.matrix.entries, self.is_open)
         in_blocks = set(self.block_rows)
         kinds = [(at, row.kind) for at, row in enumerate(program.rows) if at not in in_blocks]
         self.shared = [(at, sign) for at, kind in kinds for sign in SIGNS[kind]]
@@ -60,20 +62,12 @@ class Layout:
         self.rounding = self.rounding_error()
 
     def table_of_loads(self) -> Array:
-        columns, size = self.program.columns, f"{self.count} times {len(self.shared)}"
+        size = f"{self.count} times {len(self.shared)}"
         if self.count * len(self.shared) > LARGEST_TABLE:
             what = "too many columns and rows that several blocks share"
             raise Refused(f"the program has {what}: {size}")
-        tabled: dict[int, list[tuple[int, int]]] = {row: [] for row, _ in self.shared}
-        for at, (row, sign) in enumerate(self.shared):
-            tabled[row].append((at, sign))
-        numbers = (abs(number) for column in columns for _, number in column.entries)
-        dtype: Any = np.int64 if max(numbers, default=0) < 2**62 else object
-        loads: Array = np.zeros((self.count, len(self.shared)), dtype)
-        for place, column in enumerate(columns):
-            for row, coefficient in column.entries:
-                for at, sign in tabled.get(row, ()):
-                    loads[place, at] = sign * coefficient
+        rows, signs = np.array(self.shared, np.int64).reshape(-1, 2).T
+        loads: Array = np.ascontiguousarray(self.matrix.entries[rows].toarray().T) * signs
         return loads
 
     def rounding_error(self) -> int:
@@ -87,8 +81,8 @@ class Layout:
         """The scaled costs with what prices of the shared rows add; exact."""
         size = scale * self.largest_cost
         size += sum(abs(price) * load for price, load in zip(prices, self.largest_loads))
-        is_small = self.costs.dtype != object and self.loads.dtype != object
-        dtype: Any = np.int64 if is_small and size < EXACT_IN_64_BITS else object
+        is_small = self.costs.dtype != object and size < EXACT_IN_64_BITS
+        dtype: Any = np.int64 if is_small else object
         priced: Array = scale * self.costs.astype(dtype)
         priced += self.loads.astype(dtype) @ np.array(prices, dtype)
         return priced
@@ -110,22 +104,20 @@ def whole_array(numbers: Sequence[int]) -> Array:
     return np.array(numbers, dtype)
 
 
-def blocks_of(program: ZeroOne, is_open: Array) -> tuple[list[Array], list[int | None]]:
+def blocks_of(
+    program: ZeroOne, entries: Any, is_open: Array
+) -> tuple[list[Array], list[int | None]]:
     """The columns of each block, and its row or None."""
-    entries: list[list[tuple[int, int]]] = [[] for _ in program.rows]
-    for place, column in enumerate(program.columns):
-        for row, coefficient in column.entries:
-            entries[row].append((place, coefficient))
     is_free = is_open.copy()
     members: list[Array] = []
     rows: list[int | None] = []
     for place, row_of in enumerate(program.rows):
-        columns = [column for column, _ in entries[place]]
-        is_one = all(number == 1 for _, number in entries[place])
+        within = slice(entries.indptr[place], entries.indptr[place + 1])
+        columns, is_one = entries.indices[within].astype(int), (entries.data[within] == 1).all()
         is_block = is_one and (row_of.kind, row_of.right_side) == (AT_MOST, 1)
-        if columns and is_block and is_free[columns].all():
+        if len(columns) and is_block and is_free[columns].all():
             is_free[columns] = False
-            members.append(np.array(columns))
+            members.append(columns)
             rows.append(place)
     alone = np.flatnonzero(is_free)
     return [*members, *alone[:, None]], [*rows, *([None] * len(alone))]

@@ -13,7 +13,6 @@ from scipy.sparse import csr_matrix, diags, eye, hstack, vstack
 
 from wdp.certify.layout import SIGNS, Array, Layout
 from wdp.certify.leaf import Bound, Node
-from wdp.texts.mps import matrix_of
 
 UNITS_IN_GAP = 1000
 CAP_IN_GAPS = 20
@@ -174,7 +173,7 @@ def root_prices(layout: Layout, seconds: float) -> list[int]:
     """Whole prices of the shared rows, which HiGHS finds from nothing the fastest; 0 if it fails, since any prices are right."""
     if not layout.shared or not layout.members:
         return [0] * len(layout.shared)
-    matrix, unit = matrix_of(layout.program), max(1, layout.largest_cost) / 1000
+    matrix, unit = layout.matrix, max(1, layout.largest_cost) / 1000
     signed = [(at, sign) for at, kind in enumerate(matrix.senses) for sign in SIGNS[kind]]
     places, signs = np.array(signed).T
     rows = csr_matrix(diags(signs.astype(float)) @ matrix.entries[places])

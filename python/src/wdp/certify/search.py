@@ -269,10 +269,10 @@ class Search:
 
     def settle_or_halve(self, node: Node, relaxation: Relaxation) -> None:
         """Without the help of a relaxation: tests the one point that is left, or splits a block."""
-        split = None if self.is_empty(node) else halving(self.layout, node)
-        if split is not None:
+        is_empty = self.is_empty(node)
+        if split := None if is_empty else halving(self.layout, node):
             self.split(Visit(node, relaxation, relaxation.basis()), split)
-        elif not (self.write_empty(node) if self.is_empty(node) else self.show_settled(node)):
+        elif not (self.write_empty(node) if is_empty else self.show_settled(node)):
             raise Refused("the numbers of this program are too large for a certificate")
 
     def show_settled(self, node: Node) -> bool:

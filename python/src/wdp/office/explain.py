@@ -74,9 +74,11 @@ def run(given: argparse.Namespace) -> int:
     found = of_input(given.paths[0], given.bids, program) if is_input else of_files(given, program)
     faults, has_rules, lines = found
     if faults:
-        refusals = [each.refusal if is_input else None for each in faults]
-        ends = [f" (wdp: {refusal})" if refusal else "" for refusal in refusals]
-        lines = [f"{fault}{end}" for fault, end in zip(faults, ends)]
+        lines = []
+        for each in faults:
+            lines.append(
+                f"{each} (wdp: {each.refusal})" if is_input and each.refusal else str(each)
+            )
         lines += [*([] if has_rules else [THEN]), all_counted(faults)]
     put(printed(lines if faults or given.bids else ["nothing is wrong"]).encode())
     return 1 if faults else 0

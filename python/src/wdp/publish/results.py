@@ -231,8 +231,7 @@ class Results(Figures):
             Column("Bid", [bid or blank for bid, blank in zip(values(all_of, "bid"), blanks)]),
             Column("Lots", [self.lots_text(each["lots"]) for each in all_of], sold),
         ]
-        caption = "Amount and number of each winning bid, and the lots that it wins. "
-        caption += "The opportunity cost is that of leaving the bidder alone out."
+        caption = "Amount and number of each winning bid, and the lots that it wins. The opportunity cost is that of leaving the bidder alone out."
         return self.table("bidders", "Bidders", caption, columns)
 
     def bound_by(self, name: str) -> str:
@@ -270,7 +269,7 @@ class Results(Figures):
 
     def pools_table(self) -> Table:
         cells = zip(*(each.values() for each in self["pools"]))
-        columns = [Column(heading, each) for heading, each in zip(POOLS.split(","), cells)]
+        columns = [Column(*each) for each in zip(POOLS.split(","), cells)]
         caption = "What the sold lots load each pool with, and its cap."
         return self.table("pools", "Pools", caption, columns)
 
@@ -311,9 +310,9 @@ class Results(Figures):
             for group, cost in zip(self["groups"], other["costs"]):
                 if group["cost"] != cost:
                     rows.append([f"Cost of {', '.join(group['left_out'])}", group["cost"], cost])
-        headings = "Bidder, cost", "Award of this page", "Other award"
         caption = "What isn't the same in both awards: what bidders win, with the number of the winning bid, and the opportunity costs."
-        columns = [Column(heading, cells) for heading, cells in zip(headings, zip(*rows))]
+        headings = "Bidder, cost", "Award of this page", "Other award"
+        columns = [Column(*each) for each in zip(headings, zip(*rows))]
         return self.table("ties", "Tie", caption, columns)
 
     def left_out_table(self) -> Table:

@@ -3,7 +3,7 @@ from collections.abc import Iterable
 from fractions import Fraction
 
 from wdp.texts.refusals import Refused, shortened
-from wdp.texts.zero_one import NumberFault, ZeroOne, exact_value, fields_of, lines_of
+from wdp.texts.zero_one import NumberFault, ZeroOne, exact_value, expect, fields_of, lines_of
 
 NEAR = Fraction(1, 100000)
 LONGEST = 40  # signs of a word that a message shows
@@ -23,16 +23,14 @@ def read_solution(text: bytes, program: ZeroOne, source: str) -> set[int]:
                 raise Refused(f"{source}: line {number}: {fault}") from None
             values[place] = is_one
     ones = {place for place, is_one in values.items() if is_one}
-    broken = program.fault_of(ones)
-    if broken:
+    if broken := program.fault_of(ones):
         raise Refused(f"{source}: {broken}")
     return ones
 
 
 def entry_of(words: list[str], program: ZeroOne) -> tuple[int, bool]:
     """The place of a line's column, and whether it is at 1; ValueError says what is wrong with the line."""
-    if len(words) != 2:
-        raise ValueError("not a name and a value")
+    expect(len(words) == 2, "not a name and a value")
     name, token = (shortened(word, LONGEST) for word in words)
     place = program.column_places.get(words[0])
     if place is None:
@@ -41,8 +39,8 @@ def entry_of(words: list[str], program: ZeroOne) -> tuple[int, bool]:
         value = exact_value(words[1])
     except NumberFault:
         raise ValueError(f"the value {token} of {name} is no number") from None
-    if min(abs(value), abs(value - 1)) > NEAR:
-        raise ValueError(f"the value {token} of {name} is neither 0 nor 1")
+    is_near = min(abs(value), abs(value - 1)) <= NEAR
+    expect(is_near, f"the value {token} of {name} is neither 0 nor 1")
     return place, abs(value - 1) <= NEAR
 
 
