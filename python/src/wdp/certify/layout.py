@@ -41,7 +41,7 @@ class Layout:
         in_blocks = set(self.block_rows)
         kinds = [(at, row.kind) for at, row in enumerate(program.rows) if at not in in_blocks]
         self.shared = [(at, sign) for at, kind in kinds for sign in SIGNS[kind]]
-        self.costs = whole_array([column.cost for column in columns])
+        self.costs: Array = np.array([column.cost for column in columns], np.int64)
         self.loads = self.table_of_loads()
         # what the columns fixed to 1 cost, and what they leave of the right sides
         fixed = [place for place, column in enumerate(columns) if column.lower == 1]
@@ -81,8 +81,7 @@ class Layout:
         """The scaled costs with what prices of the shared rows add; exact."""
         size = scale * self.largest_cost
         size += sum(abs(price) * load for price, load in zip(prices, self.largest_loads))
-        is_small = self.costs.dtype != object and size < EXACT_IN_64_BITS
-        dtype: Any = np.int64 if is_small else object
+        dtype: Any = np.int64 if size < EXACT_IN_64_BITS else object
         priced: Array = scale * self.costs.astype(dtype)
         priced += self.loads.astype(dtype) @ np.array(prices, dtype)
         return priced
@@ -95,13 +94,6 @@ class Layout:
         counted = np.where(allowed, numbers, never)[self.order]
         lowest = np.minimum.reduceat(counted, self.starts)
         return [None if number >= never else int(number) for number in lowest]
-
-
-def whole_array(numbers: Sequence[int]) -> Array:
-    """An array of whole numbers, of any size if they don't fit in 64 bits."""
-    largest = max((abs(number) for number in numbers), default=0)
-    dtype: Any = np.int64 if largest < EXACT_IN_64_BITS else object
-    return np.array(numbers, dtype)
 
 
 def blocks_of(
