@@ -11,7 +11,7 @@ import shutil
 import sys
 import tempfile
 import time
-from collections.abc import Callable, Mapping
+from collections.abc import Callable, Mapping, Sequence
 from dataclasses import dataclass
 from functools import partial
 from itertools import groupby
@@ -122,12 +122,12 @@ class Run(Folder):
             added = [name for name in winners if name not in names.values()]
         return dict(enumerate(added, len(names) + 1))
 
-    def compile(self, added: Mapping[int, str] = {}) -> None:
+    def compile(self, added: Sequence[str] = ()) -> None:
         """The program of each group that has none, and last the names that the groups of the input leave out."""
-        groups = {**self.names(), **added} if self.has(NAMES) else {}
-        if groups and all(self.has(of_group("program", group)) for group in groups):
+        count = len(self.names()) + len(added) if self.has(NAMES) else 0
+        if count and all(self.has(of_group("program", k)) for k in range(1, count + 1)):
             return
-        text = with_groups(self.read(INPUT), added.values())
+        text = with_groups(self.read(INPUT), added)
         limits, names = Limits(answers.Asked(text).most_of_programs), list[str]()
 
         def number_of(line: bytes) -> int:
@@ -291,7 +291,7 @@ class Run(Folder):
                 most = f"more than {prices.MOST_GROUPS:,} groups"
                 say(f"no prices: with each winner alone there are {most}")
                 return 1
-            status = in_processes({"prices": partial(self.compile, added)})
+            status = in_processes({"prices": partial(self.compile, list(added.values()))})
             if status or not self.solved(added):
                 return 1
             if self.has(PRICES):

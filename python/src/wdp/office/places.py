@@ -111,8 +111,10 @@ def faults_of(found: Sequence[Finding], source: Source) -> list[Fault]:
             said = words_of(each, row, source.bidders)
             faults[alike or number] = Fault(source.file + at, said, each.refusal)
     for (one, many), lines in of_rows.items():
-        first, *_, last = [*lines, *lines]
-        rows_of = f"{counted(len(lines), 'row')} from line {first} to line {last} {many}"
+        at_lines = list(lines)
+        rows_of = (
+            f"{counted(len(lines), 'row')} from line {at_lines[0]} to line {at_lines[-1]} {many}"
+        )
         said = f"the row {one}" if len(lines) == 1 else rows_of
         faults[one, many] = replace(faults[one, many], words=said)
     return list(faults.values())
