@@ -168,6 +168,8 @@ sed -i 's/30,1,0/x,1,0/' input.txt | wdp: form 1:
 rm input.txt; mkfifo input.txt | input.txt: it is a pipe
 ln -sf /dev/zero input.txt | input.txt: it is a device
 rm -r "$PWD" | is no folder
+mkfifo names.csv | names.csv: it is a pipe
+mkfifo .lock | .lock: it is a pipe
 """
 
 
@@ -175,6 +177,20 @@ rm -r "$PWD" | is no folder
 def test_inputs_that_are_refused(auction, change, why):
     subprocess.run(["sh", "-c", change], cwd=auction.where, check=True)
     assert why in auction.said(status=1)
+
+
+# what may be in page.json of a folder, of which nothing is taken for a title; and what isn't a run's own
+SPOILT = ["[]", "null", "5", '{"title": "\\ud800"}', "[" * 40_000, '{"title": ["x"], "currency": 5}']
+
+
+def test_what_is_no_page_counts_for_nothing(auction):
+    auction.said("--no-prices")
+    before = auction.read("page.json"), auction.read("results/results.html")
+    for text in SPOILT:
+        auction.put("page.json", text.encode())
+        os.mkfifo(auction.where / ".running")
+        auction.said("--no-prices")
+        assert (auction.read("page.json"), auction.read("results/results.html")) == before
 
 
 def test_progress_is_one_line_at_a_terminal_and_a_second_run_is_refused(auction, tmp_path):

@@ -249,7 +249,7 @@ class Run(Folder):
         heading: dict[str, Any] = {"title": title, "currency": page.get("currency"), "names": {}}
         if self.page is not None and names.exists():
             rules = accepted.read(data, INPUT).rules
-            heading["names"] = publishing.read_names(str(names), rules)
+            heading["names"] = publishing.read_names(str(names), rules, regular=True)
         results, shown = publishing.results_from(self.program, data, report, audit, heading)
         if self.page is not None:
             publishing.publish(results, shown, str(self.path(RESULTS)))
@@ -344,10 +344,14 @@ class Run(Folder):
     def keep_page(self) -> None:
         """Title and currency stay as they were if nothing is said of them."""
         path, before = str(self.path(PAGE)), dict[str, str | None]()
-        with contextlib.suppress(OSError, ValueError):
-            before = json.loads(files.read(path, 100_000, regular=True))
+        there: Any = None
+        with contextlib.suppress(OSError, ValueError, RecursionError):
+            there = json.loads(files.read(path, 100_000, regular=True))
+        for name, longest in publishing.LONGEST.items():
+            with contextlib.suppress(AttributeError, LookupError, TypeError, ValueError):
+                before[name] = publishing.line(longest)(there[name])
         self.page = {name: value or before.get(name) for name, value in (self.page or {}).items()}
-        if self.page != before:
+        if self.page != there:
             files.write_all({path: (json.dumps(self.page) + "\n").encode()})
 
     def one_step(self, name: str) -> int:
@@ -434,8 +438,9 @@ def add_words(parser: argparse.ArgumentParser) -> None:
     add("--no-prices", action="store_true", help="don't look for what the winners pay")
     says = "report what the solver says, without certificates and prices"
     add("--no-certify", action="store_true", help=f"{says}: DIR/{UNCERTIFIED}")
-    add("--title", type=line(publishing.LONGEST_TITLE), help="the page's heading")
-    unit = line(publishing.LONGEST_UNIT)
+    longest = publishing.LONGEST
+    add("--title", type=line(longest["title"]), help="the page's heading")
+    unit = line(longest["currency"])
     add("--currency", type=unit, metavar="UNIT", help="what amounts are in, as GBP")
     step = "one step alone, as Snakemake runs them: programs, a group's number, prices or report"
     add("--step", metavar="STEP", help=step)

@@ -4,6 +4,7 @@ import fcntl
 import hashlib
 import os
 import shutil
+import stat
 import time
 from collections.abc import Iterator
 from dataclasses import dataclass
@@ -68,8 +69,11 @@ class Folder:
     def locked(self, alone: bool) -> Iterator[None]:
         """One run at a time has the folder, or any number of steps of Snakemake, until the last of its processes ends."""
         kind = fcntl.LOCK_EX if alone else fcntl.LOCK_SH
-        last = time.monotonic() + WAITS
-        with open(self.path(".lock"), "ab") as lock:
+        last, path = time.monotonic() + WAITS, str(self.path(".lock"))
+        with files.at(path):
+            number = os.open(path, os.O_RDWR | os.O_CREAT | os.O_NONBLOCK, 0o666)
+        with open(number, "rb") as lock:
+            files.check_kind(path, os.fstat(number))
             while True:
                 try:
                     fcntl.flock(lock, kind | fcntl.LOCK_NB)
@@ -84,9 +88,11 @@ class Folder:
     def scratch(self) -> Iterator[None]:
         """Takes away what a run that was killed didn't finish. What is temporary then goes into the folder."""
         where = self.path(".running")
-        shutil.rmtree(where, ignore_errors=True)
-        for path in self.where.rglob(files.WRITING + "*"):
-            shutil.rmtree(path) if path.is_dir() else path.unlink()
+        for path in (where, *self.where.rglob(files.WRITING + "*")):
+            # (what isn't a folder isn't opened, as a pipe would be)
+            with contextlib.suppress(FileNotFoundError):
+                is_folder = stat.S_ISDIR(path.lstat().st_mode)
+                shutil.rmtree(path, ignore_errors=path == where) if is_folder else path.unlink()
         where.mkdir(exist_ok=True)
         os.environ["TMPDIR"] = str(where)
         try:

@@ -152,9 +152,9 @@ def lines_of(path: str, data: bytes) -> File:
     return file
 
 
-def pairs_of(path: str, heading: list[str], most: int) -> File:
+def pairs_of(path: str, heading: list[str], most: int, regular: bool = False) -> File:
     """A file of pairs, at most so many with one that is too many, without a first row that is the heading."""
-    file = table_of(path, read(path, MOST_OF_A_FILE), most + 2, len(heading))
+    file = table_of(path, read(path, MOST_OF_A_FILE, regular), most + 2, len(heading))
     if file.rows and [value.lower() for value in file.rows[0].values] == heading:
         del file.rows[0]
     return file

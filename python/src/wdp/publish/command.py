@@ -33,7 +33,7 @@ from wdp.texts.tables import digest_of
 
 # bytes of an audit: the input, and solutions and certificates of each group
 MOST_OF_AN_AUDIT = 2**31
-LONGEST_TITLE, LONGEST_UNIT, LONGEST_NAME = 200, 20, 100
+LONGEST, LONGEST_NAME = {"title": 200, "currency": 20}, 100
 TITLE = "Results of the auction"
 PAGE, AUDIT = "results.html", "audit.txt"
 FILES = ("bidders.csv", "categories.csv", "pools.csv", "groups.csv", "results.json", PAGE, AUDIT)
@@ -58,9 +58,9 @@ def add_words(parser: argparse.ArgumentParser) -> None:
     add("--output", metavar="DIR", type=choices.path, help=folder)
     text = "print the tables, aligned and with thousands separated"
     add("--text", action="store_true", help=text)
-    add("--title", type=line(LONGEST_TITLE), default=TITLE, help="the page's heading")
+    add("--title", type=line(LONGEST["title"]), default=TITLE, help="the page's heading")
     unit = "what amounts are in, as GBP"
-    add("--currency", type=line(LONGEST_UNIT), metavar="UNIT", help=unit)
+    add("--currency", type=line(LONGEST["currency"]), metavar="UNIT", help=unit)
     names = "what bidders and categories are called: rows `code,name`"
     add("--names", metavar="FILE", type=choices.path, help=names)
     audit = "the input with solutions and certificates, as `wdp verify` reads it"
@@ -69,11 +69,11 @@ def add_words(parser: argparse.ArgumentParser) -> None:
     add("--drawn", action="store_true", help=drawn)
 
 
-def read_names(path: str, rules: Rules) -> dict[str, str]:
+def read_names(path: str, rules: Rules, regular: bool = False) -> dict[str, str]:
     """What an office calls bidders and categories, by their codes; Refused at the first row that isn't `code,name`."""
     codes = {*rules.bidders, *(category.name for category in rules.categories)}
     names: dict[str, str] = {}
-    for row in pairs_of(path, ["code", "name"], len(codes)).rows:
+    for row in pairs_of(path, ["code", "name"], len(codes), regular).rows:
         code, name = row.values[0], row.values[-1]
         wanted, who = "a code and a name", "bidder and no category"
         why = fault_of_pair(row, wanted, codes, names, who)
