@@ -14,7 +14,7 @@ import sys
 import time
 
 import pytest
-from commands import ROOT, TIED, WORKED, ended, output, rows, running, script, solver
+from commands import ROOT, TIED, WORKED, content, ended, output, rows, running, script, solver
 from commands import start, wait_for
 
 TOTALS = b"62 32 50 50".split()
@@ -259,7 +259,8 @@ def test_ended_at_a_random_moment(auction, tmp_path, whole, turn):
 
 # A run by Snakemake, as docs/OFFICE.md has it, and by the profile of Slurm with stand-ins for its commands.
 SNAKEMAKE = ["snakemake", "--snakefile", ROOT / "python/src/wdp/Snakefile", "--directory"]
-HOW = "--cores 2 --keep-going --ignore-incomplete --rerun-triggers mtime --nolock --quiet all --config words=--ties"
+HOW = re.search("--directory cluster (.*) --config ", content("docs", "OFFICE.md"))[1].split()
+HOW += ["--config", "words=--ties"]
 BY_SLURM = ["--profile", ROOT / "python/src/wdp/slurm", "--config", "words=--ties"]
 OFFICE = f'PYTHONPATH={ROOT}/python/src exec {sys.executable} -m wdp "$@"'
 STAND_INS = {
@@ -278,7 +279,7 @@ def by_snakemake(tmp_path):
     def begin(auction, *words):
         surroundings = auction.surroundings(PATH=f"{tmp_path}:{os.environ['PATH']}")
         how = {"env": surroundings, "cwd": tmp_path, "stderr": subprocess.STDOUT}
-        return start([*SNAKEMAKE, auction.where, *(words or HOW.split())], **how)
+        return start([*SNAKEMAKE, auction.where, *(words or HOW)], **how)
 
     return begin
 
@@ -291,6 +292,16 @@ def test_snakemake_leaves_the_same_bytes(auction, whole, by_snakemake, words):
     seen = ended(by_snakemake(auction, *words))
     assert seen.status == 0, seen.out
     assert auction.outcome() == whole.outcome() and auction.has("results/results.html")
+
+
+def test_a_second_run_of_snakemake_is_refused(auction, by_snakemake):
+    first = by_snakemake(auction)
+    wait_for(lambda: auction.has("programs/names.txt"))
+    first.send_signal(signal.SIGSTOP)
+    seen = ended(by_snakemake(auction))
+    first.send_signal(signal.SIGCONT)
+    assert seen.status == 1 and "another run of Snakemake works in this folder" in seen.out
+    assert ended(first).status == 0
 
 
 @pytest.mark.parametrize("turn", range(KILLS // 10 or 1))
