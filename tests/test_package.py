@@ -184,11 +184,15 @@ def test_the_pages_have_each_part_of_an_input():
 def test_the_package_for_debian(wdp, folder, tmp_path):
     """It has the program as it was built, and lintian finds no error but that of the licence, which is for a person to say."""
     tree = copied(folder / "built" / "tree", Path(wdp))
+    examples = files_below(tree / "examples")
     env = {"PATH": SYSTEM, "LC_ALL": "C.UTF-8"}
     done = run("dpkg-buildpackage", "--no-sign", "-b", cwd=tree, env=env)
     assert done.returncode == 0, done.stdout[-2000:] + done.stderr[-2000:]
     package = next((folder / "built").glob("wdp_*.deb"))
     run("dpkg-deb", "-x", package, tmp_path, check=True)
+    documents = tmp_path / "usr/share/doc/wdp"
+    assert examples == files_below(tree / "examples") == files_below(documents / "examples")
+    assert (documents / "CHANGELOG.md").is_file()
     programs = [path.read_bytes() for path in tmp_path.rglob("wdp") if path.is_file()]
     assert Path(wdp).read_bytes() in programs
     main = tmp_path / "usr/lib/python3/dist-packages/wdp/__main__.py"
