@@ -42,12 +42,12 @@ def checked_solver(solver: str | None) -> str:
 
 
 def command_words(solver: str) -> list[str]:
-    """The words by which a solver is called, with places in them."""
+    """The words by which a solver is called, with places in them, but for the first one."""
     try:
         words = shlex.split(CBC if solver == "cbc" else solver)
     except ValueError as error:
         raise WrongWords(f"the solver's command: {error}") from None
-    named = set(PLACE.findall(" ".join(words)))
+    named = set(PLACE.findall(" ".join(words[1:])))
     if not named & {"mps", "free"} or not named <= {*FILES, "seconds"}:
         answer = "perhaps {out} for its answer and {seconds} for the time limit"
         known = f"cbc, highs, or a command with {{mps}} for the program, {answer}"
@@ -58,9 +58,10 @@ def command_words(solver: str) -> list[str]:
 
 
 def filled(words: list[str], known: dict[str, str]) -> list[str]:
-    """A command's words with the values of its places. One whose place has none is left out, with an option before it."""
-    made: list[str] = []
-    for word in words:
+    """A command's words with the values of its places, which the first word has none of. One whose place has none is left out,
+    with an option before it."""
+    made = words[:1]
+    for word in words[1:]:
         try:
             made.append(PLACE.sub(lambda found: known[found[1]], word))
         except KeyError:
@@ -112,12 +113,14 @@ def answer_of(text: bytes, solver: str, seconds: int | None, folder: Path, log: 
     said = ended.last_line[:LONGEST] or "it printed nothing"
     if ended.status is None:
         raise NotSolved(f"{name} overstepped its limit of {seconds} s and was ended", TIME_OUT)
+    if ended.status == -signal.SIGXFSZ:
+        raise NotSolved(f"{name} wrote more than {MOST_OF_ANSWER >> 20} MiB", KILLED)
     if ended.status < 0:
         raise NotSolved(f"{name} was killed by signal {signal_named(-ended.status)}", KILLED)
     if ended.status:
         raise NotSolved(f"{name} ended with status {ended.status}: {said}", FAILED)
     is_file = os.path.lexists(paths["out"])
-    if not is_file and "{out}" in " ".join(words):
+    if not is_file and "{out}" in " ".join(words[1:]):
         raise NotSolved(f"{name} gave no answer: {said}", FAILED)
     read = files.read(paths["out"] if is_file else str(log), MOST_OF_ANSWER, regular=True)
     return of_cbc(read) if solver == "cbc" else read
