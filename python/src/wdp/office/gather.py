@@ -25,6 +25,12 @@ def output_path(text: str) -> str:
     return "" if text == "-" else choices.path(text)
 
 
+def receipt_path(text: str) -> str:
+    if text == "-":
+        raise argparse.ArgumentTypeError("it is printed on standard error anyway; name a file")
+    return choices.path(text)
+
+
 def add_words(parser: argparse.ArgumentParser) -> None:
     add = parser.add_argument
     add("rules", metavar="RULES", help="the file of the rules")
@@ -37,7 +43,7 @@ def add_words(parser: argparse.ArgumentParser) -> None:
     output = "write the input to this file, completely or not at all"
     add("--output", metavar="FILE", type=output_path, help=output)
     also = "write the receipt to this file too"
-    add("--receipt", metavar="FILE", type=choices.path, help=also)
+    add("--receipt", metavar="FILE", type=receipt_path, help=also)
     choices.add_words(parser)
 
 

@@ -14,9 +14,10 @@ from wdp.files import Unreadable, at, read
 from wdp.office.faults import Fault, counted, nearest, quoted
 from wdp.office.judge import Finding, explained
 from wdp.office.places import MOST_OF_AN_INPUT, Source, faults_of, first_of, hint, of_parts
-from wdp.office.sheets import MOST_OF_A_FILE, File, fault_of_pair, lines_of, pairs_of, table_of
+from wdp.office.sheets import MOST_OF_A_FILE, OF_FORMS, File, fault_of_pair, lines_of, pairs_of
+from wdp.office.sheets import table_of
 from wdp.office.versions import Undecided, last_of
-from wdp.office.workbook import workbook_of
+from wdp.office.workbook import NOT_STORED, workbook_of
 from wdp.texts.accepted import Rules, rules_of
 from wdp.texts.answers import WON
 from wdp.texts.parts import group_rows
@@ -146,7 +147,7 @@ class Auction:
         if path.lower().endswith(WORKBOOK):
             form = workbook_of(path, data, MOST_OF_A_FORM, width, self.choices.sheet)
         else:
-            form = table_of(path, data, MOST_OF_A_FORM, width)
+            form = table_of(path, data, MOST_OF_A_FORM, width, OF_FORMS)
         own, bidders = form.bidder, self.rules.bidders
         named = named_in(form.path, bidders)
         others = " and ".join(name for name in bidders if name in named - {own})
@@ -188,6 +189,8 @@ class Auction:
             with self.reading(named_in(path, bidders)):
                 form = self.read_form(path)
                 by_bidder.setdefault(form.bidder, []).append(form)
+                # (whose first row is wrong isn't also missing)
+                self.unread += named_in(path, bidders) if form.bidder not in bidders else ()
         counting = [form for forms in by_bidder.values() for form in self.last_form(forms)]
         order = {name: at for at, name in enumerate(bidders)}
         self.counting = sorted(counting, key=lambda form: order.get(form.bidder, len(bidders)))
@@ -227,7 +230,11 @@ class Auction:
         beyond = form.unclosed or MOST_OF_A_FORM + 1
         said = [each for each in found if (each.refused.record or 0) < beyond]
         source = Source(form.path, form.rows, self.rules.bidders)
-        self.faults += form.faults + first_of(faults_of(said, source), form.path)
+        # (a formula without a value isn't also an empty field)
+        blank = {each.place for each in form.faults if each.words == NOT_STORED}
+        faults = faults_of(said, source)
+        faults = [it for it in faults if it.place not in blank or not it.words.startswith("''")]
+        self.faults += form.faults + first_of(faults, form.path)
         if not form.faults:
             self.check_end(form, form.bidder)
         if found or form.faults or not is_all:

@@ -22,12 +22,14 @@ SEPARATOR_LINE = re.compile('"?sep=([^"\r\n]*)"?(?:\r\n|\n|\r|$)')
 FIRST_LINE = re.compile("[^\r\n]+")
 # what is often taken for a table by its name alone
 OTHERS = (
-    (re.compile(rb"PK\x03\x04"), "it is a workbook or an archive; save the table as .xlsx or CSV"),
-    (re.compile(rb"\xd0\xcf\x11\xe0"), "it is an old workbook; save the table as .xlsx or CSV"),
-    (re.compile(rb"%PDF-"), "it is a PDF; send the table as .xlsx or CSV"),
-    (re.compile(rb"\s*<(?:!doctype|html|table|\?xml|head|meta)", re.I), "it is a page of HTML or XML; save the table as .xlsx or CSV"),
-    (re.compile(rb"[^\0]{,4095}\0"), "it holds bytes 0, as no CSV file does; save the table as .xlsx, or as CSV in UTF-8"),
+    (re.compile(rb"PK\x03\x04"), "it is a workbook or an archive; save the table as {}"),
+    (re.compile(rb"\xd0\xcf\x11\xe0"), "it is an old workbook; save the table as {}"),
+    (re.compile(rb"%PDF-"), "it is a PDF; send the table as {}"),
+    (re.compile(rb"\s*<(?:!doctype|html|table|\?xml|head|meta)", re.I), "it is a page of HTML or XML; save the table as {}"),
+    (re.compile(rb"[^\0]{,4095}\0"), "it holds bytes 0, as no CSV file does; save the table as {} in UTF-8"),
 )  # fmt: skip
+CSV, OF_FORMS = "CSV", ".xlsx or CSV"
+NO_TEXT = re.compile("[\udc80-\udcff]")  # bytes that are no UTF-8, as they are decoded
 HEAD = "in this field a line begins with %, as the heads of parts do"
 
 
@@ -82,8 +84,8 @@ class File:
         self.changes += [f"{what} dropped: {count}" for what, count in counts.items() if count]
 
 
-def text_of(file: File) -> str:
-    """The text of a file's bytes, without a byte order mark; what was done to it is a change."""
+def text_of(file: File, kinds: str = CSV) -> str:
+    """The text of a file's bytes, without a byte order mark; what was done to it is a change. A table has to be of these kinds."""
     data, changes = file.data, file.changes
     text, encoding = decoded(data), UTF_16.get(data[:2])
     if encoding:
@@ -98,7 +100,11 @@ def text_of(file: File) -> str:
     else:
         for kind, why in OTHERS:
             if kind.match(data):
-                raise Unreadable(file.path, why)
+                raise Unreadable(file.path, why.format(kinds))
+    if found := NO_TEXT.search(text):
+        *before, last = LINE_END.split(text[: found.start()])
+        place = f"{file.path}:{len(before) + 1}:{len(last) + 1}"
+        raise Unreadable(place, "it isn't UTF-8; save it as CSV UTF-8")
     if len(encoded(text)) > MOST_OF_A_TEXT:
         raise Unreadable(file.path, f"it has more than {MOST_OF_A_TEXT:,} bytes")
     crlf, file.is_ended = text.count("\r\n"), not text.strip() or text.endswith(("\n", "\r"))
@@ -126,10 +132,12 @@ def delimiter_of(text: str, file: File) -> tuple[str, int]:
     return delimiter, begin
 
 
-def table_of(path: str, data: bytes, most: int, width: int | None = None) -> File:
+def table_of(
+    path: str, data: bytes, most: int, width: int | None = None, kinds: str = CSV
+) -> File:
     """The records of a file's bytes, at most so many, each of so many fields or of as many as the first one."""
     file = File(path, data)
-    text = text_of(file)
+    text = text_of(file, kinds)
     delimiter, begin = delimiter_of(text, file)
     records = Records(text[begin:], delimiter, line=2 if begin else 1)
     file.fill(records, most, width)

@@ -73,15 +73,22 @@ def read_names(path: str, rules: Rules, regular: bool = False) -> dict[str, str]
     """What an office calls bidders and categories, by their codes; Refused at the first row that isn't `code,name`."""
     codes = {*rules.bidders, *(category.name for category in rules.categories)}
     names: dict[str, str] = {}
-    for row in pairs_of(path, ["code", "name"], len(codes), regular).rows:
-        code, name = row.values[0], row.values[-1]
+    file = pairs_of(path, ["code", "name"], len(codes), regular)
+    if file.faults:
+        raise Refused(str(file.faults[0]))
+    for row in file.rows:
+        code, name = row.values[0], row.values[-1].strip()
         wanted, who = "a code and a name", "bidder and no category"
         why = fault_of_pair(row, wanted, codes, names, who)
-        if not why and not (name.strip() and name.isprintable() and len(name) <= LONGEST_NAME):
+        if not why and not (name and name.isprintable() and len(name) <= LONGEST_NAME):
             why = f"{quoted(name)} isn't 1 to {LONGEST_NAME} printable characters"
+        if not why and name in codes - {code}:
+            why = f"{quoted(name)} is the code of another"
+        if not why and name in names.values():
+            why = f"an earlier row has the name {quoted(name)}, too"
         if why:
             raise Refused(f"{path}:{row.place()}: {why}")
-        names[code] = name.strip()
+        names[code] = name
     return names
 
 
