@@ -26,7 +26,8 @@ def test_words_that_are_no_command_are_one_short_line():
 def test_version_and_help():
     assert run("--version") == (0, f"wdp-office {wdp.__version__}\n", "")
     status, whole, said = run("--help")
-    assert (status, said, run("help"), run("-h")) == (0, "", *[(0, whole, "")] * 2)
+    asked = run("help"), run("-h"), run("help", "help")
+    assert (status, said, *asked) == (0, "", *[(0, whole, "")] * 3)
     assert run() == (2, "", whole) and cli.COMMANDS
     for name in cli.COMMANDS:
         assert f"\n    {name} " in whole and name in cli.tree().format_help()

@@ -3,7 +3,7 @@ import re
 from collections import defaultdict
 from dataclasses import dataclass, field
 
-from wdp.office.faults import quoted
+from wdp.office.faults import quoted, readable
 from wdp.program import Limits, ran
 from wdp.texts.refusals import Refused
 
@@ -59,6 +59,7 @@ def pieces(pattern: re.Pattern[str], line: str) -> list[str]:
 
 def finding(line: str) -> Finding:
     refusal, at, words = pieces(LINE, line)
+    words = re.sub("^1 fields ", "1 field ", readable(words))
     return Finding(Refused("wdp: " + refusal), int(at) if at else None, words or None)
 
 

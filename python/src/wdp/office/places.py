@@ -10,7 +10,7 @@ from dataclasses import replace
 from itertools import islice
 from typing import NamedTuple
 
-from wdp.office.faults import Fault, counted, nearest, quoted, readable
+from wdp.office.faults import Fault, counted, nearest, quoted
 from wdp.office.judge import Explained, Finding, Key
 from wdp.texts.parts import Part, names_in, parts_of
 from wdp.texts.tables import Row
@@ -69,7 +69,7 @@ def words_of(finding: Finding, row: Row | None, bidders: Sequence[str]) -> str:
     if earlier:
         return f"bid {earlier} has the same package"
     named = re.sub("(?=[A-Z])", " ", kind).strip().lower()
-    words = readable(finding.words or CAUSES.get(kind) or named)
+    words = finding.words or CAUSES.get(kind) or named
     if not row or not finding.field or finding.field > len(row.values):
         return words
     value = row.values[finding.field - 1]
@@ -129,7 +129,7 @@ def first_of(faults: list[Fault], file: str, more: int = 0) -> list[Fault]:
 def of_parts(finding: Finding, data: bytes, source: str) -> Fault:
     refusal, parts = finding.refusal, parts_of(data)
     line = 1 if refusal.endswith("before the first part") else None
-    words = readable(finding.words or refusal.removeprefix("input: "))
+    words = finding.words or refusal.removeprefix("input: ")
     kind = re.search("wrong number of (rules|groups)", refusal)
     if refusal == "input: too large":
         words = f"it has more than {MOST_OF_AN_INPUT:,} bytes"

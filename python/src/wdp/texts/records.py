@@ -36,11 +36,12 @@ class Where(NamedTuple):
     row: int | None = None
     column: str | None = None
 
-    def wrong(self, why: str) -> WrongWords:
+    def wrong(self, why: str, column: str | None = None) -> WrongWords:
         at = "" if self.column is None else f", {self.column}"
         part = None if self.number is None else "form"
         refused = WrongWords(f"{self.text}{at}: {why}", part, self.number)
-        refused.bidder, refused.row, refused.column = self.bidder, self.row, self.column
+        refused.bidder, refused.row = self.bidder, self.row
+        refused.column = self.column or column
         return refused
 
 
@@ -112,17 +113,22 @@ def field(value: Any, where: Where) -> str:
     ('30', '30', '')
     """
     if isinstance(value, str):
+        if "\n%" in value:
+            raise where.wrong("a line begins with %, as the head of a part does")
         return value
+    why = "is no whole number"
     if is_blank(value):
         return ""
     if not type(value).__name__.startswith("bool"):  # numpy's too
         with suppress(TypeError, ValueError, ArithmeticError):
             if hasattr(type(value), "__index__"):
-                return digits(operator.index(value))
+                whole = operator.index(value)
+                why = "has more than 18 digits"
+                return digits(whole)
             number = float(value)
             if number.is_integer() and number == value and abs(number) < MOST_EXACT:
                 return str(int(number))
-    raise where.wrong(f"{shown(value)} is no whole number")
+    raise where.wrong(f"{shown(value)} {why}")
 
 
 def digits(number: int) -> str:
@@ -279,7 +285,7 @@ def bid_fields(bid: Any, names: Sequence[str], where: Where, missing_as_zero: bo
     for name in columns:
         if name not in bid and not (missing_as_zero and "amount" in bid):
             hint = "" if name == "amount" else "; missing_as_zero=True has it count as 0"
-            raise where.wrong(f"there is no {shown(name)}{hint}")
+            raise where.wrong(f"there is no {shown(name)}{hint}", name)
     return [field(bid.get(name, 0), where._replace(column=name)) for name in columns]
 
 
