@@ -13,6 +13,7 @@ import jsonschema
 import pytest
 from commands import OFFICE, content, output, run, small_files, stopped, without
 
+from wdp import files
 from wdp.publish.results import cell_text
 
 NAMES = ["worked", "worked_pool", "spectrum", "unsold_values", "spectrum_cap", "twelve_bands"]
@@ -300,6 +301,22 @@ def test_the_schema_takes_each_field_of_its_kind_and_no_others():
         assert all(
             {"$ref", "anyOf", "enum", "type"} & set(field) for field in fields.values()
         ), each
+
+
+def test_a_folder_that_cannot_be_replaced_stays(tmp_path, monkeypatch):
+    files.write_folder(str(tmp_path / "it"), {"a": b"older"})
+    rename, left = os.rename, [None, OSError(28, "No space left on device"), None]
+
+    def failing(*paths):
+        if error := left.pop(0):
+            raise error
+        rename(*paths)
+
+    monkeypatch.setattr(files.os, "rename", failing)
+    with pytest.raises(files.Unreadable, match="No space left on device"):
+        files.write_folder(str(tmp_path / "it"), {"a": b"newer"})
+    assert [path.read_bytes() for path in tmp_path.rglob("*") if path.is_file()] == [b"older"]
+    assert os.listdir(tmp_path) == ["it"]
 
 
 # widths in CSS pixels; of paper what a page shows of 1/96 inch: A4 upright is 210 mm, less margins of 12 mm

@@ -119,6 +119,8 @@ def write_folder(
                 os.rename(place, old)
             os.rename(made, place)
         finally:
+            if os.path.lexists(old) and not os.path.lexists(place):
+                os.rename(old, place)
             shutil.rmtree(made, ignore_errors=True)
             shutil.rmtree(old, ignore_errors=True)
 
