@@ -8,6 +8,7 @@ import os
 import pty
 import random
 import re
+import shlex
 import signal
 import subprocess
 import sys
@@ -35,6 +36,8 @@ def is_certified(auction):
 def test_to_its_page(auction, wdp):
     seen = auction.run("--ties", "--title", "Lots & <more>", "--currency", "GBP")
     assert seen[:2] == (0, "") and "proved: nobody else can win" in seen.err
+    hint = seen.err.partition("and wdp verify <")[2].partition(" prints it again")[0]
+    assert shlex.split(hint) == [f"{auction.where}/audit.txt"]
     report, audit = auction.outcome()
     assert totals(report) == TOTALS and output(wdp, "verify", audit).endswith(b"least\nunique\n")
     assert sorted(os.listdir(auction.where / "results")) == RESULTS and is_certified(auction)
@@ -51,6 +54,8 @@ def test_to_its_page(auction, wdp):
 def test_without_a_folder(auction, tmp_path):
     temporary = tmp_path / "temporary"
     temporary.mkdir()
+    refused = auction.run(folder=False, data=b"", TMPDIR=str(temporary))
+    assert refused.err.endswith("wdp-office explain - tells what is wrong\n")
     seen = auction.run(folder=False, data=WORKED, TMPDIR=str(temporary))
     assert totals(seen.out.encode()) == TOTALS and "each total is certified" in seen.err
     assert list(temporary.iterdir()) == []
@@ -107,9 +112,12 @@ def test_without_certificates(auction):
     assert "not certified: nothing shows" in said.splitlines()[-1] and not is_certified(auction)
     assert totals(auction.read("report.uncertified.txt")) == TOTALS
     assert not auction.has("report.txt") and not auction.has("audit.txt")
-    # with certificates the other report goes
+    # with certificates the other report goes, and it comes back in no run
     auction.said()
-    assert auction.has("report.txt") and not auction.has("report.uncertified.txt")
+    before = auction.outcome(), auction.read("results/results.html")
+    assert "report.txt is certified" in auction.said("--no-certify", status=1)
+    assert not auction.has("report.uncertified.txt")
+    assert (auction.outcome(), auction.read("results/results.html")) == before
 
 
 WORSE = 'if grep -q X1_1 "$1" && grep -q X2_1 "$1"; then echo X3_1 1 > "$2"; else rest "$@"; fi'
@@ -126,6 +134,14 @@ def test_what_a_report_disproves_by_itself(auction, tmp_path, text, said):
 def test_a_folder_belongs_to_one_input(auction, tmp_path):
     other = tmp_path / "other.txt"
     other.write_bytes(TIED)
+    # one of which there is no program yet is replaced
+    (auction.where / "input.txt").unlink()
+    for data, why in ((b"", "wrong number of"), (WORKED.replace(b"\n-\n", b"\n"), "not empty")):
+        (tmp_path / "bad.txt").write_bytes(data)
+        assert why in auction.said("--input", tmp_path / "bad.txt", status=1)
+    (tmp_path / "bad.txt").write_bytes(WORKED)
+    words = "--input", tmp_path / "bad.txt", *solver(tmp_path, "exit 1")
+    assert "groups are missing" in auction.said(*words, status=1)
     # an input that changes while a run goes on
     slow = solver(tmp_path, f'cp "{other}" ../../input.txt; rest "$@"')
     assert "input.txt isn't what was left there" in auction.said(*slow, status=1)
@@ -236,8 +252,9 @@ def test_a_full_disk(auction, tmp_path, whole):
 
 
 def ended_and_gone_on_with(auction, number, seconds, start, go_on):
-    """Ends a run after so many seconds; nothing is at work then, and the next run leaves the same bytes."""
+    """Ends a run so many seconds after it began; nothing is at work then, and the next run leaves the same bytes."""
     started = start()
+    wait_for(lambda: auction.has(".running") or auction.has("programs"))
     time.sleep(seconds)
     started.send_signal(number)
     ended(started)
@@ -252,8 +269,7 @@ def test_ended_at_a_random_moment(auction, tmp_path, whole, turn):
     # a solver with children of its own, some of which hide
     slow = solver(tmp_path, 'setsid sleep 7000 & (setsid sleep 7000 &); sleep 0.2; rest "$@"')
     begin, go_on = (lambda: auction.start("--ties", *slow)), (lambda: auction.said("--ties"))
-    # (before that Python itself begins, which an interrupt ends by a traceback)
-    how = ENDINGS[turn % 4], random.Random(turn).uniform(0.3, 3)
+    how = ENDINGS[turn % 4], random.Random(turn).uniform(0, 2)
     assert ended_and_gone_on_with(auction, *how, begin, go_on) == whole.outcome()
 
 
@@ -312,5 +328,5 @@ def test_snakemake_ended_at_a_random_moment(auction, whole, by_snakemake, turn):
     # (jobs that run on after Snakemake was killed end by themselves; its handler of SIGTERM waits for a lock that the
     # thread which it interrupts may hold)
     number = (signal.SIGKILL, signal.SIGINT)[turn % 2]
-    how = number, random.Random(turn).uniform(1, 8), lambda: by_snakemake(auction)
+    how = number, random.Random(turn).uniform(0, 6), lambda: by_snakemake(auction)
     assert ended_and_gone_on_with(auction, *how, go_on) == whole.outcome()

@@ -154,7 +154,7 @@ def test_what_has_no_prices(tmp_path):
     cut, priced = tmp_path / "cut.txt", tmp_path / "priced.txt"
     for data, why in ((WORKED, "wrong number of solutions"), (b"", "wrong number of rules")):
         cut.write_bytes(data)
-        stopped(office("prices", cut, "--output", priced), why)
+        stopped(office("prices", cut, "--output", priced), f"prices: wdp: input: {why}")
     assert not priced.exists()
 
 

@@ -7,6 +7,7 @@ import contextlib
 import json
 import os
 import secrets
+import shlex
 import shutil
 import sys
 import tempfile
@@ -40,6 +41,9 @@ EPILOG = "Exit status: 0 everything is there; 1 refused, or something is missing
 EPILOG += "2 the words are wrong; 3 without certificates, figures that can't all be of the greatest totals."
 
 
+tool = "auction"  # which one messages are of; or `prices`
+
+
 def is_at_terminal() -> bool:
     return bool(sys.stderr and sys.stderr.isatty())
 
@@ -47,7 +51,7 @@ def is_at_terminal() -> bool:
 def say(text: str) -> None:
     """A line on standard error; at a terminal in the place of the line that tells how far the work is."""
     files.tell("\r\x1b[K" if is_at_terminal() else "")
-    files.say("auction", text)
+    files.say(tool, text)
 
 
 def of_group(kind: str, group: int) -> str:
@@ -81,7 +85,8 @@ def progress(count: int, left: int) -> steps.Watch:
         if time.monotonic() - told < TOLD_EVERY[is_terminal]:
             return
         told = time.monotonic()
-        text = f"{count - left + ended} of {count} groups done; at work: {', '.join(at_work[:8])}"
+        text = f"{count - left + ended} of {counted(count, 'group')} done"
+        text += f"; at work: {', '.join(at_work[:8])}" if at_work else ""
         if is_terminal:
             files.tell("\r\x1b[K" + text[: shutil.get_terminal_size().columns - 1])
         else:
@@ -140,17 +145,18 @@ class Run(Folder):
             try:
                 answer(self.program, words, text, limits, printed)
             except Refused as refused:
-                what = f"wdp-office explain {self.path(INPUT)} tells what is wrong"
+                told = "-" if self.page is None else shlex.quote(str(self.path(INPUT)))
+                what = f"wdp-office explain {told} tells what is wrong"
                 raise Refused(f"{refused}; {what}") from None
+            if groups_in(text)[:1] != ["-"]:
+                first = "the first line of %groups has to be `-`"
+                why = "since costs are told against the winners among all bidders"
+                raise Refused(f"group 1 is not empty: {first}, {why}")
             printed.seek(0)
             for group, lines in groupby(printed, number_of):
                 _, *program = lines
                 if not self.has(of_group("program", group)):
                     self.leave(of_group("program", group), b"".join(program))
-        if names[:1] != ["-"]:
-            first = "the first line of %groups has to be `-`"
-            why = "since costs are told against the winners among all bidders"
-            raise Refused(f"group 1 is not empty: {first}, {why}")
         if not added:
             self.leave(NAMES, "".join(name + "\n" for name in names).encode())
 
@@ -302,6 +308,8 @@ class Run(Folder):
 
     def through(self) -> int:
         """Does all that isn't done yet; the status of the whole."""
+        if not self.is_certified and self.has(REPORT):
+            raise Refused(f"{self.path(REPORT)} is certified; --no-certify needs another folder")
         if status := in_processes({"": self.compile}):
             return status
         if not self.solved(self.names()):
@@ -323,7 +331,7 @@ class Run(Folder):
         elif self.is_only:
             only = "whether others can win with the total of group 1"
             say(f"not proved: {only}, since the search didn't end")
-        again = f"wdp verify < {self.path(AUDIT)} prints it again"
+        again = f"wdp verify < {shlex.quote(str(self.path(AUDIT)))} prints it again"
         which = f": the report is {self.path(REPORT)}, and {again}" if is_kept else ""
         say(f"each total is certified{which}")
         return int(self.is_only and not self.has(UNIQUE))
@@ -456,6 +464,8 @@ def run_of(given: argparse.Namespace, folder: Path | None, **more: Any) -> Run:
 
 
 def run(given: argparse.Namespace) -> int:
+    global tool
+    tool = "auction"
     if given.ties and given.no_certify:
         raise WrongWords("--ties needs certificates, and --no-certify goes without")
     own = run_of(
@@ -479,6 +489,8 @@ def run(given: argparse.Namespace) -> int:
 
 
 def run_prices(given: argparse.Namespace) -> int:
+    global tool
+    tool = "prices"
     folder = given.award if given.award.is_dir() else None
     page = {"title": None, "currency": None} if folder else None
     own = run_of(given, folder, page=page, shows=lambda line: files.put(f"{line}\n".encode()))

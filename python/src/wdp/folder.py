@@ -50,16 +50,18 @@ class Folder:
             files.write_all({str(path): text})
 
     def take_input(self, data: bytes | None) -> None:
-        """Takes an input, or the `input.txt` that is there. A folder that belongs to another one is refused."""
+        """Takes an input, or the `input.txt` that is there. A folder that belongs to another one is refused: one in which a step
+        left more than that, or nothing yet."""
         path = self.path(INPUT)
+        others = {*self.path("sums").rglob("*.sha256")} - {self.sum_path(INPUT)}
         if data is None or path.exists():
             there = files.read(str(path), MOST, regular=True)
-            if data is not None and data != there:
+            if data not in (None, there) and (others or not self.has(INPUT)):
                 raise Refused(f"{path} is another input; take another folder")
-            data = there
-        if self.has(INPUT):
+            data = there if data is None else data
+        if self.has(INPUT) and others:
             self.read(INPUT)
-        elif not self.sum_path(INPUT).exists() and any(self.path("sums").rglob("*.sha256")):
+        elif not self.sum_path(INPUT).exists() and others:
             why = f"isn't there, which says of which input {self.where} is"
             raise Refused(f"{self.sum_path(INPUT)} {why}")
         else:
