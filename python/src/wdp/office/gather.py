@@ -25,12 +25,6 @@ def output_path(text: str) -> str:
     return "" if text == "-" else choices.path(text)
 
 
-def receipt_path(text: str) -> str:
-    if text == "-":
-        raise argparse.ArgumentTypeError("it is printed on standard error anyway; name a file")
-    return choices.path(text)
-
-
 def add_words(parser: argparse.ArgumentParser) -> None:
     add = parser.add_argument
     add("rules", metavar="RULES", help="the file of the rules")
@@ -43,7 +37,7 @@ def add_words(parser: argparse.ArgumentParser) -> None:
     output = "write the input to this file, completely or not at all"
     add("--output", metavar="FILE", type=output_path, help=output)
     also = "write the receipt to this file too"
-    add("--receipt", metavar="FILE", type=receipt_path, help=also)
+    add("--receipt", metavar="FILE", type=choices.path, help=also)
     choices.add_words(parser)
 
 
@@ -51,6 +45,8 @@ def check_words(given: argparse.Namespace) -> None:
     rule = given.groups
     if rule and (rule[0], len(rule)) not in (("each", 1), ("winners", 2)):
         raise WrongWords("--groups takes each, or winners FILE")
+    if given.receipt == "-":
+        raise WrongWords("--receipt -: standard error has the receipt anyway; name a file")
     if bool(rule) == bool(given.groups_file):
         raise WrongWords("give GROUPS or --groups, one of them")
     paths = (given.rules, given.groups_file, given.expect, *rule[1:])

@@ -132,9 +132,7 @@ def delimiter_of(text: str, file: File) -> tuple[str, int]:
     return delimiter, begin
 
 
-def table_of(
-    path: str, data: bytes, most: int, width: int | None = None, kinds: str = CSV
-) -> File:
+def table_of(path: str, data: bytes, most: int, width: int | None = None, kinds: str = CSV) -> File:
     """The records of a file's bytes, at most so many, each of so many fields or of as many as the first one."""
     file = File(path, data)
     text = text_of(file, kinds)
