@@ -122,9 +122,9 @@ def field(value: Any, where: Where) -> str:
     if not type(value).__name__.startswith("bool"):  # numpy's too
         with suppress(TypeError, ValueError, ArithmeticError):
             if hasattr(type(value), "__index__"):
-                whole = operator.index(value)
+                exact = operator.index(value)
                 why = "has more than 18 digits"
-                return digits(whole)
+                return digits(exact)
             number = float(value)
             if number.is_integer() and number == value and abs(number) < MOST_EXACT:
                 return str(int(number))
