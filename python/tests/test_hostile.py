@@ -5,6 +5,7 @@ import random
 import re
 import signal
 import threading
+import time
 from functools import partial
 
 import pytest
@@ -83,6 +84,7 @@ def test_no_program_outlives_its_answer(program, monkeypatch, mark):
 
     def interrupt():
         wait_for(lambda: running(mark))
+        time.sleep(0.5)  # (it runs before its caller knows of it)
         os.kill(os.getpid(), signal.SIGINT)
 
     was, thread = signal.getsignal(signal.SIGINT), threading.Thread(target=interrupt)

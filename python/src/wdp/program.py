@@ -102,18 +102,18 @@ def status_of(
     words: Sequence[str], limits: Limits, streams: dict[str, IO[bytes]], folder: Path | None
 ) -> int | None:
     """Starts a program and waits for its end. Gives its status, None if its time is over; Unclear if it prints too much."""
+    most_of_answer = limits.most, f"an answer to this can have, {limits.most} bytes"
+    most_of_messages = MOST_OF_MESSAGES, f"{MOST_OF_MESSAGES} bytes on standard error"
+    mosts = {"stdout": most_of_answer, "stderr": most_of_messages}
+    pause = SHORTEST_LOOK
     try:  # (in a group of its own, so that all of it can be ended)
         how: Any = {**streams, "cwd": folder, "start_new_session": True}
         started: subprocess.Popen[bytes] = subprocess.Popen(words, **how)
     except (OSError, ValueError) as error:
         why = getattr(error, "strerror", None) or error
         raise NotFound(f"{words[0]} can't be started: {why}") from None
-    last = math.inf if limits.seconds is None else time.monotonic() + limits.seconds
-    pause = SHORTEST_LOOK
-    most_of_answer = limits.most, f"an answer to this can have, {limits.most} bytes"
-    most_of_messages = MOST_OF_MESSAGES, f"{MOST_OF_MESSAGES} bytes on standard error"
-    mosts = {"stdout": most_of_answer, "stderr": most_of_messages}
     try:
+        last = math.inf if limits.seconds is None else time.monotonic() + limits.seconds
         while True:
             pause = min(pause * 1.25, LONGEST_LOOK)
             with contextlib.suppress(subprocess.TimeoutExpired):
