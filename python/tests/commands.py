@@ -66,11 +66,11 @@ def start(words, **how):
     return subprocess.Popen(list(map(str, words)), **how)
 
 
-def ended(started, data=None):
-    """What a process comes to. Whatever it is given, it ends in no traceback."""
+def ended(started, data=None, own="Traceback"):
+    """What a process comes to. Whatever it is given, it ends in no traceback; `own` is what one of ours would print."""
     out, err = (text or b"" for text in started.communicate(data, timeout=900))
     seen = Seen(started.returncode, out.decode(), err.decode())
-    assert "Traceback" not in seen.out + seen.err, seen.err
+    assert own not in seen.out + seen.err, seen.out + seen.err
     return seen
 
 

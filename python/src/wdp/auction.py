@@ -278,7 +278,8 @@ class Run(Folder):
             are_done = f"{counted(len(groups), 'group')}, {len(groups) - len(left)} done"
             say(f"{are_done}, {self.jobs} at a time, by {self.solver.split()[0]}")
         if self.is_certified and left:
-            import wdp.certify.search  # noqa: F401  (read once for all steps)
+            with steps.signals_wait():
+                import wdp.certify.search  # noqa: F401  (read once for all steps)
         work = {f"group {group}": partial(self.settle, group) for group in left}
         in_processes(work, self.jobs, None if self.quiet else progress(len(groups), len(left)))
         kind = "certificate" if self.is_certified else "answer"

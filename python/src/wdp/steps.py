@@ -60,6 +60,16 @@ def ended_at_once() -> Iterator[None]:
         end_by(interrupt, signal.SIGTERM)
 
 
+@contextmanager
+def signals_wait() -> Iterator[None]:
+    """Within this a signal waits: an import that it breaks off may fail with another error."""
+    signal.pthread_sigmask(signal.SIG_BLOCK, ENDINGS)
+    try:
+        yield
+    finally:
+        signal.pthread_sigmask(signal.SIG_UNBLOCK, ENDINGS)
+
+
 def forked(step: Step) -> int:
     parent, process, status = os.getpid(), os.fork(), 1
     if process:
