@@ -53,7 +53,7 @@ GROUPS = {
     1: "",
     2: "",
     3: NAME + NO_BIDDER,
-    4: NAME + " stands in the line already",
+    4: NAME + " is in the line already",
     5: ": more than 1024 groups",
 }
 INPUT = {

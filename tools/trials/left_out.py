@@ -17,7 +17,7 @@ def why(auction, form, bid):
     """Why a bid of a form is in no program; nothing where it is in one."""
     for name, quantity, supply in zip(CATEGORIES, bid.package, auction.supply):
         if quantity > supply:
-            return f"asks for {quantity} of {name}, where there are {supply}"
+            return f"asks for {quantity} of {name}, of which there are {supply}"
     for number, pool in enumerate(auction.pools, 1):
         load = weighed(pool.weights, bid.package)
         if load > pool.cap:

@@ -87,7 +87,7 @@ WRONG = {
     "8 QuantityText": " isn't 1 to 18 digits",
     "9 QuantityRange": " isn't between 0 and 10000",
     "3 UnknownBidder": " is no bidder's name",
-    "4 RepeatedBidder": " stands in the line already",
+    "4 RepeatedBidder": " is in the line already",
 }
 # points and reserves of the lots, and the eligibility of each bidder
 POINTS, RESERVES, ELIGIBILITY = (3, 2, 1, 1), (10, 20, 30, 40), 100

@@ -1,4 +1,4 @@
--- All faults of a text of groups. An empty line has no names; a name that is unknown, or stands in the line already, doesn't count for later ones.
+-- All faults of a text of groups. An empty line has no names; a name that is unknown, or is in the line already, doesn't count for later ones.
 use Rattle.std.specs.Prelude.{◌++◌, ℕ, List, []}
 use Rattle.auction_terms.specs.AllFaults.{all_failed, all_faults, one_failed, or_else}
 use Rattle.auction_terms.specs.GroupNames.{names_in}

@@ -163,6 +163,6 @@ form_fault_message t most r n f = []
 -- a fault at a name of a line of groups
 abbrev pub group_message : List ℕ → ℕ → GroupFault → List ℕ
 group_message name n (groups.UnknownBidder place) = name_message n name (codes " is no bidder's name")
-group_message name n (groups.RepeatedBidder place) = name_message n name (codes " stands in the line already")
+group_message name n (groups.RepeatedBidder place) = name_message n name (codes " is in the line already")
 group_message name n (groups.TooManyGroups place) = codes ": more than " ++ (decimal MOST_GROUPS ++ codes " groups")
 group_message name n f = []

@@ -20,7 +20,7 @@ pub fn group_detail<'d>(name: &'d [u8], number: usize, fault: GroupFault) -> Det
         GroupFault::RepeatedBidder { .. } => Detail::Name(
             number,
             name,
-            Wording::Words(" stands in the line already"),
+            Wording::Words(" is in the line already"),
         ),
         GroupFault::TooManyGroups { .. } => Detail::Whole(Wording::Between(
             ": more than ",

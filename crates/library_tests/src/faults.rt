@@ -11,7 +11,7 @@ const FAULTY: &[u8] =
     b"%rules\nrules,1,5,,\ncategory,A,2,10,1\ncategory,B,1,5,1\nbidder,Alpha,9,2,\nbidder,Beta,2,1,\n%form\nAlpha,A,B\n31,1,x\n7,0,0\n%form\nBeta,B,A\n30,1,0\n%form\nGamma,A,B\n30,1,10001\n%groups\n-\nBeta+Delta+Beta\n\n";
 
 const LINES: &[u8] =
-    b"form 1: 7 AmountStep at record 2, field 1: '31' isn't a multiple of 5\nform 1: 8 QuantityText at record 2, field 3: 'x' isn't 1 to 18 digits\nform 1: 7 AmountStep at record 3, field 1: '7' isn't a multiple of 5\nform 1: 10 EmptyPackage at record 3: each quantity is 0\nform 2: 2 Header at record 1, field 2: 'B' in place of A\nform 3: 3 UnknownBidder at record 1, field 1: 'Gamma' is no bidder's name\nform 3: 9 QuantityRange at record 2, field 3: '10001' isn't between 0 and 10000\ngroups: 3 UnknownBidder at line 2, name 2: 'Delta' is no bidder's name\ngroups: 4 RepeatedBidder at line 2, name 3: 'Beta' stands in the line already\ngroups: 2 EmptyLine at line 3\n";
+    b"form 1: 7 AmountStep at record 2, field 1: '31' isn't a multiple of 5\nform 1: 8 QuantityText at record 2, field 3: 'x' isn't 1 to 18 digits\nform 1: 7 AmountStep at record 3, field 1: '7' isn't a multiple of 5\nform 1: 10 EmptyPackage at record 3: each quantity is 0\nform 2: 2 Header at record 1, field 2: 'B' in place of A\nform 3: 3 UnknownBidder at record 1, field 1: 'Gamma' is no bidder's name\nform 3: 9 QuantityRange at record 2, field 3: '10001' isn't between 0 and 10000\ngroups: 3 UnknownBidder at line 2, name 2: 'Delta' is no bidder's name\ngroups: 4 RepeatedBidder at line 2, name 3: 'Beta' is in the line already\ngroups: 2 EmptyLine at line 3\n";
 
 const COMPILE: Request = Request::Compile { workers: 1 };
 

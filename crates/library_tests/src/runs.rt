@@ -44,7 +44,7 @@ const REPORT: &[u8] =
 
 /// Which bids of `SOLVED` are in no program.
 const LEFT_OUT: &[u8] =
-    b"Alpha: bid 3 is dominated by bid 1\nBeta: bid 2 asks for 3 of A, where there are 2\n";
+    b"Alpha: bid 3 is dominated by bid 1\nBeta: bid 2 asks for 3 of A, of which there are 2\n";
 
 /// What `check` tells of `ONE_FORM_TEXT`.
 const SIZES: &[u8] = b"rows 3 columns 1 entries 2\n";

@@ -16,7 +16,7 @@ pool_name t place = option_map_or (λ pool. pool.name) (slice_get t.pools place)
 
 -- what is reported of a reason
 abbrev pub reason_text : Terms → Reason → List ℕ
-reason_text t (reason.OverSupply category asked supply) = codes " asks for " ++ (decimal asked ++ (codes " of " ++ (category_name t category ++ (codes ", where there are " ++ decimal supply))))
+reason_text t (reason.OverSupply category asked supply) = codes " asks for " ++ (decimal asked ++ (codes " of " ++ (category_name t category ++ (codes ", of which there are " ++ decimal supply))))
 reason_text t (reason.OverCap pool load cap) = codes " loads pool " ++ (pool_name t pool ++ (codes " with " ++ (decimal load ++ (codes ", above its cap of " ++ decimal cap))))
 reason_text t (reason.BelowWorth less) = codes " brings " ++ (decimal less ++ codes " less than its lots are worth unsold")
 reason_text t (reason.Dominated by) = codes " is dominated by bid " ++ decimal by

@@ -62,7 +62,7 @@ fn add_over_supply<S: Sink>(
         asked_digits.format(asked).as_bytes(),
         b" of ",
         category_name(rules, category),
-        b", where there are ",
+        b", of which there are ",
         supply_digits.format(supply).as_bytes(),
     ];
     writer.add_pieces(&pieces);
