@@ -92,19 +92,23 @@ impl FileFault {
             FileFault::NotRead(kind) => [
                 "it is ",
                 kind.words(),
-                "; what isn't a file is read as standard input: wdp COMMAND < FILE",
+                ", not a file; to read it as standard input: wdp COMMAND < FILE",
             ],
             FileFault::NotReplaced(kind) => [
                 "it is ",
                 kind.words(),
-                ", and -o puts a whole file in its place; wdp COMMAND > FILE writes to it",
+                ", and -o would put a file in its place; wdp COMMAND > FILE writes to it",
             ],
             FileFault::ReadOnly => ["it may not be written", "", ""],
             FileFault::Unwritten => ["it can't be written", "", ""],
             FileFault::Empty => ["it is empty", "", ""],
-            FileFault::NoLineEnd => ["its last line has no end, and a file follows", "", ""],
+            FileFault::NoLineEnd => [
+                "its last line has no line end, and another file follows",
+                "",
+                "",
+            ],
             FileFault::ReadAlready(_) => ["it is read already, as ", "", ""],
-            FileFault::ReadToo => ["it is read, too", "", ""],
+            FileFault::ReadToo => ["it is also an input", "", ""],
             FileFault::OutOfMemory => ["out of memory", "", ""],
         }
     }

@@ -201,7 +201,7 @@ const REFUSED: [Refused; 13] = [
     },
     Refused {
         words: &["wdp", "text", "rules.txt", "open.txt", "gamma.txt"],
-        line: b"wdp: open.txt: its last line has no end, and a file follows\n",
+        line: b"wdp: open.txt: its last line has no line end, and another file follows\n",
     },
     Refused {
         words: &["wdp", "text", "rules.txt", "note.txt"],
