@@ -86,16 +86,16 @@ pub(crate) fn output<'a>(alloc: Global) -> Arg<'a>
         .short('o')
         .long("output")
         .value_name("FILE")
-        .help("The file that is written, whole or not at all [default: standard output]")
+        .help("The output file, written completely or not at all [default: standard output]")
 }
 
 pub(crate) fn file<'a>(alloc: Global) -> Arg<'a>
     ensures rule { rule_of result ≡ asked.file }
     ensures local { result.global ≡ false }
 {
-    Arg::new(alloc, "files").value_name("FILE").help(
-        "The file that is read [default: standard input, which is - too]",
-    )
+    Arg::new(alloc, "files")
+        .value_name("FILE")
+        .help("The input file [default: standard input, also named -]")
 }
 
 pub(crate) fn files<'a>(alloc: Global) -> Arg<'a>
@@ -104,6 +104,6 @@ pub(crate) fn files<'a>(alloc: Global) -> Arg<'a>
 {
     Arg::new(alloc, "files")
         .value_name("FILE")
-        .help("The files that are read, as one input [default: standard input, which is - too]")
+        .help("The input files, read as one input [default: standard input, also named -]")
         .action(ArgAction::Append)
 }

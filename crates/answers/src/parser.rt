@@ -28,7 +28,7 @@ const PROGRAM: Page = Page {
 
 const TEXT: Page = Page {
     name: "text",
-    about: "Prints the program of the empty group, as no command does too",
+    about: "Prints the program of the empty group; so does wdp without a command",
     below: "Input: %rules, and a %form for each form\nOutput: the program of the empty group, in free MPS\nExample: wdp text examples/one_form.txt -o one_form.mps",
 };
 
@@ -46,26 +46,26 @@ const COMPILE: Page = Page {
 
 const MAP: Page = Page {
     name: "map",
-    about: "Prints what a solution wins",
+    about: "Prints the winners of a solution",
     below: "Input: %rules, a %form for each form, %groups, and one %solution\nOutput: a line NAME BID AMOUNT for each winner, and a line total N\nExample: wdp map --group 1 examples/worked.txt solution.txt",
 };
 
 const REPORT: Page = Page {
     name: "report",
-    about: "Prints what the solutions of all groups win, and the groups' opportunity costs",
+    about: "Prints the winners of all groups' solutions, and the groups' opportunity costs",
     below: "Input: %rules, a %form for each form, %groups, and a %solution for each group\nOutput: for each group its winners, their total, and its opportunity cost\nExample: wdp report examples/worked.txt solutions.txt",
 };
 
 const VERIFY: Page = Page {
     name: "verify",
     about: "Prints the report of solutions that certificates show to be optimal",
-    below: "Input: as of report, and a %certificate for each group; perhaps %prices with %cover and %weights, and a %unique or a %tie\nOutput: as of report, then the prices, and what is shown of other outcomes\nExample: wdp verify examples/verified.txt",
+    below: "Input: that of report, and a %certificate for each group; optionally %prices with %cover and %weights, and %unique or %tie\nOutput: that of report, then the prices if given, then unique, or tie and an allocation\nExample: wdp verify examples/verified.txt",
 };
 
 const EXPLAIN: Page = Page {
     name: "explain",
     about: "Prints all faults of an input",
-    below: "Input: %rules, a %form for each form, perhaps %groups; other parts are ignored, or counted for a command\nOutput: a line for each fault, none if nothing is wrong; status 1 if there is one\nExample: wdp explain examples/worked.txt",
+    below: "Input: %rules, a %form for each form, optionally %groups; other parts are ignored, or counted with --for COMMAND\nOutput: a line for each fault; the status is 1 if there is a fault\nExample: wdp explain examples/worked.txt",
 };
 
 // The command of a page, without options.
