@@ -21,7 +21,6 @@ mod FileLineFacts
 pub mod GroupTextFacts
 mod LineFacts
 pub mod OnlyFacts
-mod OutsideFacts
 pub mod PricedFacts
 pub mod ProgramTextFacts
 pub mod RunFacts
