@@ -1,4 +1,4 @@
--- What is answered to a request, by the auction that its input tells.
+-- What is answered to a request, by the auction that its input describes.
 use Rattle.std.proofs.Common.{◌≡◌, ◌≢◌, ◌∙◌, ℕ, List, Option, Result, Ok, Err, ap, inl, inr, refl, subst, sym, IfErr, OnOk}
 use Rattle.auction_input.specs.Input.{Input}
 use Rattle.answers.specs.Answer.{answer, output_of}
@@ -36,7 +36,7 @@ module _ (asked : Request) (input : Input) (some : asked ≢ request.Check) wher
   no-auction before r (inl refused) = inl (by_refusal (refuses-as _ _ r (by-auction asked input some) (stop (parsed_auction asked input) (output_of asked) r refused)) refl)
   no-auction before r (inr unsettled) = inr (inl unsettled, refl)
 
-  -- it is, and what is reported of it is what the input tells
+  -- it is, and what is reported of it is what the input describes
   module _ (auction : Auction) (parsed : parsed_auction asked input ≡ Ok auction) where
     is-parsed : answer asked input ≡ output_of asked auction
     is-parsed = by-auction asked input some ∙ ap (λ (t : Result Auction Refusal). and_then t (output_of asked)) parsed

@@ -1,4 +1,4 @@
--- What commands refuse, and what `explain` tells for them.
+-- What commands refuse, and what `explain` prints for them.
 use Rattle.std.proofs.Common.{◌≡◌, ◌≤◌, ◌+◌, ◌-◌, ◌&&◌, ◌∷◌, ◌++◌, ◌∙◌, ℕ, Bool, true, false, List, [], Option, None, Some, Result, Ok, Err, ap, arith, inl, inr, length, map, refl, subst, sym, IfErr, IsErr, ◌⊎◌, true≢false}
 use Rattle.std.proofs.lemmas.Bool.{leb-true}
 use Rattle.std.specs.Prelude.{⊤, if◌then◌else◌, nat_le, not, slice_index_or}

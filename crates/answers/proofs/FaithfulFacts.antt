@@ -1,4 +1,4 @@
--- What `text` and `compile` answer is faithful to the auction that the input tells.
+-- What `text` and `compile` answer is faithful to the auction that the input describes.
 use Rattle.std.proofs.Common.{◌≡◌, ◌∷◌, [], ℕ, false, List, Ok, refl, subst, sym}
 use Rattle.auction_input.specs.Input.{Input}
 use Rattle.std.specs.List.{AllByRecursion}

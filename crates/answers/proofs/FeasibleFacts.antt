@@ -1,4 +1,4 @@
--- What `map` and `report` answer is feasible in the auction that the input tells.
+-- What `map` and `report` answer is feasible in the auction that the input describes.
 use Rattle.std.proofs.Common.{◌≡◌, ◌-◌, ◌+◌, ◌==◌, ◌∷◌, [], ℕ, List, Ok, arith, eqb-true, length, refl, subst, sym, nat_le, slice_index_or}
 use Rattle.std.specs.List.{AllZip, zip}
 use Rattle.auction_terms.specs.Groups.{starts_empty}

@@ -83,7 +83,7 @@ module _ (auction : Auction) (within : IsBook auction.sale.lots auction.sale.boo
   abbrev solved : List ℕ
   solved = slice_index_or auction.solutions 0 []
 
-  -- the point that the first solution tells wins this
+  -- the point that the first solution describes wins this
   wins : (point : List Bool) → solution p solved ≡ Ok point → allocation_of p point ≡ first
   wins point parsed = ok-is (winners_by p 1 solved) (allocation_of p point) first (won-by p 1 solved point _ (sym parsed) refl) won
 

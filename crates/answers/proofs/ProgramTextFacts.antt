@@ -1,4 +1,4 @@
--- What is read of a program's text is what it tells, its size included.
+-- What is read of a program's text is what it describes, its size included.
 use Rattle.std.proofs.Common.{◌≡◌, ◌<◌, ◌≤◌, ℕ, List, Result, Ok, Err, arith, length, refl, subst, sym, inl, inr}
 use Rattle.std.proofs.lemmas.Bool.Decides.{leb_tells}
 use Rattle.program_rows.specs.declared.mps_fault.MpsFault.{MpsFault}

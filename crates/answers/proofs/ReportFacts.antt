@@ -82,7 +82,7 @@ text-at [] n text below is = absurd (omega arith)
 text-at (s ∷ solutions) zero text below is = ap (λ (t : Text). t.now) is
 text-at (s ∷ solutions) (suc n) text below is = text-at solutions n text (omega arith) is
 
--- what a group's program and solution tell
+-- what a group's program and solution describe
 pub parsed-by : (c : Compiling) (texts : List (List ℕ)) (n : ℕ) (group text : List ℕ) (answer : Answer) → group ≡ slice_index_or c.groups (n + 1 - 1) [] → text ≡ slice_index_or texts n []
     → IfOk answer (λ a. winners_by (program_without c.book group) (n + 1) text ≡ Ok a) → IfErr answer (Refuses (winners_by (program_without c.book group) (n + 1) text)) → IsParsedAnswer (winners_at (sale_of c.book) c.groups texts n) answer
 parsed-by c texts n group text answer is at won refused =

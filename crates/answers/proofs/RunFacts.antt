@@ -47,7 +47,7 @@ module _ (content : List ℕ → Option (List ℕ)) where
       → IsRun content asked status (outside left reads output faults) after
   run-from asked status left reads output output' faults after same run = subst (λ (s : SinkState). IsRun content asked status (outside left reads s faults) after) same run
 
-  -- a run that is refused, or tells faults
+  -- a run that is refused, or prints faults
   pub run-refused : (asked : Asked) (before after : Outside)
       → ((parsed : List ℕ) × IsUndone content asked before after parsed × Puts parsed before.faults.taken after.faults.taken before.faults.failures after.faults.failures) ⊎ HasExplained content asked before after
       → IsRun content asked 1 before after

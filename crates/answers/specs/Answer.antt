@@ -48,7 +48,7 @@ output_of (Explain bids command) auction =
 -- the program with nobody left out
 output_of asked auction = Ok (text (program_for auction.sale []))
 
--- `check` writes the sizes of the program that its one text is; the others answer by the auction that theirs tells
+-- `check` writes the sizes of the program that its one text is; the others answer by the auction that theirs describes
 abbrev pub answer : Request → Input → Result (List ℕ) Refusal
 answer Check input = and_then (parsed_program (only_text (text_bytes input))) (λ program. Ok (sizes_text program))
 answer asked input = and_then (parsed_auction asked input) (output_of asked)

@@ -36,7 +36,7 @@ abbrev pub RefusesSo : Request → Input → Refusal → Type 0
 RefusesSo (Verify workers) input r = (first : Refusal) × (answer (Verify workers) input ≡ Err first) × ((first ≡ r) ⊎ (IsOfParts first → ⊥))
 RefusesSo asked input r = answer asked input ≡ Err r
 
--- what `explain` tells for a command is what the command does
+-- what `explain` prints for a command is what the command does
 pub record ExplainsFor (command : Target) (input : Input) : Type 0 where
   pub refused : (bids : Bool) (r : Refusal) → parsed_taken (Explain bids (Some command)) input ≡ Err r → (asked : Request) → target_of asked ≡ Some command → RefusesSo asked input r
   pub taken : (bids : Bool) (auction : Auction) → parsed_taken (Explain bids (Some command)) input ≡ Ok auction → IsTakenBy (Some command) input

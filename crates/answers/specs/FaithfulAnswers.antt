@@ -1,4 +1,4 @@
--- What `text` and `compile` write where they end well: texts that are faithful to the auction that the input tells.
+-- What `text` and `compile` write where they end well: texts that are faithful to the auction that the input describes.
 use Rattle.std.specs.Prelude.{◌≡◌, ℕ, false, List, Ok}
 use Rattle.auction_input.specs.Input.{Input}
 use Rattle.std.specs.List.{AllByRecursion}
@@ -17,7 +17,7 @@ use Rattle.answers.specs.GroupTexts.{program_text}
 abbrev pub IsFaithfulToSale : Sale → List ℕ → Type 0
 IsFaithfulToSale sale group = IsFaithfulText sale.lots sale.book (has group) (text (program_for sale group))
 
--- what `text` answers of an input is a text that is faithful to the auction which the input tells, with nobody left out
+-- what `text` answers of an input is a text that is faithful to the auction which the input describes, with nobody left out
 abbrev pub TextIsFaithful : Type 0
 TextIsFaithful = (input : Input) (out : List ℕ) → answer Text input ≡ Ok out
     → (auction : Auction) × (parsed_auction Text input ≡ Ok auction) × IsFaithfulText auction.sale.lots auction.sale.book (λ b. false) out
@@ -27,7 +27,7 @@ pub record AreFaithfulTexts (auction : Auction) (out : List ℕ) : Type 0 where
   pub texts : out ≡ in_turn (program_text auction.sale) 1 auction.groups
   pub faithful : AllByRecursion (IsFaithfulToSale auction.sale) auction.groups
 
--- what `compile` answers of an input is these of the auction which the input tells
+-- what `compile` answers of an input is these of the auction which the input describes
 abbrev pub CompiledIsFaithful : Type 0
 CompiledIsFaithful = (workers : ℕ) (input : Input) (out : List ℕ) → answer (Compile workers) input ≡ Ok out
     → (auction : Auction) × (parsed_auction (Compile workers) input ≡ Ok auction) × AreFaithfulTexts auction out

@@ -1,4 +1,4 @@
--- What `map` and `report` print where they end well: allocations that are feasible in the auction that the input tells.
+-- What `map` and `report` print where they end well: allocations that are feasible in the auction that the input describes.
 use Rattle.std.specs.Prelude.{◌≡◌, ◌-◌, ℕ, List, [], Ok, slice_index_or}
 use Rattle.auction_input.specs.Input.{Input}
 use Rattle.std.specs.List.{AllZip}
@@ -21,7 +21,7 @@ pub record AreFeasibleWinners (auction : Auction) (k : ℕ) (out : List ℕ) : T
   pub text : out ≡ allocation_text auction.sale won
   pub feasible : IsFeasibleWithout auction.sale (slice_index_or auction.groups (k - 1) []) won
 
--- what `map` answers of an input is these of the auction which the input tells
+-- what `map` answers of an input is these of the auction which the input describes
 abbrev pub MappedIsFeasible : Type 0
 MappedIsFeasible = (k : ℕ) (input : Input) (out : List ℕ) → answer (Map k) input ≡ Ok out
     → (auction : Auction) × (parsed_auction (Map k) input ≡ Ok auction) × AreFeasibleWinners auction k out
@@ -32,7 +32,7 @@ pub record IsFeasibleReport (auction : Auction) (out : List ℕ) : Type 0 where
   pub text : out ≡ report_text auction.sale auction.groups won
   pub feasible : AllZip (IsFeasibleWithout auction.sale) auction.groups won
 
--- what `report` answers of an input is one on the auction which the input tells
+-- what `report` answers of an input is one on the auction which the input describes
 abbrev pub ReportedIsFeasible : Type 0
 ReportedIsFeasible = (workers : ℕ) (input : Input) (out : List ℕ) → answer (Report workers) input ≡ Ok out
     → (auction : Auction) × (parsed_auction (Report workers) input ≡ Ok auction) × IsFeasibleReport auction out

@@ -1,4 +1,4 @@
--- The line that tells why a file of a command line isn't read, or not written.
+-- The line that says why a file of a command line isn't read, or not written.
 use Rattle.std.specs.Prelude.{◌++◌, ◌∷◌, ℕ, List, [], codes, slice_index_or}
 use Rattle.std.specs.Option.{option_map_or}
 use Rattle.auction_input.specs.FileWords.{fault_words}

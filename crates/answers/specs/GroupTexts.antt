@@ -32,7 +32,7 @@ EndsIn book programs group written (Some before) (Some after) =
     (n : ℕ) × (after ≡ before ++ take n (programs_bytes book programs)) × (written ≡ min n (2 ^ 64 - 1))
     × (length (programs_bytes book (take (group - 1) programs)) ≤ n) × (n < length (programs_bytes book (take group programs)))
 
--- a fault after which the output ends as it tells
+-- a fault after which the output ends as it says
 abbrev pub StopsAsReported : Closing → List GroupProgram → Option (List ℕ) → Option (List ℕ) → RunFault → Type 0
 StopsAsReported book programs before after (fault.OutOfMemory written) = (written ≡ 0) × (after ≡ before)
 StopsAsReported book programs before after (fault.Sink group written) = (1 ≤ group) × (group ≤ length programs) × EndsIn book programs group written before after

@@ -54,7 +54,7 @@ pub record IsTrueReport (auction : Auction) (out : List ℕ) : Type 0 where
   pub prices : IfSome pricing (AreTruePrices auction (slice_index_or won 0 []))
   pub holds : Holds auction.sale (slice_index_or won 0 []) claim
 
--- what `verify` answers of an input is a true report on the auction that the input tells
+-- what `verify` answers of an input is a true report on the auction that the input describes
 abbrev pub VerifiedIsTrue : Type 0
 VerifiedIsTrue = (workers : ℕ) (input : Input) (out : List ℕ) → answer (Verify workers) input ≡ Ok out → (auction : Auction) × (parsed_auction (Verify workers) input ≡ Ok auction) × IsTrueReport auction out
 
@@ -89,7 +89,7 @@ abbrev pub UniqueIsOnly : Type 0
 UniqueIsOnly = (workers : ℕ) (input : Input) (before : List ℕ) → answer (Verify workers) input ≡ Ok (before ++ codes "unique\n")
     → (auction : Auction) × (parsed_auction (Verify workers) input ≡ Ok auction) × IsOnlyOutcome auction (before ++ codes "unique\n")
 
--- a true report on the auction that an input tells was written, and nothing else
+-- a true report on the auction that an input describes was written, and nothing else
 pub record WritesTrueReport (workers : ℕ) (input : Input) (taken taken' : Option (List ℕ)) : Type 0 where
   pub auction : Auction
   pub out : List ℕ

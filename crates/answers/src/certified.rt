@@ -116,7 +116,7 @@ fn add<'c>(bounds: &mut Vec<ClaimedBound<'c>>, bound: ClaimedBound<'c>) -> Resul
     Ok(())
 }
 
-// Checks certificates, side by side, and tells the first faulty one.
+// Checks certificates, side by side, and reports the first faulty one.
 fn check_each(
     rt: &(impl Threads + Sync),
     alloc: Global,

@@ -1,4 +1,4 @@
-//! The commands: the auction that the input tells is read here, once for all of them; the one that is asked for writes of it.
+//! The commands: the auction that the input describes is read here, once for all of them; the one that is asked for writes of it.
 
 ghost use Rattle.std.specs.Prelude.{◌≡◌, ◌≢◌, Bool, IfErr, OnOk, Option};
 ghost use Rattle.auction_input.specs.declared.request.Target.{Target};
@@ -31,7 +31,7 @@ pub use explain::explain_input;
 use std::sync::Wait;
 use std::thread::Threads;
 
-/// Writes what is asked for of an input, unless that is `explain`. That of `check` tells a program, and the others' an auction.
+/// Writes what is asked for of an input, unless that is `explain`. That of `check` describes a program, and the others' an auction.
 pub fn answer<R: Threads + Wait + Sync + AllocGlobal, S: Sink>(
     rt: &R,
     request: Request,
@@ -55,7 +55,7 @@ pub fn answer<R: Threads + Wait + Sync + AllocGlobal, S: Sink>(
     }
 }
 
-// Reads the auction that an input tells, and writes what is asked for of it.
+// Reads the auction that an input describes, and writes what is asked for of it.
 fn answer_auction<R: Threads + Wait + Sync + AllocGlobal, S: Sink>(
     rt: &R,
     request: &Request,

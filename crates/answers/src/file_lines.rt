@@ -1,4 +1,4 @@
-//! The line that tells why a file isn't read, or not written.
+//! The line that says why a file isn't read, or not written.
 
 ghost use Rattle.std.specs.Prelude.{◌≡◌};
 ghost use Rattle.auction_input.specs.FileWords.{fault_words};
@@ -47,7 +47,7 @@ fn add_file<S: Sink>(writer: &mut Writer<'_, S>, name: &[u8], fault: FileFault, 
     }
 }
 
-/// Puts the line on a file, which may tell the name of another one. It takes no memory.
+/// Puts the line on a file, which may name another one. It takes no memory.
 pub fn print_file_line<F: Sink>(name: &[u8], fault: FileFault, other: &[u8], faults: &mut F)
     ensures { Puts (file_line name.now fault other.now) (F.taken faults.old) (F.taken faults.new)
         (F.failures faults.old) (F.failures faults.new) }

@@ -7,27 +7,27 @@ ghost use Rattle.answers.specs.FaithfulAnswers.{CompiledIsFaithful, TextIsFaithf
 ghost use Rattle.answers.specs.FeasibleAnswers.{MappedIsFeasible, ReportedIsFeasible};
 ghost use Rattle.answers.specs.Verified.{PricesCover, UniqueIsOnly, VerifiedIsTrue};
 
-/// What `text` answers of an input is a text that is faithful to the auction that the input tells: each 0-1 point of its program maps back to a feasible allocation of the same total, and each feasible allocation is matched by a point of at least its total.
+/// What `text` answers of an input is a text that is faithful to the auction that the input describes: each 0-1 point of its program maps back to a feasible allocation of the same total, and each feasible allocation is matched by a point of at least its total.
 pub fn a_text_is_faithful()
     ensures { TextIsFaithful }
 {}
 
-/// What `compile` answers of an input is the line and the text of each group in order, and each text is faithful to the auction that the input tells, with its group left out.
+/// What `compile` answers of an input is the line and the text of each group in order, and each text is faithful to the auction that the input describes, with its group left out.
 pub fn compiled_texts_are_faithful()
     ensures { CompiledIsFaithful }
 {}
 
-/// What `map` answers of an input is the winners of an allocation that is feasible in the auction that the input tells, with the group left out.
+/// What `map` answers of an input is the winners of an allocation that is feasible in the auction that the input describes, with the group left out.
 pub fn a_mapped_allocation_is_feasible()
     ensures { MappedIsFeasible }
 {}
 
-/// What `report` answers of an input is a report on an allocation for each group that is feasible in the auction that the input tells, with the group left out.
+/// What `report` answers of an input is a report on an allocation for each group that is feasible in the auction that the input describes, with the group left out.
 pub fn reported_allocations_are_feasible()
     ensures { ReportedIsFeasible }
 {}
 
-/// What `verify` answers of an input is a report on allocations of greatest total, each without its group, of the auction that the input tells; and so each cost is the group's opportunity cost, and keeps the law on costs. What it says of other outcomes holds, too: the winners with nobody left out are the only ones, or the other allocation ties.
+/// What `verify` answers of an input is a report on allocations of greatest total, each without its group, of the auction that the input describes; and so each cost is the group's opportunity cost, and keeps the law on costs. What it says of other outcomes holds, too: the winners with nobody left out are the only ones, or the other allocation ties.
 pub fn a_verified_report_is_true()
     ensures { VerifiedIsTrue }
 {}
@@ -37,12 +37,12 @@ pub fn printed_prices_cover_every_group()
     ensures { PricesCover }
 {}
 
-/// Where what `verify` answers of an input ends with the line `unique`, no other feasible allocation of the auction that the input tells has as great a total; and so the winners, and each group's cost, follow from the rules, the bids and the group alone.
+/// Where what `verify` answers of an input ends with the line `unique`, no other feasible allocation of the auction that the input describes has as great a total; and so the winners, and each group's cost, follow from the rules, the bids and the group alone.
 pub fn unique_winners_are_the_only_ones()
     ensures { UniqueIsOnly }
 {}
 
-/// What `explain` tells for a command is what the command does of the same input: it refuses it for the first fault that is reported, and
+/// What `explain` prints for a command is what the command does of the same input: it refuses it for the first fault that is reported, and
 /// where none is reported it doesn't refuse it for its parts. `verify` may meet a solution, certificate or text before that it refuses.
 pub fn what_is_explained_for_a_command_is_what_it_refuses()
     ensures { (command : Target) (input : Input) → ExplainsFor command input }

@@ -1,4 +1,4 @@
-//! The line that tells why a run ended. Those on files are in `file_lines`, which takes this one where an input isn't read.
+//! The line that says why a run ended. Those on files are in `file_lines`, which takes this one where an input isn't read.
 
 ghost use Rattle.auction_input.specs.Line.{Puts};
 ghost use Rattle.input_faults.specs.PlacedText.{placed_line};

@@ -35,8 +35,8 @@ use std::io::Read;
 use std::sync::Wait;
 use std::thread::Threads;
 
-/// The whole program on its words as std tells them, its own name first: the result is its exit status. It is 0 where the
-/// output is whole, 1 where the run is refused, or `explain` tells faults, and 2 where the words are.
+/// The whole program on its words as std gives them, its own name first: the result is its exit status. It is 0 where the
+/// output is complete, 1 where the run is refused, or `explain` prints faults, and 2 where the words are.
 pub fn run<R: Threads + Wait + Sync + AllocGlobal, D: Files, I: Read, S: Output, F: Sink>(
     rt: &R,
     words: io::Result<Args>,
@@ -59,7 +59,7 @@ pub fn run<R: Threads + Wait + Sync + AllocGlobal, D: Files, I: Read, S: Output,
           output = record { taken = S.taken out.new; failures = S.failures out.new };
           faults = record { taken = F.taken faults.new; failures = F.failures faults.new };
         }) }
-    // Where std tells no words, memory was short, or one of them is no text.
+    // Where std gives no words, memory was short, or one of them isn't UTF-8.
     ensures wordless { IfErr words (λ e. (error_kind e ≡ io_kind.OutOfMemory → result ≡ 1)
         × (error_kind e ≢ io_kind.OutOfMemory → (result ≡ 2)
         × Puts (codes "wdp: a word of the command isn't UTF-8\n") (F.taken faults.old) (F.taken faults.new)
@@ -149,7 +149,7 @@ fn read_input<D: Files, I: Read>(
     }
 }
 
-// Prepares the files of a command line, reads its input and answers it, or tells why not.
+// Prepares the files of a command line, reads its input and answers it, or reports why not.
 fn answer_command<R: Threads + Wait + Sync + AllocGlobal, D: Files, I: Read, S: Output, F: Sink>(
     rt: &R,
     command: &Command,
@@ -188,7 +188,7 @@ fn answer_command<R: Threads + Wait + Sync + AllocGlobal, D: Files, I: Read, S: 
     }
 }
 
-// Answers a request of an input, or tells why not.
+// Answers a request of an input, or reports why not.
 fn answer_input<R: Threads + Wait + Sync + AllocGlobal, S: Sink, F: Sink>(
     rt: &R,
     request: Request,
@@ -224,7 +224,7 @@ fn answer_input<R: Threads + Wait + Sync + AllocGlobal, S: Sink, F: Sink>(
     }
 }
 
-// Explains an input, or tells why not.
+// Explains an input, or reports why not.
 fn explain_request<R: Threads + Wait + Sync + AllocGlobal, S: Sink, F: Sink>(
     rt: &R,
     bids: bool,
@@ -258,7 +258,7 @@ fn explain_request<R: Threads + Wait + Sync + AllocGlobal, S: Sink, F: Sink>(
     }
 }
 
-// What an error of the words tells, unless memory is short: then its text may be an empty one.
+// The message of an error of the words, unless memory is short: then its text may be an empty one.
 fn text_of(alloc: Global, error: &Error) -> Option<String>
     ensures some { IfSome result (λ text. 0 < length text.bytes.items) }
     ensures other { IsSome result → kind_of error.now ≢ ErrorKind.OutOfMemory }

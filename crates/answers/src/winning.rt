@@ -42,7 +42,7 @@ pub fn allocation_won(
 }
 
 /// The allocation that a solution wins without a group. Its text is read against the program of just those kept bids that
-/// it names, and only where that refuses it against the program of all, which tells why it is refused.
+/// it names, and only where that refuses it against the program of all, which says why it is refused.
 pub fn won_without(
     alloc: Global,
     compiler: &Compiler<'_, '_>,

@@ -197,7 +197,7 @@ fn matches_of<'a>(alloc: Global, words: &'a [&'a str]) -> Result<ArgMatches<'a>,
     parser(alloc)?.try_get_matches_from(words)
 }
 
-// The fault of a name that no command has, as the parser tells one that isn't a possible value.
+// The fault of a name that no command has, as the parser reports one that isn't a possible value.
 fn unknown_target(alloc: Global, name: &str) -> Result<Error, AllocError>
     ensures { IfOk result (λ e. kind_of e ≡ kind.InvalidValue) }
 {

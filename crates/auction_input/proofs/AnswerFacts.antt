@@ -2,7 +2,7 @@
 use Rattle.std.proofs.Common.{◌≡◌, Option, None, Some, Result, Ok, Err, refl}
 use Rattle.auction_terms.specs.Stages.{and_then, refused_as, unless}
 
--- a stage tells one value
+-- a stage gives one value
 pub ok-is : {A E : Type 0} (r : Result A E) (x y : A) → r ≡ Ok x → r ≡ Ok y → x ≡ y
 ok-is r x y first second = cc
 

@@ -1,4 +1,4 @@
--- What the stages of an auction tell.
+-- What the stages of an auction give.
 use Rattle.std.proofs.Common.{◌≡◌, ◌≤◌, ◌<◌, ◌+◌, ◌∷◌, ◌∙◌, [], ℕ, Bool, zero, suc, List, Option, None, Some, Result, Ok, Err, ap, ap₂, arith, length, map, refl, sym, inl, inr, ◌≢◌, Vec, codes, Global}
 use Rattle.std.specs.List.{last_or, range_with_len}
 use Rattle.auction_terms.specs.Allocations.{Book}
@@ -124,7 +124,7 @@ module _ (asked : Request) (input : Input) (last_wins : Bool) (same : input.last
           pub auction-is : first_fault one_too_many [] forms ≡ None → parsed_auction asked input ≡ Ok (auction_of t forms groups (rest_in parts))
           auction-is accepted = next _ _ _ _ cut (next _ _ _ _ rules (next _ _ _ _ each (next _ _ _ _ in-one-is (next _ _ _ _ known (ap parsed-by accepted)))))
 
-  -- the auction that parts tell
+  -- the auction that parts describe
   pub parsed-is : (t : Terms) (forms : List Offers) (groups : List (List ℕ)) (parsed : Tell last_wins parts t forms groups) → parsed_auction asked input ≡ Ok (auction_of t forms groups (rest_in parts))
   parsed-is t forms groups parsed = auction-is t parsed.rules forms parsed.each parsed.alone groups parsed.known parsed.accepted
 

@@ -15,7 +15,7 @@ use Rattle.auction_input.specs.ParsedTexts.{parsed_form}
 use Rattle.auction_input.proofs.InputTextFacts.{Text}
 use Rattle.auction_input.proofs.StageFacts.{IsLeft, each-count, left-first, left-none, left-stage, left-stage-refused}
 
--- the forms are what so many texts tell, and what the others tell comes behind them
+-- the forms are what so many texts describe, and what the others describe comes behind them
 abbrev pub AreRead : Terms → List Text → ℕ → List Offers → Type 0
 AreRead t texts count forms = (count ≤ length texts) × (length forms ≡ count) × IsLeft (parsed_form t) (count + 1) (bytes_of texts) forms (bytes_of (drop count texts)) × All (Meets t) forms
 

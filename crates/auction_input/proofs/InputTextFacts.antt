@@ -1,4 +1,4 @@
--- What is read of texts is what they tell, their sizes included.
+-- What is read of texts is what they describe, their sizes included.
 use Rattle.std.proofs.Common.{◌≡◌, ◌+◌, ◌++◌, ◌∷◌, ◌<◌, ◌≤◌, [], ℕ, Bool, List, Result, Ok, Err, ap, arith, length, map, refl, subst, sym, inl, inr, All, OnOk, if◌then◌else◌, nat_lt, Bor}
 use Rattle.std.specs.List.{AllZip}
 use Rattle.std.proofs.lemmas.List.Elements.{All-cons, All-nil}
@@ -28,7 +28,7 @@ Text = Bor (List ℕ)
 
 -- ---- forms
 
--- texts whose answers are all forms tell those
+-- texts whose answers are all forms describe those
 each-parsed : (t : Terms) (n : ℕ) (texts : List Text) (forms : List Offers) → AllZip (IsAnswer t) texts (map (λ form. Ok form) forms) → each_in_turn (parsed_form t) n (bytes_of texts) ≡ Ok forms
 each-parsed t n [] [] each = refl
 each-parsed t n [] (form ∷ forms) each = absurd each
@@ -43,7 +43,7 @@ meet t [] (form ∷ forms) each = absurd each
 meet t (text ∷ texts) [] each = absurd each
 meet t (text ∷ texts) (form ∷ forms) each = All-cons (Meets t) form forms each.0.meets (meet t texts forms each.1)
 
--- forms that are added are those that the texts tell
+-- forms that are added are those that the texts describe
 all-added : (t : Terms) (texts : List Text) (answers : List (Result Offers FormFault)) (old new : List Offers) → AllZip (IsAnswer t) texts answers → AreAdded answers old new → HaveMore t (bytes_of texts) old new
 all-added t texts answers old new each (more, added, are) =
     let parsed = rw are at each in
@@ -53,7 +53,7 @@ pub if-added : {A : Type 0} (t : Terms) (texts : List Text) (answers : List (Res
 if-added t texts answers old new (Ok _) each added = all-added t texts answers old new each added
 if-added t texts answers old new (Err e) each added = tt
 
--- the first fault comes after the texts that tell forms
+-- the first fault comes after the texts that describe forms
 first-refused : (t : Terms) (n m : ℕ) (texts : List Text) (before : List Offers) (f : FormFault) (after : List (Result Offers FormFault)) → n + length before ≡ m
     → AllZip (IsAnswer t) texts (map (λ form. Ok form) before ++ Err f ∷ after) → Refuses (each_in_turn (parsed_form t) n (bytes_of texts)) (refusal.Form m f)
 first-refused t n m [] [] f after count each = absurd each
@@ -72,11 +72,11 @@ all-refused t count texts answers e each is = absurd is
 
 -- ---- sizes
 
--- what a text tells that is within a limit
+-- what a text describes that is within a limit
 abbrev pub sized : {A F : Type 0} → ℕ → F → (List ℕ → Result A F) → List ℕ → Result A F
 sized limit too_large parse text = if nat_lt limit (length text) then Err too_large else parse text
 
--- what is answered of a text within the limit, and of a greater one, is what the text tells
+-- what is answered of a text within the limit, and of a greater one, is what the text describes
 pub sized-answers : {A F : Type 0} (is_memory : F → Bool) (too_large : F) (parse : List ℕ → Result A F) (text : List ℕ) (r : Result A F) → (TEXT_LIMIT < length text → r ≡ Err too_large)
     → (length text ≤ TEXT_LIMIT → Answers is_memory r (parse text)) → Answers is_memory r (sized TEXT_LIMIT too_large parse text)
 sized-answers is_memory too_large parse text r large parsed = elim (leb_tells 4194305 (length text)) [
@@ -84,11 +84,11 @@ sized-answers is_memory too_large parse text r large parsed = elim (leb_tells 41
   | inr (is, few) ↦ rw is (parsed (omega arith))
 ]
 
--- the fault of rules that are refused is what their text tells
+-- the fault of rules that are refused is what their text describes
 pub rules-faulted : (text : List ℕ) (f : RulesFault) → (TEXT_LIMIT < length text → no_rules f ≡ no_rules rules_fault.TooLarge)
     → (length text ≤ TEXT_LIMIT → Answers rules_text.is_rules_memory (no_rules f) (rules_text.rules_of_records (records_of text))) → Answers rules_text.is_rules_memory (no_rules f) (sized TEXT_LIMIT rules_fault.TooLarge (λ rules. rules_text.rules_of_records (records_of rules)) text)
 rules-faulted text f large parsed = sized-answers rules_text.is_rules_memory rules_fault.TooLarge (λ rules. rules_text.rules_of_records (records_of rules)) text (no_rules f) large parsed
 
--- rules that are read are what their text tells
+-- rules that are read are what their text describes
 pub rules-parse : (text : List ℕ) (t : Terms) → (TEXT_LIMIT < length text → Ok t ≡ no_rules rules_fault.TooLarge) → (length text ≤ TEXT_LIMIT → Ok t ≡ rules_text.rules_of_records (records_of text)) → sized TEXT_LIMIT rules_fault.TooLarge (λ rules. rules_text.rules_of_records (records_of rules)) text ≡ Ok t
 rules-parse text t large parsed = sym (sized-answers rules_text.is_rules_memory rules_fault.TooLarge (λ rules. rules_text.rules_of_records (records_of rules)) text (Ok t) large parsed)

@@ -55,7 +55,7 @@ small : (quantities : List ℕ) → list_all (λ (quantity : ℕ). nat_le quanti
 small [] are = tt
 small (n ∷ quantities) are = (let parts = and_parts _ _ are in (leb-true n GREATEST_QUANTITY parts.0, small quantities parts.1))
 
--- a record without a fault tells a bid within the limits, and there is room for it
+-- a record without a fault describes a bid within the limits, and there is room for it
 bid-within : (t : Terms) (eligibility place : ℕ) (before : List Bid) (r : Record) → first_failed (bid_checks t eligibility place before r) ≡ None
     → IsBid (lots_in t) (parsed_bid r) × (length before < MOST_BIDS)
 bid-within t eligibility place before r free =
@@ -92,7 +92,7 @@ form-within t (header ∷ more) form parsed =
     let count = length-map more parsed_bid in
     subst (λ (o : Offers). IsWithin (lots_in t) o) second.1 (omega arith, within.1)
 
--- ---- what an input tells
+-- ---- what an input describes
 
 pub unless-large : {A F : Type 0} (large : Bool) (f : F) (r : Result A F) (x : A) → cond large (Err f) r ≡ Ok x → r ≡ Ok x
 unless-large true f r x parsed = cc

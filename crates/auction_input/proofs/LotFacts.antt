@@ -1,4 +1,4 @@
--- The lots that an input tells are within the limits.
+-- The lots that an input describes are within the limits.
 use Rattle.std.proofs.Common.{◌≡◌, ◌≤◌, ◌<◌, ◌∷◌, [], ℕ, Bool, true, List, None, Some, Ok, arith, leb-true, length, map, find, nat_le, nat_lt, inl, inr}
 use Rattle.std.specs.List.{AllByRecursion, list_all}
 use Rattle.std.specs.Option.{option_map_or}
@@ -105,7 +105,7 @@ made-lots v more none step =
       pools = small-pools (entries_of v more).categories (entries_of v more).members weights pools caps;
     }
 
--- ---- what an input tells
+-- ---- what an input describes
 
 pub lots-within : (text : List ℕ) (t : Terms) → parsed_terms text ≡ Ok t → IsLots (lots_in t)
 lots-within text t parsed =

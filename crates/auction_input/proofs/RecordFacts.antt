@@ -76,7 +76,7 @@ module _ (v : Version) (k : RecordKind) where
 
 -- ---- rules that are parsed
 
--- what rules have that are made of records without a fault, rules have that records tell
+-- what rules have that are made of records without a fault, rules have that records describe
 module _ (P : Terms → Type 0) (made : (v : Version) (more : List Record) → first_fault (entry_fault v) [] more ≡ None → (step : ℕ) → P (terms_of step (entries_of v more))) where
   pub rules-parsed : (records : List Record) (t : Terms) → rules_of_records records ≡ Ok t → P t
   rules-parsed [] t parsed = cc

@@ -1,10 +1,10 @@
--- What stages tell together.
+-- What stages give together.
 use Rattle.std.proofs.Common.{◌≡◌, ◌+◌, ◌++◌, ◌∷◌, ◌∙◌, [], ℕ, List, Result, Ok, Err, ap, append_assoc, arith, length, refl, sym, inl, inr, append-nil}
 use Rattle.auction_input.specs.Refused.{Refuses}
 use Rattle.auction_input.specs.declared.refusal.Refusal.{Refusal}
 use Rattle.auction_terms.specs.Stages.{and_then, each_in_turn}
 
--- a stage that tells a value, and the stages behind it
+-- a stage that gives a value, and the stages behind it
 pub next : {A B E : Type 0} (r : Result A E) (x : A) (k : A → Result B E) (y : Result B E) → r ≡ Ok x → k x ≡ y → and_then r k ≡ y
 next r x k y tells goes = ap (λ q. and_then q k) tells ∙ goes
 
@@ -13,7 +13,7 @@ pub stop : {A B : Type 0} (r : Result A Refusal) (k : A → Result B Refusal) (e
 stop r k e (inl parsed) = inl (ap (λ q. and_then q k) parsed)
 stop r k e (inr memory) = inr memory
 
--- a stage behind one that tells a value
+-- a stage behind one that gives a value
 pub behind : {A B : Type 0} (r : Result A Refusal) (x : A) (k : A → Result B Refusal) (e : Refusal) → r ≡ Ok x → Refuses (k x) e → Refuses (and_then r k) e
 behind r x k e tells (inl parsed) = inl (ap (λ q. and_then q k) tells ∙ parsed)
 behind r x k e tells (inr memory) = inr memory
@@ -40,7 +40,7 @@ module _ {X A E : Type 0} (parse : ℕ → X → Result A E) where
   onto-all parsed ys (Ok zs) = ap (λ (xs : List A). Ok xs) (sym (append_assoc parsed ys zs))
   onto-all parsed ys (Err e) = refl
 
-  -- items of which the first tell their values, and what the rest tells
+  -- items of which the first give their values, and what the rest gives
   apart : (parsed : Result A E) (front back : Result (List A) E)
       → and_then parsed (λ y. and_then (and_then front (λ ys. and_then back (λ zs. Ok (ys ++ zs)))) (λ more. Ok (y ∷ more))) ≡ and_then (and_then parsed (λ y. and_then front (λ ys. Ok (y ∷ ys)))) (λ ys. and_then back (λ zs. Ok (ys ++ zs)))
   apart (Ok y) (Ok ys) (Ok zs) = refl
@@ -57,7 +57,7 @@ module _ {X A E : Type 0} (parse : ℕ → X → Result A E) where
       ap (λ (r : Result (List A) E). and_then (parse n x) (λ y. and_then r (λ more. Ok (y ∷ more)))) (each-apart (n + 1) m front back (omega arith))
       ∙ apart (parse n x) (each_in_turn parse (n + 1) front) (each_in_turn parse m back)
 
-  -- the next items tell their values
+  -- the next items give their values
   pub left-stage : (n m : ℕ) (items : List X) (parsed : List A) (stage rest : List X) (ys : List A) → n + length stage ≡ m → IsLeft n items parsed (stage ++ rest) → each_in_turn parse n stage ≡ Ok ys
       → IsLeft m items (parsed ++ ys) rest
   left-stage n m items parsed stage rest ys count left tells =

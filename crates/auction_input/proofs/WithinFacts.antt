@@ -1,4 +1,4 @@
--- The auction that an input tells is within the limits.
+-- The auction that an input describes is within the limits.
 use Rattle.std.proofs.Common.{◌≡◌, ℕ, List, Ok, subst, codes}
 use Rattle.auction_terms.specs.Limits.{IsBook, IsLots}
 use Rattle.auction_input.specs.Auction.{Auction, parsed_auction}

@@ -1,4 +1,4 @@
--- The auction that an input tells: its parts, rules and forms, whether each bidder's are in one text, groups, and the call limit, in this order.
+-- The auction that an input describes: its parts, rules and forms, whether each bidder's are in one text, groups, and the call limit, in this order.
 use Rattle.std.specs.Prelude.{ℕ, List, [], Result, Ok, codes, map}
 use Rattle.auction_input.specs.BookLeft.{sale_left}
 use Rattle.auction_input.specs.Calls.{one_too_many}

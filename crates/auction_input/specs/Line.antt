@@ -1,4 +1,4 @@
--- The line on standard error that tells a refusal: the words of its part, the fault as it tells itself, and the name of what is broken.
+-- The line on standard error for a refusal: the words of its part, the message of the fault, and the name of what is broken.
 use Rattle.std.specs.Prelude.{◌⊎◌, ◌++◌, ℕ, List, [], ◌∷◌, Option, codes, decimal}
 use Rattle.std.specs.Io.KnownBytes.{Appends}
 use Rattle.auction_input.specs.declared.input.InputFault.TheVariants as input

@@ -1,4 +1,4 @@
--- What the texts of rules, forms and groups tell, their sizes included, or which refusal is the first.
+-- What the texts of rules, forms and groups describe, their sizes included, or which refusal is the first.
 use Rattle.std.specs.Prelude.{ℕ, List, Result, Err, if◌then◌else◌, length, nat_lt}
 use Rattle.auction_input.specs.declared.refusal.Refusal.TheVariants as refusal
 use Rattle.auction_input.specs.declared.refusal.Refusal.{Refusal}
@@ -27,6 +27,6 @@ form_in t text = if nat_lt TEXT_LIMIT (length text) then Err form.TooLarge else 
 abbrev pub parsed_form : Terms → ℕ → List ℕ → Result Offers Refusal
 parsed_form t number text = refused_as (refusal.Form number) (form_in t text)
 
--- a command that takes no groups has no text of them, which tells none
+-- a command that takes no groups has no text of them, which describes none
 abbrev pub parsed_groups : Terms → List ℕ → Result (List (List ℕ)) Refusal
 parsed_groups t text = refused_as refusal.Groups (if nat_lt TEXT_LIMIT (length text) then Err groups.TooLarge else groups_of t.bidders text)

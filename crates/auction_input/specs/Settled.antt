@@ -31,7 +31,7 @@ IsUnsettled asked input r = (asked ≢ request.Check) × (auction : Auction) × 
 abbrev pub RefusesAuction : Request → Input → Refusal → Type 0
 RefusesAuction asked input r = Refuses (parsed_auction asked input) r ⊎ IsUnsettled asked input r
 
--- a book holds the forms that the input tells, which were submitted in their order under the rules that it tells
+-- a book holds the forms that the input describes, which were submitted in their order under the rules that it describes
 pub record HoldsForms (asked : Request) (input : Input) (book : Closing) : Type 0 where
   pub parts : List Part
   pub forms : List Offers

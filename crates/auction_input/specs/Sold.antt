@@ -7,7 +7,7 @@ use Rattle.auction_input.specs.declared.request.Request.{Request}
 use Rattle.bid_desk.specs.Closing.{Closing, IsClosing}
 use Rattle.bid_desk.specs.Sale.{sale_of}
 
--- an input tells this auction, whose book is that of a closed round
+-- an input describes this auction, whose book is that of a closed round
 pub record IsSold (asked : Request) (input : Input) (auction : Auction) : Type 0 where
   pub parsed : parsed_auction asked input ≡ Ok auction
   pub book : Closing

@@ -1,4 +1,4 @@
-//! The auction that an input tells.
+//! The auction that an input describes.
 
 ghost use Rattle.std.specs.Prelude.{◌≡◌, ◌≢◌, All, IfErr, IfOk, None, Ok, OnOk, codes, length};
 ghost use Rattle.auction_input.specs.Auction.{parsed_auction};

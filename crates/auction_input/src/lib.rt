@@ -1,4 +1,4 @@
-//! Auctions from the input of the program: its parts, the rules, forms and groups that they tell, the round in which the
+//! Auctions from the input of the program: its parts, the rules, forms and groups that they describe, the round in which the
 //! forms are submitted, and why an input is refused.
 #![tactic(auto)]
 

@@ -1,4 +1,4 @@
-//! A name that a refusal tells.
+//! A name that a refusal prints.
 
 ghost use Rattle.std.specs.Prelude.{◌≡◌, IfOk};
 

@@ -73,7 +73,7 @@ fn known_kinds(request: &Request) -> &'static [PartKind]
     }
 }
 
-/// The kind that the name in the head of a part tells to a request.
+/// The kind that the name in the head of a part means to a request.
 pub fn kind_named(request: &Request, name: &[u8]) -> Option<PartKind>
     ensures { result ≡ kind_named request.now name.now }
 {

@@ -121,7 +121,7 @@ fn byte_count(texts: &[&[u8]]) -> usize {
     count
 }
 
-// What each text tells. Both halves of the texts are read side by side, each by as many threads as `rayon` takes: with
+// What each text describes. Both halves of the texts are read side by side, each by as many threads as `rayon` takes: with
 // fewer, longer pieces more processors would be without work at the end. Few bytes take one thread.
 fn read_each(
     rt: &(impl Threads + Sync),
@@ -152,7 +152,7 @@ fn read_each(
     Ok(answers)
 }
 
-// What each of these texts tells, by threads that take at least so many texts each.
+// What each of these texts describes, by threads that take at least so many texts each.
 fn read_half(
     rt: &(impl Threads + Sync),
     alloc: Global,
@@ -173,7 +173,7 @@ fn read_half(
         .collect(rt, alloc)
 }
 
-// Adds the forms, where each answer is one, or tells the first fault.
+// Adds the forms, where each answer is one, or returns the first fault.
 fn add_forms(forms: &mut Vec<Form>, answers: Vec<Result<Form, FormFault>>) -> Result<(), Refusal>
     ensures added { OnOk result (AreAdded answers.items forms.old.items forms.new.items) }
     ensures first { IfErr result (IsFirstErr (length forms.old.items) answers.items) }

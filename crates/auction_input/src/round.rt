@@ -284,7 +284,7 @@ fn sessions_of<L: Round>(
     Ok(sessions)
 }
 
-// Of two ends the one to tell: out of memory, else a wrong answer.
+// Of two ends the one to report: out of memory, else a wrong answer.
 fn first_of(one: Result<(), RoundFault>, other: Result<(), RoundFault>) -> Result<(), RoundFault>
     ensures ok { OnOk result ((one ≡ Ok tt) × (other ≡ Ok tt)) }
     ensures wrong { result ≡ Err RoundFault.WrongAnswer

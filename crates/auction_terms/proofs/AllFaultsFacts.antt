@@ -43,7 +43,7 @@ keeps-count old new faults f keeps full same counted =
       more = omega arith;
     }
 
--- of one check it is the same to tell the first or all
+-- of one check it is the same to report the first or all
 pub all-one : {F : Type 0} (field : ℕ) (check : Bool × F) → all_failed field (check ∷ []) ≡ one_failed field (check ∷ [])
 all-one {F} field check = by check.0
   where

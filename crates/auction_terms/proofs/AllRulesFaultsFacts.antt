@@ -17,7 +17,7 @@ use Rattle.auction_terms.specs.declared.faults.Found.{Found}
 use Rattle.auction_terms.specs.declared.record_kinds.Version.{Version}
 use Rattle.auction_terms.specs.declared.rules_text.RulesFault.{RulesFault}
 
--- these faults were found before the records that are left, and the draft is what the accepted ones tell
+-- these faults were found before the records that are left, and the draft is what the accepted ones describe
 pub record TakenSoFar (v : Version) (all rest : List Record) (count : ℕ) (draft : Entries) (so_far : List (Found RulesFault)) : Type 0 where
   pub before : List Record
   pub accepted : List Record

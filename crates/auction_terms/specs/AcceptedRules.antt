@@ -1,4 +1,4 @@
--- What all faults of a text of rules are, behind a header that tells a version.
+-- What all faults of a text of rules are, behind a header that gives a version.
 use Rattle.std.specs.Prelude.{◌≡◌, ◌≢◌, ◌⊎◌, ◌+◌, ◌++◌, List, [], ◌∷◌, length}
 use Rattle.std.specs.List.{Contains}
 use Rattle.auction_terms.specs.Accepted.{IsOfItem, accepted_of}

@@ -20,7 +20,7 @@ at_field field_of fault = option_to_list (option_map (λ f. found (field_of f) f
 abbrev pub fault_of_header : Version → Record → List (Found RulesFault)
 fault_of_header v r = at_field header_field (first_failed (header_checks v r))
 
--- the fault of a record at a place after the first, by what the accepted ones between tell
+-- the fault of a record at a place after the first, by what the accepted ones between describe
 abbrev pub fault_by_entries : Version → ℕ → Entries → Record → List (Found RulesFault)
 fault_by_entries v place before r = at_field (entry_field v before r) (first_failed (entry_checks v place before r))
 

@@ -1,4 +1,4 @@
--- What the records of the rules after the header tell, one kind beside the other, and the rules that they make.
+-- What the records of the rules after the header describe, one kind beside the other, and the rules that they make.
 use Rattle.std.specs.Prelude.{Bool, ◌&&◌, ℕ, List, map, find}
 use Rattle.std.specs.Option.{option_map_or}
 use Rattle.std.specs.Str.{bytes_eq}

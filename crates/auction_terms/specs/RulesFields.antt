@@ -35,7 +35,7 @@ number_outside v r k = first_failing (λ n. is_between n.1 n.2 (parsed_numeral n
 abbrev pub limits_outside : Version → Record → RecordKind → Option NumberLimits
 limits_outside v r k = option_map (λ (n : ℕ × (List ℕ × ℕ × ℕ)). record { field = n.0; least = n.1.1; greatest = n.1.2 }) (number_outside v r k)
 
--- the field of a fault of an entry of a kind, by what the records before it tell
+-- the field of a fault of an entry of a kind, by what the records before it describe
 abbrev pub field_in_kind : Version → Entries → Record → RecordKind → RulesFault → ℕ
 field_in_kind v before r k (fault.NameText place) = if is_name (record_field 2 r) then 3 else 2
 field_in_kind v before r k (fault.NumberText place) = option_map_or (λ n. n.0) (number_missing v r k) 0

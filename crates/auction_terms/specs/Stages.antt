@@ -1,4 +1,4 @@
--- A run in stages: each takes what the one before it tells, and the first refusal ends the run.
+-- A run in stages: each takes what the one before it gives, and the first refusal ends the run.
 use Rattle.std.specs.Prelude.{◌≡◌, ◌+◌, ⊤, ℕ, Bool, List, [], ◌∷◌, Option, None, Some, Result, Ok, Err}
 use Rattle.std.specs.Bool.{MatchBool}
 
@@ -22,7 +22,7 @@ abbrev pub Answers : {A F : Type 0} → (F → Bool) → Result A F → Result A
 Answers is_memory (Ok x) parsed = Ok x ≡ parsed
 Answers is_memory (Err fault) parsed = MatchBool (is_memory fault) ⊤ (Err fault ≡ parsed)
 
--- what each item tells, where they are numbered from n on; or the first refusal
+-- what each item gives, where they are numbered from n on; or the first refusal
 abbrev pub each_in_turn : {X A E : Type 0} → (ℕ → X → Result A E) → ℕ → List X → Result (List A) E
 each_in_turn parse n [] = Ok []
 each_in_turn parse n (x ∷ xs) = and_then (parse n x) (λ parsed. and_then (each_in_turn parse (n + 1) xs) (λ more. Ok (parsed ∷ more)))

@@ -46,7 +46,7 @@ fn add_header(
     }
 }
 
-// Adds the fault of a record after the header, or what it tells.
+// Adds the fault of a record after the header, or what it describes.
 fn take_entry(
     alloc: Global,
     faults: &mut Faults<RulesFault>,
@@ -68,7 +68,7 @@ fn take_entry(
     }
 }
 
-// Adds the faults of the records after the header, and tells how many records there are.
+// Adds the faults of the records after the header, and returns how many records there are.
 fn take_entries(
     alloc: Global,
     faults: &mut Faults<RulesFault>,

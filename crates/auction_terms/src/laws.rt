@@ -53,7 +53,7 @@ pub fn faults_of_a_list_are_of_its_items<R, F>()
         → AreOfItems faults_of }
 {}
 
-/// Behind a header that tells a version, the faults of rules are those of their records, by the accepted ones before them.
+/// Behind a header that gives a version, the faults of rules are those of their records, by the accepted ones before them.
 pub fn faults_of_rules_are_of_their_records()
     ensures rules { (version : Version) (header : Record) (entries : List Record)
         → version_of header ≡ Some version → RulesFaultsAreOfRecords version header entries }

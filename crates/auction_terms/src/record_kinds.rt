@@ -15,7 +15,7 @@ pub enum Version {
     Three,
 }
 
-/// What a record after the header tells of.
+/// What a record after the header describes.
 #[derive(Clone, Copy, Debug, PartialEq, Eq)]
 pub enum RecordKind {
     Category,
@@ -64,7 +64,7 @@ pub fn field(row: &ByteRecord, n: usize) -> &[u8]
     }
 }
 
-/// The version that a header tells; `None` where the record is no header.
+/// The version that a header gives; `None` where the record is no header.
 pub fn version_of(row: &ByteRecord) -> Option<Version>
     ensures { result ≡ version_of (fields_of row.now) }
 {

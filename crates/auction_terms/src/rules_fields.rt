@@ -36,7 +36,7 @@ fn is_number(text: &[u8]) -> bool
     number(text).is_some()
 }
 
-// Whether the number that a text tells, 0 where it tells none, is within these limits.
+// Whether the number that a text gives, 0 if it gives none, is within these limits.
 fn is_within(text: &[u8], least: u64, greatest: u64) -> bool
     ensures { result ≡ is_between least greatest (parsed_numeral text.now) }
 {
@@ -175,7 +175,7 @@ fn field_without_kind(fault: RulesFault) -> usize
     }
 }
 
-// The field of a fault of a record after the header, by what the records before it tell.
+// The field of a fault of a record after the header, by what the records before it describe.
 pub(crate) fn entry_field(
     version: Version,
     before: &Draft,

@@ -1,4 +1,4 @@
-//! The records of the rules: what each tells, after those before it.
+//! The records of the rules: what each describes, after those before it.
 
 ghost use Rattle.std.specs.Prelude.{◌≡◌, ◌≤◌, ◌<◌, ◌+◌, ◌++◌, ◌∷◌, [], None, Some, Ok, Err, true, false, ◌&&◌, IfErr, IfOk, OnOk, length, nat_le, not};
 ghost use Rattle.std.specs.List.{list_any};
@@ -36,7 +36,7 @@ macro_rules! number {
     };
 }
 
-// The step that a header tells.
+// The step that a header gives.
 pub(crate) fn read_step(version: Version, row: &ByteRecord) -> Result<u64, RulesFault>
     ensures answer { Tells is_rules_memory result
         (first_failed (header_checks version (fields_of row.now)))
@@ -93,7 +93,7 @@ fn is_above(supply: u64, reserve: u64, points: u64, value: u64) -> bool
         || value > GREATEST_VALUE
 }
 
-// The category that a record tells, after those before it.
+// The category that a record describes, after those before it.
 fn read_category(
     alloc: Global,
     version: Version,
@@ -138,7 +138,7 @@ fn read_category(
     })
 }
 
-// The bidder that a record tells, after those before it.
+// The bidder that a record describes, after those before it.
 fn read_bidder(
     alloc: Global,
     place: u32,
@@ -172,7 +172,7 @@ fn read_bidder(
     })
 }
 
-// The pool that a record tells, after those before it.
+// The pool that a record describes, after those before it.
 fn read_pool(
     alloc: Global,
     place: u32,
@@ -198,7 +198,7 @@ fn read_pool(
     Ok(NamedCap { name, cap })
 }
 
-// The member that a record tells, after the entries before it.
+// The member that a record describes, after the entries before it.
 fn read_member(
     alloc: Global,
     place: u32,
@@ -237,7 +237,7 @@ fn read_member(
     })
 }
 
-// Adds the category that a record tells.
+// Adds the category that a record describes.
 fn add_category(
     alloc: Global,
     version: Version,
@@ -258,7 +258,7 @@ fn add_category(
     Ok(())
 }
 
-// Adds the bidder that a record tells.
+// Adds the bidder that a record describes.
 fn add_bidder(
     alloc: Global,
     place: u32,
@@ -278,7 +278,7 @@ fn add_bidder(
     Ok(())
 }
 
-// Adds the pool that a record tells.
+// Adds the pool that a record describes.
 fn add_pool(
     alloc: Global,
     place: u32,
@@ -297,7 +297,7 @@ fn add_pool(
     Ok(())
 }
 
-// Adds the member that a record tells.
+// Adds the member that a record describes.
 fn add_member(
     alloc: Global,
     place: u32,
@@ -316,7 +316,7 @@ fn add_member(
     Ok(())
 }
 
-// Adds the entry that a record tells. One with a fault changes nothing.
+// Adds the entry that a record describes. One with a fault changes nothing.
 pub(crate) fn add_entry(
     alloc: Global,
     version: Version,

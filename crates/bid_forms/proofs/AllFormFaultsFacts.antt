@@ -125,7 +125,7 @@ begin-form t (header ∷ entries) = by (parsed_bidder t header)
 
 -- ---------- what the loop keeps ----------
 
--- these faults were found before the records that are left, and the bids are those that the accepted ones tell
+-- these faults were found before the records that are left, and the bids are those that the accepted ones describe
 pub record BidsTaken (t : Terms) (eligibility : ℕ) (all rest : List Record) (place : ℕ) (bids : List Bid) (so_far : List (Found FormFault)) : Type 0 where
   pub accepted : List Record
   pub found_are : all_bids_faults t eligibility all ≡ so_far ++ all_faults (faults_by_record t eligibility) place accepted rest

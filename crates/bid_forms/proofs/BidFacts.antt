@@ -17,7 +17,7 @@ passed : {F : Type 0} (test : Bool) (fault : F) (more : Option F) → (if test t
 passed true fault more none = (refl, none)
 passed false fault more none = cc none
 
--- a record with a field for the amount and one for each category tells a quantity for each category
+-- a record with a field for the amount and one for each category gives a quantity for each category
 one-for-each : (r : Record) (n : ℕ) → length r ≡ n + 1 → length (map parsed_numeral (drop 1 r)) ≡ n
 one-for-each r n e = length-map (drop 1 r) parsed_numeral ∙ (let cut = length-drop 1 r in omega (arith, e, cut))
 

@@ -17,7 +17,7 @@ use Rattle.bid_forms.specs.inside.FormText.{fault_of_bid}
 use Rattle.bid_forms.specs.declared.form_text.FormFault.{FormFault}
 use Rattle.bid_forms.proofs.PackageFacts.{number-differ}
 
--- the records before those that are left have no fault, and the bids are what they tell
+-- the records before those that are left have no fault, and the bids are what they report
 pub record BidsSoFar (t : Terms) (eligibility : ℕ) (all rest : List Record) (place : ℕ) (bids : List Bid) : Type 0 where
   pub before : List Record
   pub checked : CheckedSoFar (bid_fault t eligibility) all before rest

@@ -28,7 +28,7 @@ all_package_faults t eligibility place before r =
     ++ (where_none (fault_of_amount t.step place r) (one_failed 1 (reserve_checks t.categories place (parsed_bid r).package (field_number 1 r)))
     ++ one_failed 0 (repeat_checks place before (parsed_bid r).package))
 
--- the faults of a record that tells a bid
+-- the faults of a record that describes a bid
 abbrev pub all_bid_faults : Terms → ℕ → ℕ → List Bid → Record → List (Found FormFault)
 all_bid_faults t eligibility place before r =
     or_else (one_failed 0 (count_checks t place r))

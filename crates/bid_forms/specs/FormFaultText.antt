@@ -1,4 +1,4 @@
--- How a fault of a form tells itself.
+-- The message of a fault of a form.
 use Rattle.std.specs.Prelude.{◌++◌, ℕ, List, codes, decimal}
 use Rattle.bid_forms.specs.declared.form_text.FormFault.{FormFault}
 use Rattle.bid_forms.specs.declared.form_text.FormFault.TheVariants as fault

@@ -1,4 +1,4 @@
--- What a record of a form tells whatever else is wrong in its text; and in which record a fault is.
+-- What a record of a form describes whatever else is wrong in its text; and in which record a fault is.
 use Rattle.std.specs.Prelude.{◌+◌, ◌++◌, ℕ, List, Option, None, Some, if◌then◌else◌, is_none, option_map}
 use Rattle.std.specs.List.{position}
 use Rattle.std.specs.Str.{bytes_eq}

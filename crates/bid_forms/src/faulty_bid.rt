@@ -1,4 +1,4 @@
-//! All faults of a record that tells a bid.
+//! All faults of a record that describes a bid.
 
 ghost use Rattle.std.specs.Prelude.{◌≡◌, ◌≤◌, ◌<◌, ◌+◌, ◌++◌, ◌∷◌, [], List, None, Some, All, IfOk, OnOk, MatchOption, false, drop, length, map, option_map, option_to_list, Err, ⊤};
 ghost use Rattle.std.specs.Option.{option_map_or};
@@ -68,7 +68,7 @@ fn check_refused(fault: FormFault) -> Result<(), AllocError>
     }
 }
 
-// Adds the fault of the amount of a record, or tells the amount.
+// Adds the fault of the amount of a record, or returns the amount.
 fn take_amount(
     faults: &mut Faults<FormFault>,
     step: u64,
@@ -149,7 +149,7 @@ fn add_ranges(
     Ok(())
 }
 
-// Adds the faults of the quantities of a record, or tells them.
+// Adds the faults of the quantities of a record, or returns them.
 fn take_quantities(
     faults: &mut Faults<FormFault>,
     place: u32,
@@ -280,7 +280,7 @@ fn add_lots(
     }
 }
 
-// Adds the faults of a record that tells a bid, by the bids before it.
+// Adds the faults of a record that describes a bid, by the bids before it.
 fn add_bid_faults(
     faults: &mut Faults<FormFault>,
     rules: &Rules,
@@ -306,7 +306,7 @@ fn add_bid_faults(
     Ok(())
 }
 
-// Adds the faults of a record, or the bid that it tells to those before it.
+// Adds the faults of a record, or the bid that it describes to those before it.
 pub(crate) fn take_bid(
     faults: &mut Faults<FormFault>,
     rules: &Rules,

@@ -194,7 +194,7 @@ fn read_bids(
     Ok(Form::new(bidder, bids))
 }
 
-// Reads the form that the records of a text tell.
+// Reads the form that the records of a text describe.
 fn read_records(
     alloc: Global,
     rules: &Rules,

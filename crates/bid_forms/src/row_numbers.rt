@@ -1,4 +1,4 @@
-//! What a record of a form tells whatever else is wrong in its text.
+//! What a record of a form describes whatever else is wrong in its text.
 
 ghost use Rattle.std.specs.Prelude.{◌≡◌, ◌≤◌, None, Some, All, MatchOption, length};
 ghost use Rattle.csv.specs.Records.{fields_of};

@@ -60,7 +60,7 @@ begin-one-form t number text =
 begin-group-text : (t : Terms) (text : List ℕ) → AreFaultsOf (faults_as refusal_of (faults_of_groups t text)) (parsed_groups t text)
 begin-group-text t text = by-fault fault.Groups _ _ (begin-sized groups.TooLarge text (all_group_faults t.bidders text) (groups_of t.bidders text) (begin-groups t.bidders text))
 
--- what forms and groups tell under the rules
+-- what forms and groups describe under the rules
 module _ (last_wins : Bool) (numbers : List ℕ) where
   abbrev under : (List Offers → List (List ℕ) → Auction) → List (List ℕ) → List ℕ → Terms → Result Auction Refusal
   under make forms groups t =
@@ -98,7 +98,7 @@ begin-parts asked parts None others next are = by (miscounted asked parts)
     by None = are
     by (Some k) = (0, [], refl)
 
--- the auction that parts tell, with these forms and groups
+-- the auction that parts describe, with these forms and groups
 abbrev auction_in : List Part → Terms → List Offers → List (List ℕ) → Auction
 auction_in parts t forms groups = record {
   rules = t;
@@ -114,7 +114,7 @@ auction_in parts t forms groups = record {
   weights = parts_named (codes "%weights") parts;
 }
 
--- what the texts in parts tell
+-- what the texts in parts describe
 abbrev texts_in : Bool → List Part → Result Auction Refusal
 texts_in last_wins parts =
     and_then (parsed_terms (only_text (parts_named (codes "%rules") parts))) (λ t.
@@ -128,7 +128,7 @@ begin-wants [] x = refl
 begin-wants ((true, u) ∷ more) x = begin-wants more x
 begin-wants ((false, u) ∷ more) x = (0, faults_as refusal_of (faults_as fault.Unmet (all_failed 0 more)), refl)
 
--- of an auction that the texts in parts tell
+-- of an auction that the texts in parts describe
 begin-unmet : (command : Option Target) (last_wins : Bool) (parts : List Part) (auction : Auction) → texts_in last_wins parts ≡ Ok auction
     → AreFaultsOf (faults_as refusal_of (where_read (parsed_terms (only_text (parts_named (codes "%rules") parts))) (unmet_under command parts))) (wanted command auction)
 begin-unmet command last_wins parts auction reported =

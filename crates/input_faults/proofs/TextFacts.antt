@@ -1,4 +1,4 @@
--- What texts tell, and all faults of each.
+-- What texts describe, and all faults of each.
 use Rattle.std.proofs.Common.{◌≡◌, ◌≤◌, ◌<◌, ◌++◌, ◌∷◌, ℕ, Bool, false, List, [], Result, Ok, Err, ap, arith, length, refl, sym, inl, inr}
 use Rattle.std.proofs.lemmas.Bool.Decides.{leb_tells}
 use Rattle.auction_input.proofs.FaultFacts.{no_rules}

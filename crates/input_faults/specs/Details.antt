@@ -119,7 +119,7 @@ entry_message r n (rules.TooMany place) v = option_map_or too_many_message (reco
 entry_message r n (rules.NameUnknown place) v = field_message n r (if n == 2 then codes " is the name of no earlier pool" else codes " is the name of no earlier category")
 entry_message r n f v = []
 
--- a fault at a field of a record of the rules, whose version is known where the header tells one
+-- a fault at a field of a record of the rules, whose version is known where the header gives one
 abbrev pub rules_message : Option Version → Record → ℕ → RulesFault → List ℕ
 rules_message version r n (rules.Header place) = header_message r
 rules_message version r n f = option_map_or (entry_message r n f) version []

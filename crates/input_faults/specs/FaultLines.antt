@@ -1,4 +1,4 @@
--- The lines that tell all faults of an input.
+-- The lines that print all faults of an input.
 use Rattle.std.specs.Prelude.{◌-◌, ◌^◌, ◌==◌, ◌++◌, ◌∷◌, ℕ, List, [], codes, decimal, flat_map, if◌then◌else◌, length, min, take}
 use Rattle.auction_input.specs.Input.{Given, Input}
 use Rattle.auction_terms.specs.declared.faults.Found.{Found}

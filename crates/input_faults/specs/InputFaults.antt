@@ -31,7 +31,7 @@ use Rattle.auction_input.specs.Requests.{target_of}
 use Rattle.auction_input.specs.declared.request.Request.{Request}
 use Rattle.auction_input.specs.declared.request.Target.{Target}
 
--- the refusal that tells a fault
+-- the refusal of a fault
 abbrev pub refusal_of : Fault → Refusal
 refusal_of (fault.Parts f) = refusal.Parts f
 refusal_of (fault.PartCount part) = refusal.PartCount part

@@ -30,7 +30,7 @@ pub(crate) fn check_part_fault(fault: PartFault) -> Result<(), AllocError>
     }
 }
 
-// Adds the fault of the parts, or tells them.
+// Adds the fault of the parts, or returns them.
 fn take_parts<'t>(
     alloc: Global,
     faults: &mut Faults<Fault>,
@@ -61,7 +61,7 @@ fn take_parts<'t>(
     }
 }
 
-// Adds the faults of all forms, and tells what is wrong with them together.
+// Adds the faults of all forms, and returns what is wrong with them together.
 fn take_form_parts(
     alloc: Global,
     faults: &mut Faults<Fault>,

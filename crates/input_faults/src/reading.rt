@@ -41,7 +41,7 @@ fn check_form_fault(fault: FormFault) -> Result<(), AllocError>
     }
 }
 
-/// The rules that a text tells; `None` where it has a fault.
+/// The rules that a text describes; `None` where it has a fault.
 pub fn rules_in(alloc: Global, text: &[u8]) -> Result<Option<Rules>, AllocError>
     ensures { IfOk result (λ rules. MatchOption rules
         ((r : Refusal) × (parsed_terms text.now ≡ Err r)) (λ t. parsed_terms text.now ≡ Ok t)) }
@@ -65,7 +65,7 @@ fn check_groups_fault(fault: GroupFault) -> Result<(), AllocError>
     }
 }
 
-/// The groups that a text tells under the rules; `None` where it has a fault.
+/// The groups that a text describes under the rules; `None` where it has a fault.
 pub fn groups_in(alloc: Global, text: &[u8], rules: &Rules) -> Result<Option<Groups>, AllocError>
     ensures { IfOk result (λ groups. MatchOption groups
         ((r : Refusal) × (parsed_groups rules.now text.now ≡ Err r))
@@ -80,7 +80,7 @@ pub fn groups_in(alloc: Global, text: &[u8], rules: &Rules) -> Result<Option<Gro
     }
 }
 
-/// Adds the faults of a text of rules, or tells the rules.
+/// Adds the faults of a text of rules, or returns the rules.
 pub fn take_rules(
     alloc: Global,
     faults: &mut Faults<Fault>,
@@ -101,7 +101,7 @@ pub fn take_rules(
     }
 }
 
-// Adds the faults of the form of that number, or tells the form.
+// Adds the faults of the form of that number, or returns the form.
 fn take_form(
     alloc: Global,
     faults: &mut Faults<Fault>,
@@ -135,7 +135,7 @@ pub struct Together {
     pub beyond_limit: Option<usize>,
 }
 
-/// Adds the faults of all forms, each in the text of its number, and tells what is wrong with them together, where each is
+/// Adds the faults of all forms, each in the text of its number, and returns what is wrong with them together, where each is
 /// read.
 pub fn take_forms(
     alloc: Global,

@@ -153,7 +153,7 @@ fn entry_detail<'d>(
     }
 }
 
-/// The detail of a fault at a field of a record of the rules, whose version is known where the header tells one.
+/// The detail of a fault at a field of a record of the rules, whose version is known where the header gives one.
 pub fn rules_detail<'d>(
     version: Option<Version>,
     row: &'d ByteRecord,

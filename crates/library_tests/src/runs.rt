@@ -46,7 +46,7 @@ const REPORT: &[u8] =
 const LEFT_OUT: &[u8] =
     b"Alpha: bid 3 is dominated by bid 1\nBeta: bid 2 asks for 3 of A, of which there are 2\n";
 
-/// What `check` tells of `ONE_FORM_TEXT`.
+/// What `check` prints for `ONE_FORM_TEXT`.
 const SIZES: &[u8] = b"rows 3 columns 1 entries 2\n";
 
 /// Four groups with their solutions, and with a certificate for each.
@@ -111,7 +111,7 @@ impl Read for Interrupted<'_> {
     }
 }
 
-/// The words as std tells them.
+/// The words as std gives them.
 fn reported(alloc: Global, words: &[&str]) -> io::Result<Args> {
     let mut list = Vec::new(alloc);
     for word in words {
@@ -190,7 +190,7 @@ fn status_of<R: Threads + Wait + Sync + AllocGlobal>(
 }
 
 /// Whether such a run ends as it has to on a sink that takes so many bytes a put and has so much room: the output's front went
-/// out, and the line tells how many bytes of it.
+/// out, and the line says how many bytes of it.
 fn ends_as_reported<R: Threads + Wait + Sync + AllocGlobal>(
     rt: &R,
     row: &Run,
@@ -220,7 +220,7 @@ fn is_end(
     Ok(status == 1 && is_front && is_line_after(alloc, line, room)?)
 }
 
-/// Whether a line tells that a write failed after so many bytes.
+/// Whether a line says that a write failed after so many bytes.
 fn is_line_after(alloc: Global, line: &[u8], room: usize) -> Result<bool, AllocError> {
     let reported = format!(in alloc; "wdp: write failed after {room} bytes\n")?;
     Ok(line == reported.as_bytes())

@@ -16,7 +16,7 @@ use arrayvec::ArrayVec;
 use auction_terms::{NumberFault, read_number};
 use program_rows::MpsFaultKind;
 
-/// The first fields of a line. No line that is accepted has more than five, so six tell all lines apart.
+/// The first fields of a line. No line that is accepted has more than five, so six distinguish all lines.
 pub type Fields<'t> = ArrayVec<&'t [u8], 6>;
 
 fn is_space_byte(b: u8) -> bool

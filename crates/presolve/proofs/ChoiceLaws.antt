@@ -268,7 +268,7 @@ behind_all sorted place c rising less at new k before =
     (λ same. subst (λ (n : ℕ). IsEarlier (get_or sorted n c) c) (sym same) ends)
     (cases_le k (place - 1) (omega arith))
 
--- ---------- what the test of a repeated choice tells ----------
+-- ---------- what the test of a repeated choice says ----------
 
 pub not_repeated : (sorted shown : List Choice) (place : ℕ) (b : Bool) → shown ≡ sorted → IsTrue b ↔ IsRepeated shown place → b ≡ false → IsRepeated sorted place → ⊥
 not_repeated sorted shown place b same tells other is = both_ways b other (tells.1 (rw same is))

@@ -18,7 +18,7 @@ use Rattle.presolve.proofs.SizeLaws.{all_ordered, sized}
 abbrev beats_sized : Lots → Bid → Sized → Bool
 beats_sized lots x s = nat_lt s.size (size x.package) && (int_le (net lots x) (net lots s.bid) && is_within s.bid.package x.package)
 
--- what bids tell of their sizes and nets is so
+-- what bids say of their sizes and nets is so
 beats_as_sized : (lots : Lots) (x s : SizedBid) → TellsItsSize x → TellsItsNet lots x → TellsItsNet lots s → beats x s ≡ beats_sized lots x.bid.now (sized_of s)
 beats_as_sized lots x s reported mine its =
     let within = is_within s.bid.now.package x.bid.now.package in
@@ -45,7 +45,7 @@ same_test lots x y j =
     (λ a. le-ltb (size y.package) (size x.package) (size_le x.package y.package a))
     (λ w a. lt-ltb (size y.package) (size x.package) (size_lt y.package x.package w a))
 
--- of bids that tell their sizes and nets, one beats another just where it dominates it
+-- of bids that give their sizes and nets, one beats another just where it dominates it
 pub beats_dominates : (lots : Lots) (x s : SizedBid) → TellsItsSize x → TellsItsSize s → TellsItsNet lots x → TellsItsNet lots s → beats x s ≡ dominates lots s.bid.now x.bid.now
 beats_dominates lots x s reported its_size mine its_net =
     beats_as_sized lots x s reported mine its_net

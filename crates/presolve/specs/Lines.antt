@@ -1,4 +1,4 @@
--- The lines that tell which bids are in no program, and why, and which forms others replace.
+-- The lines that print which bids are in no program, and why, and which forms others replace.
 use Rattle.std.specs.Prelude.{◌++◌, ◌∷◌, ◌==◌, ℕ, List, Option, [], codes, decimal, None, filter, flat_map, if◌then◌else◌, map, slice_get}
 use Rattle.std.specs.List.{enumerate_from, last_or}
 use Rattle.std.specs.Option.{option_map_or}

@@ -16,7 +16,7 @@ pub struct Disk<'r> {
     rt: &'r HostRuntime,
 }
 
-// What tells a file from any other one: its device, and its number there.
+// What distinguishes a file from any other one: its device, and its number there.
 #[derive(Clone, Copy, PartialEq, Eq)]
 struct Identity {
     device: u64,
@@ -79,7 +79,7 @@ impl<'r> Disk<'r> {
         Disk { rt }
     }
 
-    // What tells standard input from files, where the system knows.
+    // What distinguishes standard input from files, where the system knows.
     fn standard_input(&self) -> Option<Identity> {
         match fs::metadata(self.rt, "/dev/stdin") {
             Ok(found) => Some(identity_of(&found)),
@@ -87,7 +87,7 @@ impl<'r> Disk<'r> {
         }
     }
 
-    // What tells a file that is read from others: a file, a pipe of the shell's, or standard input.
+    // What distinguishes a file that is read from others: a file, a pipe of the shell's, or standard input.
     fn identify(&self, name: &str) -> Result<Option<Identity>, FileFault> {
         if is_standard_input(name) {
             return Ok(self.standard_input());
@@ -103,7 +103,7 @@ impl<'r> Disk<'r> {
         }
     }
 
-    // Looks at the files that are read, and notes what tells each from the others.
+    // Looks at the files that are read, and notes what distinguishes each from the others.
     fn look_at_inputs(
         &self,
         names: &[String],

@@ -14,7 +14,7 @@ const TOUCHED: usize = 384 * 1024;
 /// How much has to be allowed: that, and room for the words, the environment and what began before.
 const NEEDED: u64 = 512 * 1024;
 
-/// Where the system tells what it allows, and how much of that is read.
+/// Where the system says what it allows, and how much of that is read.
 const LIMITS: &str = "/proc/self/limits";
 
 const LIMITS_LEN: usize = 4_096;

@@ -6,7 +6,7 @@ use std::io::{IsTerminal, Read, Write};
 const HINT: &[u8] =
     b"wdp: reads standard input; a line with Ctrl-D alone ends it, and wdp COMMAND FILE reads a file\n";
 
-/// Standard input. Before its first read a terminal is told how an input ends.
+/// Standard input. Before its first read a terminal gets a line that says how an input ends.
 #[derive(Drop)]
 pub struct StandardInput<'r> {
     rt: &'r HostRuntime,

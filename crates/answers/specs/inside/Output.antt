@@ -1,4 +1,4 @@
--- How a command ends without the output that an auction tells.
+-- How a command ends without the output of an auction.
 use Rattle.std.specs.Prelude.{◌≡◌, ◌⊎◌}
 use Rattle.auction_input.specs.Auction.{Auction}
 use Rattle.auction_input.specs.declared.refusal.Refusal.{Refusal}

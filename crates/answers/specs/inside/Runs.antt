@@ -30,11 +30,11 @@ IsUnreported asked before after r =
 abbrev pub IsReported : (Refusal → Type 0) → Option (List ℕ) → Option (List ℕ) → ℕ → ℕ → Type 0
 IsReported Why taken taken' failures failures' = (r : Refusal) × Why r × Puts (line r) taken taken' failures failures'
 
--- the line that tells why
+-- the line that says why
 abbrev pub IsReportedSo : (List ℕ → Type 0) → Option (List ℕ) → Option (List ℕ) → ℕ → ℕ → Type 0
 IsReportedSo Why taken taken' failures failures' = (parsed : List ℕ) × Why parsed × Puts parsed taken taken' failures failures'
 
--- why what is asked for of an input isn't written, or not all lines of its faults, by the line that tells it
+-- why what is asked for of an input isn't written, or not all lines of its faults, by the line that says it
 abbrev pub IsLeftUnanswered : Request → Input → SinkState → SinkState → List ℕ → Type 0
 IsLeftUnanswered asked input before after parsed =
     (r : Refusal) × (parsed ≡ placed_line input.texts r)

@@ -26,6 +26,6 @@ IsParsedAnswer parsed answer = IfOk answer (λ a. parsed ≡ Ok a) × IfErr answ
 abbrev pub AreMade : Compiling → List (List ℕ) → List (Option (List Choice)) → Type 0
 AreMade c texts made = AllZip (λ n found. IfSome found (λ a. winners_at (sale_of c.book) c.groups texts n ≡ Ok a)) (range_with_len 0 (length c.groups)) made
 
--- what the solutions of all groups tell together
+-- what the solutions of all groups describe together
 abbrev pub parsed_winners : Compiling → List (List ℕ) → Result (List (List Choice)) Refusal
 parsed_winners c texts = each_in_turn (winners (sale_of c.book)) 1 (zip c.groups texts)

@@ -1,4 +1,4 @@
--- What the parts of an auction tell, and the round that is run by them.
+-- What the parts of an auction describe, and the round that is run by them.
 use Rattle.std.specs.Prelude.{◌≡◌, ◌⊎◌, ℕ, Bool, List, [], None, Ok, codes, map}
 use Rattle.auction_input.specs.Auction.{parsed_auction}
 use Rattle.auction_input.specs.Calls.{one_too_many}
@@ -31,7 +31,7 @@ pub record HoldTexts (parts : List Part) (beside : Beside) : Type 0 where
   pub covers : bytes_of beside.covers.items ≡ parts_named (codes "%cover") parts
   pub weights : bytes_of beside.weights.items ≡ parts_named (codes "%weights") parts
 
--- parts tell these rules, forms and groups, each bidder's forms are in one text, or its last one is to count, and each form has a call of its bidder's left
+-- parts describe these rules, forms and groups, each bidder's forms are in one text, or its last one is to count, and each form has a call of its bidder's left
 pub record Tell (last_wins : Bool) (parts : List Part) (t : Terms) (forms : List Offers) (groups : List (List ℕ)) : Type 0 where
   pub rules : parsed_terms (only_text (parts_named (codes "%rules") parts)) ≡ Ok t
   pub each : each_in_turn (parsed_form t) 1 (parts_named (codes "%form") parts) ≡ Ok forms
@@ -47,14 +47,14 @@ RefusesInputs last_wins parts r = (asked : Request) → (input : Input) → inpu
 abbrev pub bidders_of : List Offers → List ℕ
 bidders_of forms = map (λ (form : Offers). form.bidder) forms
 
--- the forms that the parts tell are submitted under their rules, in a book; their bidders and the groups are these
+-- the forms that the parts describe are submitted under their rules, in a book; their bidders and the groups are these
 pub record HasRun (last_wins : Bool) (parts : List Part) (book : Closing) (bidders : List ℕ) (groups : List (List ℕ)) : Type 0 where
   pub forms : List Offers
   pub bidders_are : bidders ≡ bidders_of forms
   pub parsed : Tell last_wins parts book.rules forms groups
   pub submitted : AreSubmitted forms book
 
--- what the parts tell is accepted, and yet a wrong answer of the desk is reported
+-- what the parts describe is accepted, and yet a wrong answer of the desk is reported
 pub record IsUnanswered (last_wins : Bool) (parts : List Part) (r : Refusal) : Type 0 where
   pub t : Terms
   pub forms : List Offers

@@ -10,7 +10,7 @@ use Rattle.bid_forms.specs.declared.form_text.FormFault.{FormFault}
 use denote.Ref.{Bor}
 use Rattle.auction_input.specs.ParsedTexts.{form_in}
 
--- this is what a text tells, or memory was short
+-- this is what a text describes, or memory was short
 pub record IsAnswer (t : Terms) (text : Bor (List ℕ)) (answer : Result Offers FormFault) : Type 0 where
   pub tells : Answers is_form_memory answer (form_in t text.now)
   pub meets : IfOk answer (Meets t)

@@ -35,7 +35,7 @@ kinds_for (Some command) = kind.Rules ∷ kind.Form ∷ kind.Groups ∷ kind.Sol
 abbrev pub known_kinds : Request → List PartKind
 known_kinds asked = kinds_for (target_of asked)
 
--- the kind that a name tells to a request
+-- the kind that a name means to a request
 abbrev pub kind_named : Request → List ℕ → Option PartKind
 kind_named asked name = find (λ k. bytes_eq name (name_of k)) (known_kinds asked)
 

@@ -1,4 +1,4 @@
--- What the records of the rules after the header tell, one kind beside the other, and the rules that they make.
+-- What the records of the rules after the header describe, one kind beside the other, and the rules that they make.
 use Rattle.std.specs.Prelude.{◌≤◌, ℕ, List, ◌++◌, length, map, find, All}
 use Rattle.std.specs.Option.{option_map_or}
 use Rattle.auction_terms.specs.Terms.{AllDiffer, IsBidder, IsCategory}
@@ -12,7 +12,7 @@ use Rattle.auction_terms.specs.declared.rules.Category.{Category}
 abbrev pub entries : List Category → List Bidder → List NamedCap → List Member → Entries
 entries categories bidders pools members = record { categories = categories; bidders = bidders; pools = pools; members = members }
 
--- what some records tell, and then others
+-- what some records describe, and then others
 abbrev pub both : Entries → Entries → Entries
 both e f = entries (e.categories ++ f.categories) (e.bidders ++ f.bidders) (e.pools ++ f.pools) (e.members ++ f.members)
 

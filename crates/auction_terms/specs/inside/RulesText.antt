@@ -1,4 +1,4 @@
--- What single records of rules tell, the first one, and what stands behind it.
+-- What single records of rules describe, the first one, and what stands behind it.
 use Rattle.std.specs.Prelude.{◌+◌, Bool, ℕ, List, [], ◌∷◌, Result, Ok, Err, length, ok_or}
 use Rattle.auction_terms.specs.Entries.{Entries, terms_of}
 use Rattle.auction_terms.specs.FirstFault.{first_failed, first_fault}
@@ -28,13 +28,13 @@ member_of r = record { pool = record_field 2 r; category = record_field 3 r; wei
 abbrev pub checks_in_every_version : ℕ → Entries → Record → RecordKind → List (Bool × RulesFault)
 checks_in_every_version place before r k = kind_checks version.Three place before r k
 
--- the version and the step that the first record tells
+-- the version and the step that the first record gives
 abbrev pub parsed_first_record : List Record → Result Header RulesFault
 parsed_first_record [] = Err (fault.Header 1)
 parsed_first_record (header ∷ more) = and_then (ok_or (version_of header) (fault.Header 1)) (λ v.
     unless (first_failed (header_checks v header)) (Ok (record { version = v; step = field_number 3 header })))
 
--- the rules, by what stands behind a first record that tells this
+-- the rules, by what stands behind a first record that gives this
 abbrev pub rules_behind : Header → List Record → Result Terms RulesFault
 rules_behind header records =
     unless (first_fault (entry_fault header.version) [] records)

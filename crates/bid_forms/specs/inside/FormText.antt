@@ -1,4 +1,4 @@
--- The checks of a record that tells a bid, part by part, as the code makes them.
+-- The checks of a record that describes a bid, part by part, as the code makes them.
 use Rattle.std.specs.Prelude.{ℕ, List, Option}
 use Rattle.std.specs.Option.{option_or}
 use Rattle.auction_terms.specs.FirstFault.{first_failed}

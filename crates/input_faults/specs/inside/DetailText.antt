@@ -1,4 +1,4 @@
--- What the code's details tell.
+-- What the code's details say.
 use Rattle.std.specs.Prelude.{◌++◌, ℕ, List, [], codes, decimal}
 use Rattle.auction_terms.specs.Wording.{wording_text}
 use Rattle.input_faults.specs.Shown.{shown_text}

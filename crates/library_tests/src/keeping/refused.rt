@@ -1,4 +1,4 @@
-//! What is kept and ordered, by the calls themselves. Where any one growth is refused (see tests/test_refused_calls.py), they tell
+//! What is kept and ordered, by the calls themselves. Where any one growth is refused (see tests/test_refused_calls.py), they report
 //! that memory was short, or the same.
 
 ghost use Rattle.std.specs.Prelude.{◌≡◌};

@@ -1,5 +1,5 @@
 //! What the program's calls answer. Where any one growth or start of a thread is refused (see tests/test_refused_calls.py), they
-//! tell that memory was short and have put nothing, or the same.
+//! report that memory was short and have put nothing, or the same.
 
 ghost use Rattle.std.specs.Prelude.{ℕ, List, Option, None};
 
@@ -64,7 +64,7 @@ impl Sink for Expected {
 
 impl Output for Expected {}
 
-/// Out of memory where the refusal tells it, and else another failure.
+/// Out of memory if the refusal says so, and else another failure.
 fn failure(refusal: &Refusal) -> Fail {
     let mut faults = Expected::new(SHORT);
     print_refusal(&[], refusal, &mut faults);
@@ -75,7 +75,7 @@ fn failure(refusal: &Refusal) -> Fail {
     }
 }
 
-/// Runs the program: the output is to be the run's; or else nothing is put, and one line tells that memory was short.
+/// Runs the program: the output is to be the run's; or else nothing is put, and one line says that memory was short.
 fn answers<R: Threads + Wait + Sync + AllocGlobal>(rt: &R, row: &Run) -> Result<(), Fail> {
     let mut out = Expected::new(row.output);
     let mut faults = Expected::new(SHORT);

@@ -23,7 +23,7 @@ fn blank(rules: &Rules) -> Result<Blank, Fail>
     Ok(Blank::new(parts))
 }
 
-/// Submits a form if it is one of the first session's bidder, and tells whether memory sufficed.
+/// Submits a form if it is one of the first session's bidder, and returns whether memory sufficed.
 fn submits_one<L: Round, R: Wait>(
     rt: &R,
     desk: &Desk<L>,
@@ -37,7 +37,7 @@ fn submits_one<L: Round, R: Wait>(
     }
 }
 
-/// Submits the forms of the session's bidder through its first session, and tells whether memory sufficed.
+/// Submits the forms of the session's bidder through its first session, and returns whether memory sufficed.
 fn submits<L: Round, R: Wait>(
     rt: &R,
     desk: &Desk<L>,
@@ -92,7 +92,7 @@ fn book_of<R: Wait>(
     Ok(book.ok_or("out of memory")?)
 }
 
-/// What a trial of a book of rules and forms tells. Where the book stands in a function of its own, what the test goes on
+/// What a trial of a book of rules and forms returns. Where the book stands in a function of its own, what the test goes on
 /// with is proved without it (docs/CONTRIBUTING.md, "Add a test").
 pub fn on_book<R: Wait, F: FnOnce(&ClosedBook) -> Result<bool, Fail> + Drop>(
     rt: &R,
@@ -107,7 +107,7 @@ pub fn on_book<R: Wait, F: FnOnce(&ClosedBook) -> Result<bool, Fail> + Drop>(
     trial(&book)
 }
 
-/// What a trial of a book of rules and forms, and of a text's groups, tells.
+/// What a trial of a book of rules and forms, and of a text's groups, returns.
 pub fn on_groups<R: Wait, F: FnOnce(&ClosedBook, &Groups) -> Result<bool, Fail> + Drop>(
     rt: &R,
     alloc: Global,
@@ -136,7 +136,7 @@ fn on_first<F: FnOnce(&ClosedBook, &Group) -> Result<bool, Fail> + Drop>(
     trial(book, groups.group(1))
 }
 
-/// What a trial of a book of rules and forms, and of the one group of a line, tells.
+/// What a trial of a book of rules and forms, and of the one group of a line, returns.
 pub fn on_group<R: Wait, F: FnOnce(&ClosedBook, &Group) -> Result<bool, Fail> + Drop>(
     rt: &R,
     alloc: Global,

@@ -1,5 +1,5 @@
 //! What is compiled, by the calls themselves. Where any one growth or start of a thread is refused (see
-//! tests/test_refused_calls.py), they tell that memory was short, or the same.
+//! tests/test_refused_calls.py), they report that memory was short, or the same.
 
 ghost use Rattle.auction_terms.specs.Groups.{has};
 ghost use Rattle.auction_terms.specs.Terms.{lots_in};
@@ -20,7 +20,7 @@ use std::sync::Wait;
 use std::test::Fail;
 use std::thread::Threads;
 
-/// Whether the text of a program is this one. Where memory is short the sink holds as many bytes of it as the fault tells.
+/// Whether the text of a program is this one. Where memory is short the sink holds as many bytes of it as the fault says.
 fn is_text(alloc: Global, compiled: &Compiled<'_>, text: &[u8]) -> Result<bool, Fail> {
     let mut sink = MemorySink::new(alloc);
     match compiled.write_to(&mut sink) {

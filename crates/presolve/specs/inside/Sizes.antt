@@ -23,11 +23,11 @@ fitting_from lots j (x ∷ form) =
     then record { size = size x.package; number = j; bid = x } ∷ fitting_from lots (j + 1) form
     else fitting_from lots (j + 1) form
 
--- it tells the size of its bid's package
+-- it gives the size of its bid's package
 abbrev pub TellsItsSize : SizedBid → Type 0
 TellsItsSize s = s.size ≡ size s.bid.now.package
 
--- it tells the net of its bid
+-- it gives the net of its bid
 abbrev pub TellsItsNet : Lots → SizedBid → Type 0
 TellsItsNet lots s = s.net ≡ net lots s.bid.now
 

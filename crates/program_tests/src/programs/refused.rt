@@ -1,4 +1,4 @@
-//! What is built, by the calls themselves. Where any one growth is refused (see tests/test_refused_calls.py), they tell that memory was
+//! What is built, by the calls themselves. Where any one growth is refused (see tests/test_refused_calls.py), they report that memory was
 //! short, or the same. Programs with bids are built so by group_compiler's tests.
 
 use super::{begins_with_categories, has_the_column_of_values, is_column, is_row};

@@ -1,4 +1,4 @@
-//! What is read, by the calls themselves. Where any one growth is refused (see tests/test_refused_calls.py), they tell that memory was
+//! What is read, by the calls themselves. Where any one growth is refused (see tests/test_refused_calls.py), they report that memory was
 //! short, or the same.
 
 use super::{FRONTS, PAIRS};

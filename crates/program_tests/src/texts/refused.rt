@@ -1,5 +1,5 @@
 //! What is written where any one growth is refused (see tests/test_refused_calls.py): the whole text, or a front of it of as many
-//! bytes as the fault tells. Writing itself takes no memory.
+//! bytes as the fault says. Writing itself takes no memory.
 
 use crate::worked::{ONE_BID, on_program};
 use byte_sinks::{MemorySink, WriteFault};

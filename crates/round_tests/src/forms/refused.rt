@@ -1,4 +1,4 @@
-//! What is read, by the call itself. Where any one growth is refused (see tests/test_refused_calls.py), it tells that memory was short, or
+//! What is read, by the call itself. Where any one growth is refused (see tests/test_refused_calls.py), it reports that memory was short, or
 //! the same.
 
 use super::{FAULTY, FORMS, are_bids};

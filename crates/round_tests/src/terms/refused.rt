@@ -1,4 +1,4 @@
-//! What the readers answer, by the calls themselves. Where any one growth is refused (see tests/test_refused_calls.py), they tell that
+//! What the readers answer, by the calls themselves. Where any one growth is refused (see tests/test_refused_calls.py), they report that
 //! memory was short, or the same.
 
 use super::{are_three_groups, are_worked, have_the_pool};
