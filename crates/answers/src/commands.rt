@@ -1,4 +1,4 @@
-//! The commands: the auction that the input describes is read here, once for all of them; the one that is asked for writes of it.
+//! The commands. The auction that the input describes is read here, for all of them, and handed to the command that is asked for.
 
 ghost use Rattle.std.specs.Prelude.{◌≡◌, ◌≢◌, Bool, IfErr, OnOk, Option};
 ghost use Rattle.auction_input.specs.declared.request.Target.{Target};
@@ -31,7 +31,8 @@ pub use explain::explain_input;
 use std::sync::Wait;
 use std::thread::Threads;
 
-/// Writes what is asked for of an input, unless that is `explain`. That of `check` describes a program, and the others' an auction.
+/// Writes what a request asks for of an input. For `explain`, which may print faults in its place, see `explain_input`. It takes
+/// `check` apart from the others, since the input of `check` describes a program and theirs an auction.
 pub fn answer<R: Threads + Wait + Sync + AllocGlobal, S: Sink>(
     rt: &R,
     request: Request,
@@ -55,7 +56,8 @@ pub fn answer<R: Threads + Wait + Sync + AllocGlobal, S: Sink>(
     }
 }
 
-// Reads the auction that an input describes, and writes what is asked for of it.
+// Reads the auction that an input describes, and writes what is asked for of it. `explain_input` calls it, too, for an input
+// without faults, where `answer` isn't to be called.
 fn answer_auction<R: Threads + Wait + Sync + AllocGlobal, S: Sink>(
     rt: &R,
     request: &Request,
@@ -76,7 +78,8 @@ fn answer_auction<R: Threads + Wait + Sync + AllocGlobal, S: Sink>(
     write_output(rt, request, &auction, out)
 }
 
-// Writes what is asked for of an auction.
+// Writes what is asked for of an auction. It only borrows the auction, so that each command is proved by the auction alone, and
+// `answer_auction` then says it of the input once for all of them.
 fn write_output<R: Threads + Wait + Sync + AllocGlobal, S: Sink>(
     rt: &R,
     request: &Request,

@@ -188,7 +188,7 @@ fn answer_command<R: Threads + Wait + Sync + AllocGlobal, D: Files, I: Read, S: 
     }
 }
 
-// Answers a request of an input, or reports why not.
+// Answers a request of an input, or reports why not. All but `explain` end with 1 only after a refusal, which is reported here.
 fn answer_input<R: Threads + Wait + Sync + AllocGlobal, S: Sink, F: Sink>(
     rt: &R,
     request: Request,
@@ -224,7 +224,8 @@ fn answer_input<R: Threads + Wait + Sync + AllocGlobal, S: Sink, F: Sink>(
     }
 }
 
-// Explains an input, or reports why not.
+// Explains an input, or reports why not. It is apart from `answer_input`, since it also ends with 1 after the faults that it printed,
+// with nothing to report.
 fn explain_request<R: Threads + Wait + Sync + AllocGlobal, S: Sink, F: Sink>(
     rt: &R,
     bids: bool,
