@@ -55,8 +55,8 @@ pub fn check_calls(forms: &[Form]) -> Result<(), Refusal>
         × (first_fault one_too_many [] forms.now ≡ Some number) × (r ≡ Refusal.CallLimit number)) }
 {
     let mut calls = Calls::new();
-    for place in 0..forms.len() {
-        calls.count(place + 1, &forms[place]);
+    for (place, form) in forms.iter().enumerate() {
+        calls.count(place + 1, form);
     }
     match calls.refused {
         Some(form) => Err(Refusal::CallLimit { form }),

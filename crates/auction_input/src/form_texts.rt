@@ -73,8 +73,8 @@ pub fn form_elsewhere(rules: &Rules, forms: &[Form], numbers: &[usize]) -> Optio
     ensures { result ≡ first_fault (another_form rules.now) [] (zip forms.now numbers.now) }
 {
     let mut known = FormTexts::new();
-    for place in 0..forms.len() {
-        known.add(rules, place + 1, &forms[place], numbers[place]);
+    for (place, form) in forms.iter().enumerate() {
+        known.add(rules, place + 1, form, numbers[place]);
     }
     known.refused
 }

@@ -86,8 +86,8 @@ fn submit_each<L: Round, R: Wait>(
         × (session.new.session ≡ session.old.session) }
 {
     let mut over = None;
-    for place in 0..forms.len() {
-        match desk.enter(rt).submit(session, &forms[place], over) {
+    for form in forms {
+        match desk.enter(rt).submit(session, form, over) {
             Ok(reply) => match number_of(&reply) {
                 Some(number) => over = Some(number),
                 None => return Err(RoundFault::WrongAnswer),

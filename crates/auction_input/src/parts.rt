@@ -48,8 +48,8 @@ fn line_end(text: &[u8]) -> usize
     ensures within { result ≤ length text.now }
     ensures cut { cut_lines text.now ≡ take result text.now ∷ cut_lines (drop result text.now) }
 {
-    for end in 0..text.len() {
-        if text[end] == b'\n' {
+    for (end, &byte) in text.iter().enumerate() {
+        if byte == b'\n' {
             return end + 1;
         }
     }
@@ -185,8 +185,8 @@ pub fn split_parts<'t>(
         return Err(PartFault::BeforeFirst);
     }
     let mut parts = Vec::new(alloc);
-    for place in 0..texts.len() {
-        match add_parts(&mut parts, request, place, texts[place].bytes()) {
+    for (place, text) in texts.iter().enumerate() {
+        match add_parts(&mut parts, request, place, text.bytes()) {
             Ok(()) => {}
             Err(fault) => return Err(fault),
         }

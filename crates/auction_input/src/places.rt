@@ -83,8 +83,8 @@ fn find_spot(texts: &[Given], what: Counted, number: usize) -> Option<Spot>
     ensures { result ≡ located (map (count_in what) texts.now) number }
 {
     let mut left = number;
-    for place in 0..texts.len() {
-        let count = count_in(what, &texts[place]);
+    for (place, text) in texts.iter().enumerate() {
+        let count = count_in(what, text);
         if left <= count {
             return Some(Spot {
                 text: place,
@@ -112,8 +112,7 @@ fn spot_among(counts: &[usize], number: usize) -> Option<Spot>
     ensures { result ≡ located counts.now number }
 {
     let mut left = number;
-    for place in 0..counts.len() {
-        let count = counts[place];
+    for (place, &count) in counts.iter().enumerate() {
         if left <= count {
             return Some(Spot {
                 text: place,

@@ -179,8 +179,8 @@ fn numbers_of(alloc: Global, bidders: &[Bidder], names: &[&[u8]]) -> Result<Vec<
     ensures group { IfOk result (λ numbers. IsGroup numbers.items) }
 {
     let mut numbers = Vec::new(alloc);
-    for place in 0..bidders.len() {
-        if is_among(names, bidders[place].name.as_bytes()) {
+    for (place, bidder) in bidders.iter().enumerate() {
+        if is_among(names, bidder.name.as_bytes()) {
             numbers.push(place as u16 + 1)?;
         }
     }

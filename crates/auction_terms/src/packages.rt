@@ -125,8 +125,8 @@ fn all_within(smaller: &[u16], greater: &[u16]) -> bool
     requires { length smaller.now ≡ length greater.now }
     ensures { result ≡ is_within smaller.now greater.now }
 {
-    for place in 0..smaller.len() {
-        if smaller[place] > greater[place] {
+    for (place, &quantity) in smaller.iter().enumerate() {
+        if quantity > greater[place] {
             return false;
         }
     }
@@ -137,8 +137,8 @@ fn within_supply(quantities: &[u16], categories: &[Category]) -> bool
     requires { length quantities.now ≡ length categories.now }
     ensures { result ≡ is_within quantities.now (map (λ category. category.supply) categories.now) }
 {
-    for place in 0..quantities.len() {
-        if u32::from(quantities[place]) > categories[place].supply {
+    for (place, &quantity) in quantities.iter().enumerate() {
+        if u32::from(quantity) > categories[place].supply {
             return false;
         }
     }
@@ -170,8 +170,8 @@ fn within_caps(quantities: &[u16], pools: &[Pool]) -> bool
     requires { length quantities.now ≤ MOST_CATEGORIES }
     ensures { result ≡ list_all (is_within_cap quantities.now) (map cap_of pools.now) }
 {
-    for place in 0..pools.len() {
-        if !within_cap(quantities, &pools[place]) {
+    for pool in pools {
+        if !within_cap(quantities, pool) {
             return false;
         }
     }

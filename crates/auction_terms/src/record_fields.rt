@@ -40,8 +40,8 @@ fn field_end(bytes: &[u8]) -> usize
     ensures before { Nowhere (Passes ends_field bytes.now) 0 result }
     ensures end { IsAtFieldEnd (drop result bytes.now) }
 {
-    for place in 0..bytes.len() {
-        if matches!(bytes[place], b',' | b'\n' | b'\r') {
+    for (place, &byte) in bytes.iter().enumerate() {
+        if matches!(byte, b',' | b'\n' | b'\r') {
             return place;
         }
     }
@@ -53,8 +53,8 @@ fn field_end(bytes: &[u8]) -> usize
 fn mark_place(bytes: &[u8]) -> Option<usize>
     ensures { IsFirstByte (is_byte quote) bytes.now result }
 {
-    for place in 0..bytes.len() {
-        if bytes[place] == b'"' {
+    for (place, &byte) in bytes.iter().enumerate() {
+        if byte == b'"' {
             return Some(place);
         }
     }

@@ -77,9 +77,9 @@ fn differing<L: Round>(
         (λ x. IsFirstOfAll L.rules (map entry_value history.now) chair.now sessions.now x.0 x.1)) }
 {
     let comparisons = compare(alloc, history, slots, sessions, chair)?;
-    for slot in 0..slots.len() {
+    for (slot, found) in slots.iter().enumerate() {
         if let Some((bidder, session)) = session_at(rules, slot) {
-            let at = slots[slot].place;
+            let at = found.place;
             let comparison = comparisons.sessions[at];
             if let Some(place) = comparison.difference(sessions[at].own()) {
                 return Ok(Some((Caller::Session { bidder, session }, place)));

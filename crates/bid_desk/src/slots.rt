@@ -42,8 +42,8 @@ pub(crate) fn slots_of<L: Round>(
 {
     let empty = Slot { times: 0, place: 0 };
     let mut slots = vec![in alloc; empty; rules.bidders().len() * SLOTS]?;
-    for place in 0..sessions.len() {
-        let slot = sessions[place].slot();
+    for (place, session) in sessions.iter().enumerate() {
+        let slot = session.slot();
         let times = slots[slot].times + 1;
         slots[slot] = Slot { times, place };
     }
@@ -72,9 +72,9 @@ pub(crate) fn missing(rules: &Rules, slots: &[Slot]) -> Option<(u16, u8)>
     ensures none { IfNone result (AllOnce rules.now slots.now) }
     ensures some { IfSome result (λ x. IsFirstWrong rules.now slots.now x.0 x.1) }
 {
-    for place in 0..slots.len() {
+    for (place, slot) in slots.iter().enumerate() {
         if let Some((bidder, session)) = session_at(rules, place) {
-            if slots[place].times != 1 {
+            if slot.times != 1 {
                 return Some((bidder, session));
             }
         }

@@ -111,8 +111,8 @@ fn are_same(bids: &[Bid], others: &[Bid]) -> bool
     if bids.len() != others.len() {
         return false;
     }
-    for place in 0..bids.len() {
-        if !is_same(&bids[place], &others[place]) {
+    for (place, bid) in bids.iter().enumerate() {
+        if !is_same(bid, &others[place]) {
             return false;
         }
     }

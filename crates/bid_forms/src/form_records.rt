@@ -52,8 +52,8 @@ fn is_header(categories: &[Category], row: &ByteRecord) -> bool
     if row.len() != categories.len() + 1 {
         return false;
     }
-    for place in 0..categories.len() {
-        if field!(row, place + 2) != categories[place].name.as_bytes() {
+    for (place, category) in categories.iter().enumerate() {
+        if field!(row, place + 2) != category.name.as_bytes() {
             return false;
         }
     }

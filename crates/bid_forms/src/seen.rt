@@ -96,8 +96,8 @@ fn number_of(bids: &[Bid], quantities: &[u16]) -> Option<u32>
     requires { length bids.now ≤ MOST_BIDS }
     ensures { result ≡ number_of_package quantities.now bids.now }
 {
-    for place in 0..bids.len() {
-        if quantities == bids[place].package.quantities() {
+    for (place, bid) in bids.iter().enumerate() {
+        if quantities == bid.package.quantities() {
             return Some(place as u32 + 1);
         }
     }

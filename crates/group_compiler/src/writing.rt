@@ -29,8 +29,8 @@ fn has_lines(pages: &[Page], group: &Group, section: Section) -> bool
     requires { length pages.now ≤ MOST_BIDDERS }
     ensures { result ≡ has_any (joined section (outside (has group.now) 1 pages.now)) }
 {
-    for place in 0..pages.len() {
-        if page_has_lines(&pages[place], group.has(place as u16 + 1), section) {
+    for (place, page) in pages.iter().enumerate() {
+        if page_has_lines(page, group.has(place as u16 + 1), section) {
             return true;
         }
     }
@@ -89,9 +89,9 @@ fn add_joined<S: Sink>(writer: &mut Writer<'_, S>, pages: &[Page], group: &Group
     ensures { Adds S.taken S.failures writer.old writer.new
         (joined section (outside (has group.now) 1 pages.now)) }
 {
-    for place in 0..pages.len() {
+    for (place, page) in pages.iter().enumerate() {
         let is_out = group.has(place as u16 + 1);
-        add_page(writer, &pages[place], is_out, section);
+        add_page(writer, page, is_out, section);
     }
 }
 

@@ -19,8 +19,8 @@ use csv::ByteRecord;
 fn column_detail<'d>(categories: &'d [Category], row: &'d ByteRecord) -> Detail<'d>
     ensures { detail_text result ≡ column_message (fields_of row.now) 2 categories.now }
 {
-    for place in 0..categories.len() {
-        let name = categories[place].name.as_bytes();
+    for (place, category) in categories.iter().enumerate() {
+        let name = category.name.as_bytes();
         let value = field(row, place + 2);
         if value != name {
             return Detail::Column(place + 2, value, name);

@@ -172,8 +172,8 @@ fn broken_bound(program: &Program, values: &[bool]) -> Option<usize>
     ensures { result ≡ position (λ e. not (allows e.0.bounds e.1))
         (zip program.now.columns values.now) }
 {
-    for column in 0..values.len() {
-        if !allows(program.bounds(column), values[column]) {
+    for (column, &value) in values.iter().enumerate() {
+        if !allows(program.bounds(column), value) {
             return Some(column);
         }
     }

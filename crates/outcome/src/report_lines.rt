@@ -169,14 +169,14 @@ pub fn add_groups<S: Sink>(
         (in_turn (group_report (sale_of book.now) first.now) 1
         (zip groups.now allocations.now)) }
 {
-    for i in 0..allocations.len() {
+    for (i, allocation) in allocations.iter().enumerate() {
         add_group(
             writer,
             book,
             first,
             i + 1,
             groups.group(i + 1),
-            allocations[i].choices(),
+            allocation.choices(),
         );
     }
 }

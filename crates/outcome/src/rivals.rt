@@ -40,8 +40,8 @@ fn without(taken: &Package, own: &Package) -> Package
     let all = taken.quantities();
     let part = own.quantities();
     let mut others = ArrayVec::new();
-    for place in 0..all.len() {
-        others.push(all[place].saturating_sub(part[place]));
+    for (place, &quantity) in all.iter().enumerate() {
+        others.push(quantity.saturating_sub(part[place]));
     }
     Package::of(others)
 }
@@ -56,8 +56,8 @@ fn together(others: &Package, own: &Package) -> Option<Package>
     let theirs = others.quantities();
     let ours = own.quantities();
     let mut both = ArrayVec::new();
-    for place in 0..theirs.len() {
-        let quantity = theirs[place] + ours[place];
+    for (place, &lots) in theirs.iter().enumerate() {
+        let quantity = lots + ours[place];
         if u64::from(quantity) > GREATEST_QUANTITY {
             return None;
         }

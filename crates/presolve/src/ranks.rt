@@ -93,8 +93,8 @@ fn ranks_of_counted(alloc: Global, numbers: &[u64], counts: &[u32]) -> Result<Ve
     let step = (2 * numbers.len() as u32).div_ceil(RANKS).max(1);
     let by_number = ranks_by_counts(alloc, counts, step)?;
     let mut ranks = vec![in alloc; 0; numbers.len()]?;
-    for place in 0..numbers.len() {
-        ranks[place] = by_number[numbers[place] as usize];
+    for (place, &number) in numbers.iter().enumerate() {
+        ranks[place] = by_number[number as usize];
     }
     Ok(ranks)
 }
@@ -147,8 +147,8 @@ fn steps_of(alloc: Global, numbers: &[u64], least: u64, bits: u32) -> Result<Vec
 {
     let almost = (1 << bits) - 1;
     let mut steps = vec![in alloc; 0; numbers.len()]?;
-    for place in 0..numbers.len() {
-        let above = numbers[place].saturating_sub(least);
+    for (place, number) in numbers.iter().enumerate() {
+        let above = number.saturating_sub(least);
         steps[place] = above.saturating_add(almost) >> bits;
     }
     Ok(steps)
@@ -209,8 +209,8 @@ fn own_ranks(alloc: Global, numbers: &[u64]) -> Result<Vec<u8>, AllocError>
     ensures { IfOk result (λ ranks. AreRanked numbers.now ranks.items) }
 {
     let mut ranks = vec![in alloc; 0; numbers.len()]?;
-    for place in 0..numbers.len() {
-        ranks[place] = numbers[place] as u8;
+    for (place, &number) in numbers.iter().enumerate() {
+        ranks[place] = number as u8;
     }
     Ok(ranks)
 }

@@ -53,8 +53,8 @@ fn over_supply(rules: &Rules, package: &Package) -> Option<Reason>
     ensures { result ≡ over_supply (lots_in rules.now) «package».now }
 {
     let quantities = package.quantities();
-    for category in 0..quantities.len() {
-        let asked = u32::from(quantities[category]);
+    for (category, &quantity) in quantities.iter().enumerate() {
+        let asked = u32::from(quantity);
         let supply = supply_at(rules.categories(), category);
         if asked > supply {
             return Some(Reason::OverSupply {
@@ -72,8 +72,7 @@ fn over_cap(rules: &Rules, package: &Package) -> Option<Reason>
     ensures { result ≡ over_cap (lots_in rules.now) «package».now }
 {
     let pools = rules.pools();
-    for pool in 0..pools.len() {
-        let found = &pools[pool];
+    for (pool, found) in pools.iter().enumerate() {
         let load = found.load(package);
         if load > found.cap {
             return Some(Reason::OverCap {

@@ -163,8 +163,8 @@ fn first_left(rivals: &[SizedBid<'_>], left: &[u64], bid: &SizedBid<'_>) -> Opti
         → i < unwrap_or result (length rivals.now)
         → beats bid.now (slice_index_or rivals.now i d) ≡ false }
 {
-    for word in 0..left.len() {
-        let found = first_among(rivals, word * 64, left[word], bid);
+    for (word, &bits) in left.iter().enumerate() {
+        let found = first_among(rivals, word * 64, bits, bid);
         if found.is_some() {
             return found;
         }

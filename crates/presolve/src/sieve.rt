@@ -68,8 +68,8 @@ fn own_levels(alloc: Global, ranks: &[u8]) -> Result<Vec<Level>, AllocError>
 {
     let count = usize::from(greatest(ranks)) + 1;
     let mut levels = empty_levels(alloc, count, ranks.len().div_ceil(64))?;
-    for place in 0..ranks.len() {
-        mark(&mut levels[usize::from(ranks[place])], place);
+    for (place, &rank) in ranks.iter().enumerate() {
+        mark(&mut levels[usize::from(rank)], place);
     }
     Ok(levels)
 }
@@ -116,8 +116,8 @@ fn quantities_at(
         ≡ map (λ s. slice_index s.bid.now.package place) rivals.now) }
 {
     let mut numbers = vec![in alloc; 0; rivals.len()]?;
-    for rival in 0..rivals.len() {
-        let bid = rivals[rival].bid;
+    for (rival, sized) in rivals.iter().enumerate() {
+        let bid = sized.bid;
         numbers[rival] = u64::from(bid.package.quantities()[place]);
     }
     Ok(numbers)

@@ -41,8 +41,8 @@ fn add_form<S: Sink>(
     ensures { Adds S.taken S.failures writer.old writer.new
         (form_lines rules.now bidder reasons.now) }
 {
-    for place in 0..reasons.len() {
-        add_left_out(writer, rules, bidder, place + 1, reasons[place]);
+    for (place, &reason) in reasons.iter().enumerate() {
+        add_left_out(writer, rules, bidder, place + 1, reason);
     }
 }
 
@@ -51,8 +51,8 @@ fn last_form(bidders: &[u16], bidder: usize) -> Option<usize>
     ensures { result ≡ last_or None (forms_by bidders.now bidder) }
 {
     let mut last = None;
-    for place in 0..bidders.len() {
-        if usize::from(bidders[place]) == bidder {
+    for (place, &owner) in bidders.iter().enumerate() {
+        if usize::from(owner) == bidder {
             last = Some(place + 1);
         }
     }
@@ -89,8 +89,8 @@ fn add_replaced_by<S: Sink>(
         (flat_map (λ number. if number == last then []
         else replaced_line rules.now bidder last number) (forms_by bidders.now bidder)) }
 {
-    for place in 0..bidders.len() {
-        add_replaced(writer, rules, bidder, last, (place + 1, bidders[place]));
+    for (place, &owner) in bidders.iter().enumerate() {
+        add_replaced(writer, rules, bidder, last, (place + 1, owner));
     }
 }
 

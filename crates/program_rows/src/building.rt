@@ -110,8 +110,7 @@ fn columns(
     let mut name = [0; NAME_LEN];
     let mut entries = [(0, 0); MOST_ENTRIES];
     let mut place = 0;
-    for i in 0..kept.len() {
-        let bid = kept[i];
+    for &bid in kept {
         place = next_place(place, subject_at(subjects, place), rules, bid);
         add_column(
             &mut columns,

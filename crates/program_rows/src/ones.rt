@@ -32,8 +32,8 @@ pub(crate) fn ones_of(values: &[bool]) -> Option<Ones>
 {
     let mut ones = ArrayVec::from_array_in((), [0usize; MOST_ONES]);
     ones.clear();
-    for place in 0..values.len() {
-        if !add_one(&mut ones, place, values[place]) {
+    for (place, &value) in values.iter().enumerate() {
+        if !add_one(&mut ones, place, value) {
             return None;
         }
     }
@@ -47,8 +47,8 @@ pub(crate) fn sum_at(columns: &Columns, places: &[usize], row: usize) -> i128
     ensures { result ≡ sum_at (coefficient_at row) columns.now places.now }
 {
     let mut sum: i128 = 0;
-    for k in 0..places.len() {
-        sum = add_coefficient(sum, true, columns, places[k], row);
+    for &place in places {
+        sum = add_coefficient(sum, true, columns, place, row);
     }
     sum
 }

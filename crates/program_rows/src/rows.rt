@@ -33,9 +33,9 @@ pub(crate) fn bidders(alloc: Global, kept: &[KeptBid<'_>]) -> Result<Vec<Subject
 {
     let mut subjects = Vec::new(alloc);
     let mut last = 0;
-    for i in 0..kept.len() {
-        add_bidder(&mut subjects, last, kept[i].bidder)?;
-        last = kept[i].bidder;
+    for bid in kept {
+        add_bidder(&mut subjects, last, bid.bidder)?;
+        last = bid.bidder;
     }
     Ok(subjects)
 }
@@ -73,8 +73,8 @@ pub(crate) fn rows(
         ≡ map (row_of (lots_in rules.now)) subjects.now) }
 {
     let mut rows = Vec::new(alloc);
-    for i in 0..subjects.len() {
-        rows.push(subjects[i].row(alloc, rules)?)?;
+    for subject in subjects {
+        rows.push(subject.row(alloc, rules)?)?;
     }
     Ok(rows)
 }

@@ -53,8 +53,8 @@ fn owners_of(alloc: Global, subjects: &[Subject]) -> Result<Vec<Option<u16>>, Al
     ensures { IfOk result (λ owners. owners.items ≡ map owner_of subjects.now) }
 {
     let mut owners = Vec::new(alloc);
-    for i in 0..subjects.len() {
-        owners.push(owner_of(subjects[i]))?;
+    for &subject in subjects {
+        owners.push(owner_of(subject))?;
     }
     Ok(owners)
 }
@@ -79,8 +79,8 @@ fn bid_owners(alloc: Global, kept: &[KeptBid<'_>]) -> Result<Vec<Option<u16>>, A
     ensures { IfOk result (λ owners. owners.items ≡ map (λ o. Some o.bidder) (offers kept.now)) }
 {
     let mut owners = Vec::new(alloc);
-    for i in 0..kept.len() {
-        owners.push(Some(kept[i].bidder))?;
+    for bid in kept {
+        owners.push(Some(bid.bidder))?;
     }
     Ok(owners)
 }
@@ -153,9 +153,9 @@ fn places_left(
     let mut places = Vec::with_capacity(alloc, owners.len())?;
     let mut last = None;
     let mut is_last_out = false;
-    for i in 0..owners.len() {
-        is_last_out = is_next_out(group, last, is_last_out, owners[i]);
-        last = owners[i];
+    for (i, &owner) in owners.iter().enumerate() {
+        is_last_out = is_next_out(group, last, is_last_out, owner);
+        last = owner;
         if !is_last_out {
             places.push(i)?;
         }
@@ -174,9 +174,9 @@ fn numbers_left(
 {
     let mut numbers = Vec::new(alloc);
     let mut number = 0;
-    for i in 0..owners.len() {
+    for &owner in owners {
         numbers.push(number)?;
-        if !is_out(group, owners[i]) {
+        if !is_out(group, owner) {
             number += 1;
         }
     }

@@ -3,7 +3,7 @@ use Rattle.auction_input.specs.Submissions.{AreAccepted}
 use Rattle.auction_input.specs.inside.Submissions.{form_values}
 use Rattle.auction_input.proofs.job.submit_each.Given as goal
 
-abbrev pub invariant-loop-place : goal.invariant-loop-place
-invariant-loop-place g l =
+abbrev pub invariant-loop-form : goal.invariant-loop-form
+invariant-loop-form g l =
     (l.session.bidder ≡ l.initial.session.bidder) × (l.session.session ≡ l.initial.session.session)
-    × AreAccepted (take l.place (form_values l.forms)) l.session.pairs
+    × AreAccepted (take l.form-index (form_values l.forms)) l.session.pairs

@@ -4,9 +4,9 @@ use Rattle.auction_terms.specs.Lines.{is_line_feed}
 use Rattle.auction_input.proofs.PartFacts.{cut-at, cut-none}
 use Rattle.auction_input.proofs.parts.line_end.Goals as goal
 
-pub returns-then-text-end-eq10-clause-cut : goal.returns-then-text-end-eq10-clause-cut
-returns-then-text-end-eq10-clause-cut c =
-    let feed : is_line_feed (slice_index c.args.text.now c.loop-end.end) ≡ true = rw c.if-text-end-eq10.true refl in
+pub returns-then-byte-eq10-clause-cut : goal.returns-then-byte-eq10-clause-cut
+returns-then-byte-eq10-clause-cut c =
+    let feed : is_line_feed (slice_index c.args.text.now c.loop-end.end) ≡ true = rw c.if-byte-eq10.true refl in
     rw (add-one c.loop-end.end) (cut-at c.args.text.now c.loop-end.end c.loop-end-test.true c.loop-end.invariant feed)
 
 pub returns-clause-cut : goal.returns-clause-cut

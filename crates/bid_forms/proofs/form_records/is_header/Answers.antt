@@ -1,4 +1,4 @@
-use Rattle.std.proofs.Common.{◌≡◌, ◌+◌, ◌<◌, ◌∙◌, true, false, ap, sym, arith, length, bytes_eq}
+use Rattle.std.proofs.Common.{◌≡◌, ◌+◌, ◌<◌, true, false, arith, length, bytes_eq}
 use Rattle.csv.specs.Records.{fields_of}
 use Rattle.auction_terms.specs.RulesText.{record_field}
 use Rattle.bid_forms.proofs.RecordFacts.{names-more, when-not-false, when-not-true}
@@ -9,7 +9,7 @@ returns-then-ne c =
     let (so_far, count) = c.loop-place.invariant in
     let r = fields_of c.args.row.now in
     let category = c.index-categories-place.result in
-    let named : c.as_bytes.result.now ≡ category.name = c.as_bytes.ensures.bytes ∙ ap (λ x. x.name) (sym c.index-categories-place.is) in
+    let named : c.as_bytes.result.now ≡ category.name = c.as_bytes.ensures.bytes in
     let test : bytes_eq (record_field (c.loop-place.place + 2) r) category.name ≡ false = rw (c.field.ensures, named) at (when-not-true _ c.if-ne.ensures) in
     let wide : c.loop-place.place + 1 < length r = (let s = c.loop-place-test.true in omega arith) in
     let more = names-more c.args.categories.now r c.loop-place.place category c.loop-place-test.true wide c.index-categories-place.is in
@@ -20,7 +20,7 @@ loop-place-preserved c =
     let (so_far, count) = c.loop-place.invariant in
     let r = fields_of c.args.row.now in
     let category = c.index-categories-place.result in
-    let named : c.as_bytes.result.now ≡ category.name = c.as_bytes.ensures.bytes ∙ ap (λ x. x.name) (sym c.index-categories-place.is) in
+    let named : c.as_bytes.result.now ≡ category.name = c.as_bytes.ensures.bytes in
     let test : bytes_eq (record_field (c.loop-place.place + 2) r) category.name ≡ true = rw (c.field.ensures, named) at (when-not-false _ c.if-ne.ensures) in
     let wide : c.loop-place.place + 1 < length r = (let s = c.loop-place-test.true in omega arith) in
     let more = names-more c.args.categories.now r c.loop-place.place category c.loop-place-test.true wide c.index-categories-place.is in

@@ -13,7 +13,7 @@ returns-then-ne c =
     let all = c.args.categories.now in
     let place = c.loop-place.place in
     let category = c.index-categories-place.result in
-    let named : c.as_bytes-name.result.now ≡ category.name = c.as_bytes-name.ensures.bytes ∙ ap (λ x. x.name) (sym c.index-categories-place.is) in
+    let named : c.as_bytes-name.result.now ≡ category.name = c.as_bytes-name.ensures.bytes in
     let differs : bytes_eq (record_field (place + 2) r) category.name ≡ false = rw (c.field-value.ensures, named) at (when-not-true _ c.if-ne.ensures) in
     let next : drop place all ≡ category ∷ drop (place + 1) all = drop_more all place category c.loop-place-test.true ∙ ap (λ x. x ∷ drop (place + 1) all) (sym c.index-categories-place.is) in
     rw (c.field-value.ensures, named, c.loop-place.invariant, next, differs) refl
@@ -24,7 +24,7 @@ loop-place-preserved c =
     let all = c.args.categories.now in
     let place = c.loop-place.place in
     let category = c.index-categories-place.result in
-    let named : c.as_bytes-name.result.now ≡ category.name = c.as_bytes-name.ensures.bytes ∙ ap (λ x. x.name) (sym c.index-categories-place.is) in
+    let named : c.as_bytes-name.result.now ≡ category.name = c.as_bytes-name.ensures.bytes in
     let same : bytes_eq (record_field (place + 2) r) category.name ≡ true = rw (c.field-value.ensures, named) at (when-not-false _ c.if-ne.ensures) in
     let next : drop place all ≡ category ∷ drop (place + 1) all = drop_more all place category c.loop-place-test.true ∙ ap (λ x. x ∷ drop (place + 1) all) (sym c.index-categories-place.is) in
     let after : place + 2 + 1 ≡ place + 1 + 2 = omega arith in

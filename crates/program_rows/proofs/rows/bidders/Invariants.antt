@@ -5,5 +5,5 @@ use Rattle.program_rows.proofs.BuiltLaws.{next_bidders}
 use Rattle.program_rows.proofs.rows.bidders.Given as goal
 
 -- the bidders so far, and those that are left, are all
-abbrev pub invariant-loop-i : goal.invariant-loop-i
-invariant-loop-i l = l.subjects.items ++ map Bidder (next_bidders l.last (offers (drop l.i l.kept))) ≡ map Bidder (next_bidders 0 (offers l.kept))
+abbrev pub invariant-loop-bid : goal.invariant-loop-bid
+invariant-loop-bid l = l.subjects.items ++ map Bidder (next_bidders l.last (offers (drop l.bid-index l.kept))) ≡ map Bidder (next_bidders 0 (offers l.kept))

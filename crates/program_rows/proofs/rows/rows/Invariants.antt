@@ -5,5 +5,5 @@ use Rattle.program_rows.specs.Rows.{row_of}
 use Rattle.program_rows.proofs.rows.rows.Given as goal
 
 -- the rows of the first subjects
-abbrev pub invariant-loop-i : goal.invariant-loop-i
-invariant-loop-i l = map shown_row l.rows.items ≡ map (row_of (lots_in l.rules)) (take l.i l.subjects)
+abbrev pub invariant-loop-subject : goal.invariant-loop-subject
+invariant-loop-subject l = map shown_row l.rows.items ≡ map (row_of (lots_in l.rules)) (take l.subject-index l.subjects)

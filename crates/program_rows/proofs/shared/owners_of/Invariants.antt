@@ -3,5 +3,5 @@ use Rattle.program_rows.specs.Selections.{owner_of}
 use Rattle.program_rows.proofs.shared.owners_of.Given as goal
 
 -- the owners so far
-abbrev pub invariant-loop-i : goal.invariant-loop-i
-invariant-loop-i l = l.owners.items ≡ map owner_of (take l.i l.subjects)
+abbrev pub invariant-loop-subject : goal.invariant-loop-subject
+invariant-loop-subject l = l.owners.items ≡ map owner_of (take l.subject-index l.subjects)
