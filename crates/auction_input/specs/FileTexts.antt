@@ -36,7 +36,7 @@ AreRead content (name ∷ names) left left' texts =
 
 -- the texts that a command reads: without names standard input, as one text by itself; else the texts of the names, which have no more bytes together than an input may have
 abbrev pub IsInputRead : (List ℕ → Option (List ℕ)) → List (List ℕ) → Option (List ℕ) → Option (List ℕ) → List Given → Type 0
-IsInputRead content [] left left' texts = (bytes : List ℕ) × IsWhole left left' bytes × (texts ≡ unnamed bytes ∷ [])
+IsInputRead content [] left left' texts = (bytes : List ℕ) × IsWhole INPUT_LIMIT left left' bytes × (texts ≡ unnamed bytes ∷ [])
 IsInputRead content names left left' texts = AreRead content names left left' texts × (sum_by (λ given. length given.bytes) texts ≤ INPUT_LIMIT)
 
 -- what is read of standard input where not all texts are
@@ -50,6 +50,6 @@ IsUnreadOf f left left' reads reads' = (reads' ≡ reads) × IsReadInPart left l
 
 -- why the input isn't read
 abbrev pub IsUnread : List (List ℕ) → Unread → Option (List ℕ) → Option (List ℕ) → ℕ → ℕ → Type 0
-IsUnread [] (unread.Input f) left left' reads reads' = IsUntaken f left left' reads reads'
+IsUnread [] (unread.Input f) left left' reads reads' = IsUntaken INPUT_LIMIT f left left' reads reads'
 IsUnread [] (unread.File f) left left' reads reads' = ⊥
 IsUnread names f left left' reads reads' = IsUnreadOf f left left' reads reads'

@@ -4,7 +4,7 @@ ghost use Rattle.std.specs.Prelude.{◌≡◌, ◌≢◌, ◌≤◌, ◌<◌, �
 ghost use Rattle.auction_input.specs.FileTexts.{AreRead, IsContent, IsInputRead, IsTextOf, IsUnread, IsUnreadOf, is_standard_input, named_files};
 ghost use Rattle.auction_input.specs.Input.{input_of};
 ghost use Rattle.auction_input.specs.inside.FileTexts.{fault_among};
-ghost use Rattle.auction_input.specs.ReadInput.{IsUntaken, IsUntakenOf, IsWhole, IsWholeWithin};
+ghost use Rattle.auction_input.specs.ReadInput.{IsUntaken, IsWhole};
 ghost use Rattle.auction_input.specs.declared.files.FilePlace.TheVariants as place_of_file;
 
 use crate::files::{FileFault, FilePlace, FileRefusal, Files};
@@ -54,10 +54,10 @@ fn read_bytes<I: Read>(
     limit: usize,
 ) -> Result<Vec<u8>, InputFault>
     requires { limit ≤ INPUT_LIMIT }
-    ensures whole { IfOk result (λ text. IsWholeWithin limit (I.remaining input.old.reader)
+    ensures whole { IfOk result (λ text. IsWhole limit (I.remaining input.old.reader)
         (I.remaining input.new.reader) text.items) }
     ensures unfailed { OnOk result (input.new.failures ≡ input.old.failures) }
-    ensures untaken { IfErr result (λ f. IsUntakenOf limit f (I.remaining input.old.reader)
+    ensures untaken { IfErr result (λ f. IsUntaken limit f (I.remaining input.old.reader)
         (I.remaining input.new.reader) input.old.failures input.new.failures) }
 {
     let mut text: Vec<u8> = Vec::new(alloc);
@@ -236,10 +236,10 @@ fn read_each<D: Files, I: Read>(
 
 // Reads standard input to its end, as one text by itself.
 fn read_alone<I: Read>(alloc: Global, input: &mut Source<I>) -> Result<Input, InputFault>
-    ensures read { IfOk result (λ read. (bytes : List ℕ) × IsWhole (I.remaining input.old.reader)
-        (I.remaining input.new.reader) bytes × (read ≡ input_of bytes)) }
+    ensures read { IfOk result (λ read. (bytes : List ℕ) × IsWhole INPUT_LIMIT
+        (I.remaining input.old.reader) (I.remaining input.new.reader) bytes × (read ≡ input_of bytes)) }
     ensures unfailed { OnOk result (input.new.failures ≡ input.old.failures) }
-    ensures untaken { IfErr result (λ f. IsUntaken f (I.remaining input.old.reader)
+    ensures untaken { IfErr result (λ f. IsUntaken INPUT_LIMIT f (I.remaining input.old.reader)
         (I.remaining input.new.reader) input.old.failures input.new.failures) }
 {
     let bytes = read_bytes(alloc, input, INPUT_LIMIT)?;

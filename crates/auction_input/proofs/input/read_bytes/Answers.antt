@@ -1,6 +1,6 @@
 use Rattle.std.proofs.Common.{◌≤◌, ◌+◌, ◌++◌, ◌∙◌, List, ℕ, length, take, arith, length-append}
 use Rattle.std.proofs.lemmas.Grind.{common_steps}
-use Rattle.auction_input.specs.ReadInput.{IsUntakenOf}
+use Rattle.auction_input.specs.ReadInput.{IsUntaken}
 use Rattle.auction_input.specs.declared.input.InputFault.TheVariants as fault
 use Rattle.auction_input.proofs.ReadFacts.{Consumes-then}
 use Rattle.auction_input.proofs.StepFacts.{if-err-of}
@@ -15,5 +15,5 @@ returns-in_err-extend_from_slice-clause-untaken g c =
     let size = length-append text read in
     let own = c.in-Ok.ensures.bound in
     let small : length (text ++ read) ≤ c.args.limit + 1 = grind (arith, common_steps, size, own) in
-    if-err-of (λ f. IsUntakenOf c.args.limit f left left' c.args.input.now.failures c.read.new.self.failures) c.from_residual.result fault.OutOfMemory c.from_residual.ensures.1
+    if-err-of (λ f. IsUntaken c.args.limit f left left' c.args.input.now.failures c.read.new.self.failures) c.from_residual.result fault.OutOfMemory c.from_residual.ensures.1
     (c.in-Ok.ensures.succeeded ∙ c.loop-block.invariant.2, (text ++ read, Consumes-then _ _ _ text read c.loop-block.invariant.1 c.in-Ok.ensures.bytes.0, small))
