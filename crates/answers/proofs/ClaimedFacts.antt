@@ -1,7 +1,7 @@
 -- What comes of a claim of other outcomes, as the code finds it.
 use Rattle.std.proofs.Common.{◌≡◌, ◌≤◌, ◌+◌, ◌==◌, ◌∷◌, ◌∙◌, [], ℕ, Bool, List, Option, None, Some, Result, Ok, Err, ap, arith, eqb-true, inl, inr, length, refl, subst, sym, ◌⊎◌, ◌<◌, IfErr, IfOk, codes, slice_index, slice_index_or, true, zip, option_map}
 use Rattle.std.proofs.lemmas.List.{length-map}
-use Rattle.auction_terms.specs.Borrowed.{bytes_of}
+use Rattle.auction_terms.specs.Lines.{bytes_of}
 use Rattle.auction_terms.specs.Groups.{starts_empty}
 use Rattle.auction_terms.specs.Stages.{each_in_turn, refused_as, unless}
 use Rattle.auction_terms.specs.declared.choices.Choice.{Choice}

@@ -4,8 +4,7 @@ use Rattle.std.proofs.lemmas.Bool.Decides.{leb_tells}
 use Rattle.auction_terms.specs.declared.choices.Choice.{Choice}
 use Rattle.bid_desk.specs.Closing.{Closing}
 use Rattle.group_compiler.specs.Compiled.{GroupProgram, compiled, program_without}
-use Rattle.byte_sinks.specs.Sinks.{HasFailed, SentFront}
-use Rattle.byte_sinks.specs.Written.{written_of}
+use Rattle.byte_sinks.specs.Sinks.{HasFailed, SentFront, written_of}
 use Rattle.byte_sinks.specs.declared.write_fault.WriteFault.{WriteFault}
 use Rattle.byte_sinks.specs.declared.write_fault.WriteFault.TheVariants as write
 use Rattle.outcome.specs.Report.{allocation_text, in_turn}
@@ -18,7 +17,7 @@ use Rattle.answers.specs.Outside.{SinkState}
 use Rattle.answers.specs.GroupTexts.{EndsIn, program_bytes, programs_bytes, program_text}
 use Rattle.answers.specs.Answer.{output_of}
 use Rattle.auction_input.specs.declared.refusal.Refusal.{Refusal}
-use Rattle.auction_terms.specs.Borrowed.{bytes_of}
+use Rattle.auction_terms.specs.Lines.{bytes_of}
 use Rattle.auction_input.specs.ParsedParts.{only_text}
 use Rattle.auction_terms.specs.Stages.{and_then}
 use Rattle.answers.specs.SolutionWinners.{winners_by}

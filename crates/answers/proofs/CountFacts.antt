@@ -1,7 +1,7 @@
 -- What the solutions win, group by group, where there are as many as groups.
 use Rattle.std.proofs.Common.{ap₂, ◌≡◌, ◌≢◌, ◌==◌, ◌∙◌, ℕ, true, false, List, length, sym, inl, eq-eqb, ne_eqb, refl}
 use Rattle.std.proofs.lemmas.List.{length-map}
-use Rattle.auction_terms.specs.Borrowed.{bytes_of}
+use Rattle.auction_terms.specs.Lines.{bytes_of}
 use Rattle.auction_terms.specs.Groups.{starts_empty}
 use Rattle.auction_input.specs.Refused.{Refuses}
 use Rattle.auction_input.specs.Settled.{held}

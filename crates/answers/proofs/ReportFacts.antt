@@ -5,7 +5,7 @@ use Rattle.std.proofs.lemmas.List.{drop_all, drop_more}
 use Rattle.std.proofs.lemmas.Slice.Zip.{get_or-zip, length-zip}
 use Rattle.auction_terms.specs.declared.choices.Choice.{Choice}
 use Rattle.group_compiler.specs.Compiled.{Compiling, program_without}
-use Rattle.auction_terms.specs.Borrowed.{bytes_of}
+use Rattle.auction_terms.specs.Lines.{bytes_of}
 use Rattle.bid_desk.specs.Sale.{sale_of}
 use Rattle.auction_input.specs.Refused.{Refuses}
 use Rattle.auction_input.specs.declared.refusal.Refusal.{Refusal}

@@ -8,7 +8,7 @@ ghost use Rattle.auction_input.specs.Refused.{Refuses};
 ghost use Rattle.auction_input.specs.Settled.{held};
 ghost use Rattle.answers.specs.Certified.{IsTooWide};
 ghost use Rattle.answers.specs.inside.Judging.{AllShown, AreFine, IsFirstFaulty, IsJudged, IsJudgedIfBegun, bounds_by, bound_held};
-ghost use Rattle.auction_terms.specs.Borrowed.{bytes_of};
+ghost use Rattle.auction_terms.specs.Lines.{bytes_of};
 ghost use Rattle.auction_terms.specs.Stages.{each_in_turn};
 ghost use Rattle.group_compiler.specs.Compiled.{compiling};
 

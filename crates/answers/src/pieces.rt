@@ -2,8 +2,7 @@
 
 ghost use Rattle.std.specs.Prelude.{◌≡◌, IfErr, OnErr, OnOk, flat_map};
 ghost use Rattle.std.specs.Io.KnownBytes.{Appends};
-ghost use Rattle.byte_sinks.specs.Sinks.{HasFailed, SentFront};
-ghost use Rattle.byte_sinks.specs.Written.{written_of};
+ghost use Rattle.byte_sinks.specs.Sinks.{HasFailed, SentFront, written_of};
 
 use byte_sinks::{Sink, WriteFault, Writer};
 

@@ -6,7 +6,7 @@ ghost use Rattle.auction_terms.specs.Groups.{starts_empty};
 ghost use Rattle.bid_desk.specs.Sale.{sale_of};
 ghost use Rattle.auction_input.specs.Refused.{Refuses};
 ghost use Rattle.auction_input.specs.Settled.{held};
-ghost use Rattle.auction_terms.specs.Borrowed.{bytes_of};
+ghost use Rattle.auction_terms.specs.Lines.{bytes_of};
 ghost use Rattle.group_compiler.specs.Compiled.{compiling};
 ghost use Rattle.answers.specs.SolutionWinners.{winners_of_groups};
 ghost use Rattle.answers.specs.inside.SolutionWinners.{AreMade, parsed_winners};

@@ -15,7 +15,7 @@ use Rattle.auction_terms.specs.FirstFault.{first_fault}
 use Rattle.auction_input.specs.Refused.{Refuses}
 use Rattle.auction_input.specs.declared.refusal.Refusal.{Refusal}
 use Rattle.auction_input.specs.Settled.{RefusesAuction}
-use Rattle.auction_terms.specs.Borrowed.{bytes_of}
+use Rattle.auction_terms.specs.Lines.{bytes_of}
 use Rattle.auction_input.specs.Parts.{Part, TellsParts, parts_held, parts_named, input_parts, text_numbers}
 use Rattle.auction_input.specs.ParsedParts.{only_text, parsed_parts}
 use Rattle.auction_input.specs.Plan.{miscounted}

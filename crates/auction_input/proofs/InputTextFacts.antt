@@ -14,7 +14,7 @@ use Rattle.bid_forms.specs.declared.form_text.FormFault.{FormFault}
 use Rattle.auction_input.specs.Refused.{Refuses}
 use Rattle.auction_input.specs.declared.refusal.Refusal.{Refusal}
 use Rattle.auction_input.specs.inside.InputTexts.{AreAdded, IsAnswer, IsFirstErr}
-use Rattle.auction_terms.specs.Borrowed.{bytes_of}
+use Rattle.auction_terms.specs.Lines.{bytes_of}
 use Rattle.auction_terms.proofs.FirstFaultFacts.{answers-parsed}
 use Rattle.auction_terms.specs.Stages.{Answers, each_in_turn, refused_as}
 use Rattle.auction_input.specs.inside.ParsedTexts.{HaveMore, parsed_more}

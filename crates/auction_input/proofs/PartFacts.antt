@@ -7,7 +7,7 @@ use Rattle.auction_input.specs.declared.parts.PartFault.TheVariants as fault
 use Rattle.auction_input.specs.declared.parts.PartFault.{PartFault}
 use Rattle.std.proofs.lemmas.Bool.Decides.{Decides-eqb, leb_tells}
 use Rattle.std.proofs.lemmas.Bool.{cases_Bool, ne_eqb}
-use Rattle.auction_terms.specs.Lines.{is_line_feed}
+use Rattle.auction_terms.specs.Lines.{is_line_feed, bytes_of}
 use Rattle.std.proofs.lemmas.List.{append-nil, drop_more, length-map, length-take-le, map-append, nil_from_length}
 use Rattle.std.proofs.lemmas.List.Sums.{length-filter}
 use Rattle.auction_input.specs.declared.part_kind.PartKind.{PartKind}
@@ -21,7 +21,6 @@ use Rattle.auction_input.specs.Input.{Given, Input}
 use Rattle.auction_input.specs.ParsedParts.{only_text}
 use Rattle.auction_input.specs.inside.Parts.{HaveAdded, IsFaultBehind, is_held, kind_named, kinds_for, known_kinds, part}
 use Rattle.auction_input.specs.declared.parts.Part as declared
-use Rattle.auction_terms.specs.Borrowed.{bytes_of}
 use Rattle.std.specs.Option.{option_map_or, option_or}
 use Rattle.std.specs.Prelude.{nat_lt}
 use Rattle.std.specs.List.{list_any}

@@ -1,7 +1,7 @@
 -- What an input leaves: an auction that is settled, or the first refusal.
 use Rattle.std.specs.Prelude.{◌≡◌, ◌≢◌, ◌⊎◌, ℕ, List, Ok, codes}
 use Rattle.auction_input.specs.Auction.{Auction, parsed_auction}
-use Rattle.auction_terms.specs.Borrowed.{bytes_of}
+use Rattle.auction_terms.specs.Lines.{bytes_of}
 use Rattle.auction_input.specs.Input.{Input}
 use Rattle.auction_input.specs.Parts.{Part, parts_named}
 use Rattle.auction_input.specs.ParsedParts.{only_text, parsed_parts}

@@ -5,7 +5,6 @@ pub mod FirstFault
 pub mod AllFaults
 pub mod Accepted
 pub mod Stages
-pub mod Borrowed
 pub mod Records
 pub mod Names
 pub mod Numbers

@@ -3,7 +3,7 @@
 ghost use Rattle.std.specs.Prelude.{◌≡◌, ◌≤◌, ◌<◌, ◌∷◌, [], IfOk, OnOk, length, option_map, option_to_list};
 ghost use Rattle.auction_terms.specs.AllFaults.{Keeps, KeepsMore, accepted_with, found};
 ghost use Rattle.auction_terms.specs.AllGroupFaults.{all_group_faults, all_line_faults, all_name_faults, fault_of_name};
-ghost use Rattle.auction_terms.specs.Borrowed.{bytes_of};
+ghost use Rattle.auction_terms.specs.Lines.{bytes_of};
 ghost use Rattle.auction_terms.specs.GroupNames.{names_in};
 ghost use Rattle.auction_terms.specs.declared.groups_text.GroupFault.TheVariants as fault;
 

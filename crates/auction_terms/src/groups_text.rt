@@ -4,14 +4,13 @@ ghost use Rattle.std.specs.Prelude.{◌≡◌, ◌≤◌, ◌<◌, Err, [], ◌�
 ghost use Rattle.std.specs.List.{list_any};
 ghost use Rattle.std.specs.Str.{bytes_eq};
 ghost use Rattle.auction_terms.specs.FirstFault.{first_failed, first_fault};
-ghost use Rattle.auction_terms.specs.Borrowed.{bytes_of};
+ghost use Rattle.auction_terms.specs.Lines.{bytes_of, lines_of};
 ghost use Rattle.auction_terms.specs.GroupsText.{group_of, groups_of, is_groups_memory, group_line_fault, line_checks, name_fault, room_checks};
 ghost use Rattle.auction_terms.specs.inside.GroupsText.{fault_of_line, numbers_from};
 ghost use Rattle.auction_terms.specs.Stages.{Answers};
 ghost use Rattle.auction_terms.specs.inside.FirstFault.{Tells, TellsFault};
 ghost use Rattle.auction_terms.specs.GroupNames.{names_in};
 ghost use Rattle.auction_terms.specs.Groups.{IsGroup};
-ghost use Rattle.auction_terms.specs.Lines.{lines_of};
 ghost use Rattle.auction_terms.specs.declared.limits.TheConstants.{MOST_BIDDERS};
 ghost use Rattle.auction_terms.specs.FaultPlaces.{group_place};
 ghost use Rattle.auction_terms.specs.GroupFaultText.{group_fault_text};

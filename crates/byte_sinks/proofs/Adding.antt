@@ -6,8 +6,7 @@ use Rattle.std.proofs.lemmas.List.{append-nil}
 use denote.Ref.{MutBor}
 use Rattle.byte_sinks.specs.declared.write_fault.WriteFault.{WriteFault}
 use Rattle.byte_sinks.specs.declared.writer.Writer.{Writer}
-use Rattle.byte_sinks.specs.Sinks.{Counts, HasFailed, IsFront, SentFront}
-use Rattle.byte_sinks.specs.Written.{written_of}
+use Rattle.byte_sinks.specs.Sinks.{Counts, HasFailed, IsFront, SentFront, written_of}
 use Rattle.byte_sinks.specs.Adds.{Adds, IsBroken, IsNew, IsSent, bytes_given}
 use Rattle.byte_sinks.proofs.Known.{Appends-then, Counts-then, IsFront-empty, IsFront-longer, IsFront-piece, SentFront-from}
 

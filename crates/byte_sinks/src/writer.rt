@@ -25,7 +25,7 @@ pub struct Writer<'s, S> {
 
 impl<'s, S: Sink> Writer<'s, S> {
     ghost use Rattle.byte_sinks.specs.Adds.{Adds, IsBroken, IsNew, IsSent};
-    ghost use Rattle.byte_sinks.specs.Written.{written_of};
+    ghost use Rattle.byte_sinks.specs.Sinks.{written_of};
 
     /// A writer to a sink. It takes no memory.
     pub fn new(sink: &'s mut S) -> Writer<'s, S>

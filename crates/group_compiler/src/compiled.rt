@@ -24,9 +24,8 @@ impl<'g> Model for Compiled<'g> {
 impl<'g> Compiled<'g> {
     ghost use Rattle.std.specs.Prelude.{◌≡◌, OnOk, OnErr, IfErr};
     ghost use Rattle.std.specs.Io.KnownBytes.{Appends};
-    ghost use Rattle.byte_sinks.specs.Sinks.{HasFailed, SentFront};
+    ghost use Rattle.byte_sinks.specs.Sinks.{HasFailed, SentFront, written_of};
     ghost use Rattle.mps_text.specs.Text.{text};
-    ghost use Rattle.byte_sinks.specs.Written.{written_of};
     ghost use Rattle.group_compiler.specs.Compiled.{group_program};
 
     pub(crate) fn new(group: &'g Group, program: Program) -> Compiled<'g>

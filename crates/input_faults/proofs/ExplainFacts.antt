@@ -21,8 +21,7 @@ use Rattle.input_faults.specs.TextDetails.{detail}
 use Rattle.input_faults.specs.declared.fault.Fault.{Fault}
 use Rattle.input_faults.specs.inside.HeldLines.{held_lines}
 use Rattle.byte_sinks.proofs.Known.{Appends-nothing}
-use Rattle.byte_sinks.specs.Sinks.{HasFailed, SentFront}
-use Rattle.byte_sinks.specs.Written.{written_of}
+use Rattle.byte_sinks.specs.Sinks.{HasFailed, SentFront, written_of}
 use Rattle.byte_sinks.specs.declared.write_fault.WriteFault.{WriteFault}
 use Rattle.byte_sinks.specs.declared.write_fault.WriteFault.TheVariants as write
 use Rattle.auction_input.specs.declared.request.Request.{Request}

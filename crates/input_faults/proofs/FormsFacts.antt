@@ -11,7 +11,7 @@ use Rattle.auction_input.specs.ParsedTexts.{parsed_form}
 use Rattle.auction_input.specs.declared.calls.Calls.{Calls}
 use Rattle.auction_input.specs.declared.form_texts.FormTexts.{FormTexts}
 use Rattle.auction_input.specs.declared.refusal.Refusal.{Refusal}
-use Rattle.auction_terms.specs.Borrowed.{bytes_of}
+use Rattle.auction_terms.specs.Lines.{bytes_of}
 use Rattle.auction_terms.specs.Stages.{each_in_turn}
 use Rattle.auction_terms.specs.Terms.{Terms}
 use Rattle.bid_forms.specs.Offers.{Offers}

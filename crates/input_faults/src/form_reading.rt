@@ -1,7 +1,7 @@
 //! Reading a form once more, for the details of its faults.
 
 ghost use Rattle.std.specs.Prelude.{◌≡◌, ℕ, List, IfOk, OnOk};
-ghost use Rattle.auction_terms.specs.Borrowed.{bytes_of};
+ghost use Rattle.auction_terms.specs.Lines.{bytes_of};
 ghost use Rattle.input_faults.specs.TextDetails.{numbered, within_limit};
 ghost use Rattle.input_faults.specs.inside.Cursors.{ReadsForm, StandsAt};
 

@@ -5,7 +5,7 @@ ghost use Rattle.std.specs.Io.KnownBytes.{Appends};
 ghost use Rattle.auction_input.specs.Parts.{parts_held};
 ghost use Rattle.auction_input.specs.Plan.{miscounted};
 ghost use Rattle.auction_input.specs.ParsedTexts.{parsed_terms};
-ghost use Rattle.auction_terms.specs.Borrowed.{bytes_of};
+ghost use Rattle.auction_terms.specs.Lines.{bytes_of};
 ghost use Rattle.auction_terms.specs.Records.{records_of};
 ghost use Rattle.auction_terms.specs.RulesText.{version_of};
 ghost use Rattle.input_faults.specs.FaultLines.{fault_line, more_line, message_of};
@@ -14,8 +14,7 @@ ghost use Rattle.input_faults.specs.inside.Cursors.{ReadsForm, StandsAt, StandsA
 ghost use Rattle.input_faults.specs.inside.DetailText.{detail_text};
 ghost use Rattle.input_faults.specs.inside.HeldLines.{held_lines};
 ghost use Rattle.byte_sinks.specs.Adds.{Adds};
-ghost use Rattle.byte_sinks.specs.Sinks.{HasFailed, SentFront};
-ghost use Rattle.byte_sinks.specs.Written.{written_of};
+ghost use Rattle.byte_sinks.specs.Sinks.{HasFailed, SentFront, written_of};
 
 use crate::detail::{Detail, add_detail};
 use crate::fault::Fault;

@@ -4,7 +4,7 @@ ghost use Rattle.std.specs.Prelude.{◌≡◌, Err, IfOk, MatchOption, Ok, OnOk,
 ghost use Rattle.auction_input.specs.ParsedTexts.{parsed_form, parsed_groups, parsed_terms};
 ghost use Rattle.auction_input.specs.declared.refusal.Refusal.{Refusal};
 ghost use Rattle.auction_terms.specs.AllFaults.{KeepsMore};
-ghost use Rattle.auction_terms.specs.Borrowed.{bytes_of};
+ghost use Rattle.auction_terms.specs.Lines.{bytes_of};
 ghost use Rattle.auction_terms.specs.GroupsText.{is_groups_memory};
 ghost use Rattle.auction_terms.specs.RulesText.{is_rules_memory};
 ghost use Rattle.auction_terms.specs.Stages.{each_in_turn};

@@ -3,7 +3,7 @@ use Rattle.std.proofs.Common.{◌≡◌, ℕ, zero, suc, Bool, true, false, not,
 use Rattle.program_rows.proofs.NamedItems.{bytes_flip}
 use Rattle.std.specs.Prelude.{◌==◌, slice_get, bytes_eq, codes, nat_le, if◌then◌else◌}
 use denote.Ref.{Bor}
-use Rattle.auction_terms.specs.Borrowed.{bytes_of}
+use Rattle.auction_terms.specs.Lines.{bytes_of}
 use Rattle.std.specs.List.{list_any, slice_set, AllByRecursion, IsDistinct}
 use Rattle.auction_terms.specs.LineFields.{LineFields, field}
 use Rattle.program_rows.specs.MpsProgram.{is_one_of, value, is_binary_bound, columns_named, bound_pair, is_column}

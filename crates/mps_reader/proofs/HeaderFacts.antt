@@ -14,7 +14,7 @@ use Rattle.program_rows.specs.MpsProgram.{first_free, columns_named}
 use Rattle.program_rows.specs.MpsFaults.{place_of, header_fault, is_binary}
 use Rattle.program_rows.specs.declared.mps_fault_kind.MpsFaultKind.{MpsFaultKind}
 use Rattle.program_rows.specs.declared.mps_fault_kind.MpsFaultKind.TheVariants.{NotBinary}
-use Rattle.auction_terms.specs.Borrowed.{bytes_of}
+use Rattle.auction_terms.specs.Lines.{bytes_of}
 use Rattle.mps_reader.specs.inside.Rows.{option_now, declared_row_names}
 use Rattle.mps_reader.specs.inside.Columns.{ColumnsFit}
 use Rattle.mps_reader.specs.inside.Agreeing.{ReadingFits}

@@ -8,7 +8,7 @@ use Rattle.program_rows.specs.declared.row.Row.{Row}
 use Rattle.program_rows.specs.Program.{TableRow}
 use Rattle.program_rows.specs.Parts.{IsName, shown_row}
 use Rattle.auction_terms.specs.LineFields.{field}
-use Rattle.auction_terms.specs.Borrowed.{bytes_of}
+use Rattle.auction_terms.specs.Lines.{bytes_of}
 use Rattle.mps_reader.specs.inside.Rows.{names_of, option_now, declared_row_names, IsObjective, RowsFit, AddsFree, AddsBound}
 use Rattle.mps_reader.specs.declared.tables.Rows.{Rows}
 use Rattle.mps_reader.proofs.NameFacts.{length-bytes, others, all-push, differs, any-push, any-last, at-free, at-bound, all-rows}

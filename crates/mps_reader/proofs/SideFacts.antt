@@ -16,7 +16,7 @@ use Rattle.program_rows.specs.declared.mps_fault_kind.MpsFaultKind.TheVariants.{
 use Rattle.program_rows.specs.declared.row.Row.{Row}
 use Rattle.program_rows.specs.Program.{TableRow}
 use Rattle.program_rows.specs.Parts.{shown_row}
-use Rattle.auction_terms.specs.Borrowed.{bytes_of}
+use Rattle.auction_terms.specs.Lines.{bytes_of}
 use Rattle.mps_reader.specs.inside.Rows.{declared_row_names, with_side, rows_by, side_fault}
 use Rattle.mps_reader.proofs.PairFaultFacts.{last-one, pair_checks, constant_check}
 use Rattle.mps_reader.proofs.NameFacts.{own_name, length-bytes}

@@ -7,7 +7,7 @@ use Rattle.std.proofs.lemmas.Bool.{ltb-true}
 use denote.Ref.{Bor}
 use Rattle.program_rows.specs.declared.mps_fault_kind.MpsFaultKind.TheVariants.{UnknownRow, EntryRepeated}
 use Rattle.program_rows.specs.MpsFaults.{earliest_fault}
-use Rattle.auction_terms.specs.Borrowed.{bytes_of}
+use Rattle.auction_terms.specs.Lines.{bytes_of}
 use Rattle.mps_reader.specs.inside.Rows.{StampsAre}
 use Rattle.mps_reader.proofs.NameFacts.{same_name}
 use Rattle.std.specs.Bool.{then_some as when}

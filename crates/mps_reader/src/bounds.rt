@@ -6,7 +6,7 @@ ghost use Rattle.std.specs.List.{IsDistinct};
 ghost use Rattle.auction_terms.specs.LineFields.{LineFields, field};
 ghost use Rattle.program_rows.specs.MpsProgram.{is_one_of, is_binary_bound, value, columns_named};
 ghost use Rattle.program_rows.specs.MpsFaults.{earliest_fault, bound_fault};
-ghost use Rattle.auction_terms.specs.Borrowed.{bytes_of};
+ghost use Rattle.auction_terms.specs.Lines.{bytes_of};
 ghost use Rattle.mps_reader.specs.inside.Reading.{AnswersFault, bit_fault};
 ghost use Rattle.mps_reader.specs.inside.Columns.{BothFit};
 ghost use Rattle.mps_reader.specs.inside.Rows.{names_of};

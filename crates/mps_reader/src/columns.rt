@@ -13,7 +13,7 @@ ghost use Rattle.mps_reader.specs.inside.Tracking.{ColumnsTell, ColumnAdded, is_
 ghost use Rattle.std.specs.Bool.{then_some as when};
 ghost use Rattle.program_rows.specs.MpsProgram.{is_one_of, is_marker};
 ghost use Rattle.program_rows.specs.MpsFaults.{is_integer_open, marker_fault};
-ghost use Rattle.auction_terms.specs.Borrowed.{bytes_of};
+ghost use Rattle.auction_terms.specs.Lines.{bytes_of};
 
 use crate::fields::is_word;
 use crate::refusal::Refusal;

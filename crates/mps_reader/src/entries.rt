@@ -9,7 +9,7 @@ ghost use Rattle.program_rows.specs.MpsSections.{Sections};
 ghost use Rattle.program_rows.specs.MpsProgram.{value, pairs, is_marker, number_beside};
 ghost use Rattle.program_rows.specs.MpsFaults.{earliest_fault, number_fault, is_declared, pairs_fault, is_integer_open, marker_fault, column_fault};
 ghost use Rattle.program_rows.specs.Parts.{IsName};
-ghost use Rattle.auction_terms.specs.Borrowed.{bytes_of};
+ghost use Rattle.auction_terms.specs.Lines.{bytes_of};
 ghost use Rattle.mps_reader.specs.inside.Reading.{AnswersFault};
 ghost use Rattle.mps_reader.specs.inside.Rows.{RowsFit, StampsAre, names_of, declared_row_names, option_now};
 ghost use Rattle.mps_reader.specs.inside.Tracking.{AreStampsUpTo, OpenTells, ColumnsTell, InColumns};

@@ -3,7 +3,7 @@
 ghost use Rattle.std.specs.Prelude.{◌≡◌, ◌≤◌, ◌<◌, ◌∷◌, [], true, false, take, drop, length, position, MatchOption, IfSome, IfOk, OnErr, ◌==◌, slice_index, bytes_eq};
 ghost use Rattle.std.specs.List.{list_all};
 ghost use Rattle.auction_terms.specs.LineFields.{fields, is_space};
-ghost use Rattle.auction_terms.specs.Borrowed.{bytes_of};
+ghost use Rattle.auction_terms.specs.Lines.{bytes_of};
 ghost use Rattle.mps_reader.specs.inside.Reading.{is_other, is_behind, is_text_byte, IsLine, AnswersFault, bit_fault};
 ghost use Rattle.program_rows.specs.MpsLines.{line_of};
 ghost use Rattle.program_rows.specs.MpsProgram.{value};

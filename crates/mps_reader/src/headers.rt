@@ -6,7 +6,7 @@ ghost use Rattle.auction_terms.specs.LineFields.{field};
 ghost use Rattle.program_rows.specs.MpsSections.{Sections};
 ghost use Rattle.program_rows.specs.MpsProgram.{is_one_of, first_free, columns_named};
 ghost use Rattle.program_rows.specs.MpsFaults.{place_of, earliest_fault, sense_fault, header_fault, is_binary, sections_left_out};
-ghost use Rattle.auction_terms.specs.Borrowed.{bytes_of};
+ghost use Rattle.auction_terms.specs.Lines.{bytes_of};
 ghost use Rattle.mps_reader.specs.inside.Reading.{AnswersFault, AnswersUpTo};
 ghost use Rattle.mps_reader.specs.inside.Sections.{word_of};
 ghost use Rattle.std.specs.Bool.{then_some as when};

@@ -18,7 +18,7 @@
 //! only then are its entries in the order of rows. What is added to the state needs a line in both records.
 
 ghost use Rattle.std.specs.Prelude.{◌≡◌, ◌≤◌, ◌<◌, length, Err, IfErr, not, map, true, false, position, option_map, is_some, Some, IfOk, ◌≢◌, drop, codes, bytes_eq, OnOk};
-ghost use Rattle.auction_terms.specs.Lines.{lines_of};
+ghost use Rattle.auction_terms.specs.Lines.{lines_of, bytes_of};
 ghost use Rattle.mps_reader.specs.Answer.{IsRead};
 ghost use Rattle.program_rows.specs.MpsMeaning.{meaning};
 ghost use Rattle.program_rows.specs.declared.mps_fault_kind.MpsFaultKind.TheVariants.{TooLarge, NotBinary};
@@ -35,7 +35,6 @@ ghost use Rattle.auction_terms.specs.LineFields.{LineFields, field};
 ghost use Rattle.program_rows.specs.MpsLines.{Unprintable, line_of};
 ghost use Rattle.program_rows.specs.MpsFaults.{fault, header_fault};
 ghost use Rattle.program_rows.specs.Parts.{IsName};
-ghost use Rattle.auction_terms.specs.Borrowed.{bytes_of};
 
 use crate::bounds::take_bound;
 use crate::columns::close_column;

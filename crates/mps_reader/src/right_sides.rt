@@ -7,7 +7,7 @@ ghost use Rattle.auction_terms.specs.LineFields.{LineFields};
 ghost use Rattle.program_rows.specs.MpsSections.{Sections};
 ghost use Rattle.program_rows.specs.MpsProgram.{pairs, value, first_free, number_beside, line_right_sides};
 ghost use Rattle.program_rows.specs.MpsFaults.{is_declared, pairs_fault, right_side_fault};
-ghost use Rattle.auction_terms.specs.Borrowed.{bytes_of};
+ghost use Rattle.auction_terms.specs.Lines.{bytes_of};
 ghost use Rattle.mps_reader.specs.inside.Reading.{AnswersFault};
 ghost use Rattle.std.specs.Ordering.{int_eq};
 ghost use Rattle.program_rows.specs.Parts.{shown_row};

@@ -8,7 +8,7 @@ ghost use Rattle.auction_terms.specs.LineFields.{field, LineFields};
 ghost use Rattle.program_rows.specs.MpsProgram.{is_one_of, row_kind_of};
 ghost use Rattle.program_rows.specs.MpsFaults.{earliest_fault};
 ghost use Rattle.program_rows.specs.Parts.{shown_row, IsName};
-ghost use Rattle.auction_terms.specs.Borrowed.{bytes_of};
+ghost use Rattle.auction_terms.specs.Lines.{bytes_of};
 ghost use Rattle.mps_reader.specs.inside.Reading.{AnswersFault};
 ghost use Rattle.mps_reader.specs.inside.Rows.{names_of, RowsFit, AddsFree, AddsBound, StampsAre};
 ghost use Rattle.mps_reader.specs.inside.Tracking.{RowsTell, AreStampsUpTo};

@@ -20,7 +20,7 @@ use Rattle.program_rows.specs.declared.solution_fault.SolutionFault.{SolutionFau
 use Rattle.program_rows.specs.declared.solution_fault.SolutionFault.TheVariants as fault
 use Rattle.auction_terms.specs.Stages.{unless}
 use Rattle.outcome.specs.Solution.{names_column, is_one}
-use Rattle.auction_terms.specs.Borrowed.{bytes_of}
+use Rattle.auction_terms.specs.Lines.{bytes_of}
 use Rattle.outcome.specs.inside.Reading.{pair_checks, said_of, said_by}
 use Rattle.outcome.proofs.NearLaws.{value_checks, value_is}
 use Rattle.outcome.proofs.PointLaws.{none_passes}

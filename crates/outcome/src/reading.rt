@@ -3,7 +3,7 @@
 ghost use Rattle.std.specs.Prelude.{◌≡◌, ◌<◌, ◌≤◌, [], length, map, replicate, unwrap_or, false, IfOk, OnOk, Ok, Err, None, bytes_eq, IfSome, position, ◌∷◌, ◌++◌, ◌+◌, ◌==◌, ℕ, List, slice_index, true, not};
 ghost use Rattle.std.specs.List.{IsDistinct, zip};
 ghost use Rattle.auction_terms.specs.FirstFault.{first_fault, first_failed};
-ghost use Rattle.auction_terms.specs.Lines.{lines_of};
+ghost use Rattle.auction_terms.specs.Lines.{lines_of, bytes_of};
 ghost use Rattle.auction_terms.specs.Stages.{Answers, unless};
 ghost use Rattle.program_rows.specs.Points.{IsPoint, allows};
 ghost use Rattle.program_rows.specs.declared.solution_fault.SolutionFault.TheVariants as fault;
@@ -11,7 +11,6 @@ ghost use Rattle.outcome.specs.declared.limits.TheConstants.{SOLUTION_LIMIT};
 ghost use Rattle.program_rows.specs.ProgramNames.{column_names};
 ghost use Rattle.outcome.specs.inside.Reading.{said_by, pair_checks};
 ghost use Rattle.outcome.specs.Solution.{is_solution_memory, is_one, solution_line_fault, solution, point_fault};
-ghost use Rattle.auction_terms.specs.Borrowed.{bytes_of};
 ghost use Rattle.auction_terms.specs.LineFields.{fields, is_skipped};
 
 use crate::limits::SOLUTION_LIMIT;

@@ -5,8 +5,7 @@ ghost use Rattle.std.specs.Io.KnownBytes.{Appends};
 ghost use Rattle.std.specs.List.{last_or};
 ghost use Rattle.std.specs.Option.{option_map_or};
 ghost use Rattle.byte_sinks.specs.Adds.{Adds};
-ghost use Rattle.byte_sinks.specs.Sinks.{HasFailed, SentFront};
-ghost use Rattle.byte_sinks.specs.Written.{written_of};
+ghost use Rattle.byte_sinks.specs.Sinks.{HasFailed, SentFront, written_of};
 ghost use Rattle.presolve.specs.Lines.{form_lines, forms_by, left_out_line, left_out_lines, replaced_line, replaced_lines};
 
 use crate::reason::Reason;

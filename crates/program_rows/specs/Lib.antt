@@ -18,7 +18,6 @@ pub mod Faithful
 pub mod Legal
 pub mod Bounded
 pub mod Costed
-pub mod Seeds
 pub mod Only
 pub mod Selections
 pub mod inside

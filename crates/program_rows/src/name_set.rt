@@ -4,7 +4,7 @@ ghost use Rattle.std.specs.Prelude.{◌≡◌, ◌<◌, ◌∷◌, [], length, p
 ghost use Rattle.std.specs.Hash.DefaultHasher as sip;
 ghost use Rattle.std.specs.List.{list_any};
 ghost use Rattle.std.specs.Option.{option_map_or};
-ghost use Rattle.program_rows.specs.Seeds.{all_names, seed, started};
+ghost use Rattle.program_rows.specs.ProgramNames.{all_names, seed, started};
 
 use crate::program::Program;
 use indexmap::IndexSet;

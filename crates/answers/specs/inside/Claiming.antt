@@ -1,7 +1,7 @@
 -- What the code holds of an auction while it judges what is claimed of other outcomes.
 use Rattle.std.specs.Prelude.{◌≡◌, ◌≤◌, List, [], Ok, length, slice_index_or, true}
 use Rattle.auction_input.specs.declared.auction.Auction as declared
-use Rattle.auction_terms.specs.Borrowed.{bytes_of}
+use Rattle.auction_terms.specs.Lines.{bytes_of}
 use Rattle.auction_terms.specs.Groups.{starts_empty}
 use Rattle.auction_terms.specs.declared.choices.Choice.{Choice}
 use Rattle.group_compiler.specs.Compiled.{program_without}

@@ -2,8 +2,7 @@
 
 ghost use Rattle.std.specs.Prelude.{◌≡◌, ◌-◌, ◌^◌, IfErr, OnErr, OnOk, length, min, sum_by};
 ghost use Rattle.std.specs.Io.KnownBytes.{Appends};
-ghost use Rattle.byte_sinks.specs.Sinks.{HasFailed, SentFront};
-ghost use Rattle.byte_sinks.specs.Written.{written_of};
+ghost use Rattle.byte_sinks.specs.Sinks.{HasFailed, SentFront, written_of};
 ghost use Rattle.answers.specs.Sizes.{sizes_text};
 ghost use Rattle.answers.specs.Answer.{answer};
 ghost use Rattle.answers.specs.Exact.{IsUnwritten, Writes};

@@ -13,7 +13,7 @@ use Rattle.auction_input.specs.declared.auction.Beside.{Beside}
 use Rattle.auction_input.specs.declared.refusal.Refusal.TheVariants as refusal
 use Rattle.auction_input.specs.declared.refusal.Refusal.{Refusal}
 use Rattle.auction_input.specs.declared.round.RoundFault.TheVariants as round
-use Rattle.auction_terms.specs.Borrowed.{bytes_of}
+use Rattle.auction_terms.specs.Lines.{bytes_of}
 use Rattle.auction_terms.specs.FirstFault.{first_fault}
 use Rattle.auction_terms.specs.Stages.{each_in_turn}
 use Rattle.auction_terms.specs.Terms.{Terms}

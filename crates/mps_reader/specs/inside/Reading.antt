@@ -16,7 +16,7 @@ use Rattle.mps_reader.specs.declared.fields.Line.{Line}
 use Rattle.mps_reader.specs.declared.fields.Line.TheVariants.{Skipped, Unprintable, Header, Data}
 use Rattle.mps_reader.specs.declared.refusal.Refusal.{Refusal}
 use Rattle.mps_reader.specs.declared.refusal.Refusal.TheVariants.{Memory, Fault}
-use Rattle.auction_terms.specs.Borrowed.{bytes_of}
+use Rattle.auction_terms.specs.Lines.{bytes_of}
 use Rattle.std.specs.Bool.{then_some as when}
 use Rattle.std.specs.Option.{option_or}
 

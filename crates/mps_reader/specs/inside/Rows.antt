@@ -14,7 +14,7 @@ use Rattle.program_rows.specs.MpsProgram.{is_free, row_kind_of, value}
 use Rattle.program_rows.specs.MpsFaults.{earliest_fault, number_fault}
 use Rattle.program_rows.specs.declared.mps_fault_kind.MpsFaultKind.{MpsFaultKind}
 use Rattle.program_rows.specs.declared.mps_fault_kind.MpsFaultKind.TheVariants.{UnknownRow, EntryRepeated, ObjectiveConstant}
-use Rattle.auction_terms.specs.Borrowed.{bytes_of}
+use Rattle.auction_terms.specs.Lines.{bytes_of}
 use Rattle.mps_reader.specs.declared.tables.Rows.{Rows}
 use Rattle.auction_terms.specs.Decimals.{number as token_number}
 use Rattle.std.specs.Bool.{then_some as when}

@@ -1,6 +1,6 @@
 use Rattle.std.proofs.Common.{◌≡◌, ◌++◌, drop, map}
 use Rattle.answers.specs.inside.Judging.{bounds_by, bound_held}
-use Rattle.auction_terms.specs.Borrowed.{bytes_of}
+use Rattle.auction_terms.specs.Lines.{bytes_of}
 use Rattle.answers.proofs.certified.bounds_of.Given as goal
 
 abbrev pub invariant-loop-place : goal.invariant-loop-place

@@ -7,7 +7,7 @@ use Rattle.optimality.specs.Only.{IsLargeOnlyAt, only_fault}
 use Rattle.program_rows.specs.declared.certificate_fault.CertificateFaultKind.TheVariants.{TooLarge}
 use Rattle.program_rows.specs.Program.{Table}
 use Rattle.auction_input.specs.Settled.{held}
-use Rattle.auction_terms.specs.Borrowed.{bytes_of}
+use Rattle.auction_terms.specs.Lines.{bytes_of}
 use Rattle.answers.proofs.ClaimedFacts.{first-program, no-fault, one-unique, only-refused, only-parsed}
 use Rattle.answers.proofs.WinnersFeasible.{feasible-of}
 use Rattle.answers.proofs.ReportFacts.{text-at}

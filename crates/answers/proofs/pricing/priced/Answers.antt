@@ -3,7 +3,7 @@ use Rattle.auction_input.proofs.InputTextFacts.{Text}
 use Rattle.auction_input.specs.Refused.{Refuses}
 use Rattle.auction_input.specs.Settled.{held}
 use Rattle.auction_input.specs.declared.refusal.Refusal.{Refusal}
-use Rattle.auction_terms.specs.Borrowed.{bytes_of}
+use Rattle.auction_terms.specs.Lines.{bytes_of}
 use Rattle.bid_desk.specs.Closing.{book_of}
 use Rattle.outcome.specs.Pricing.{Priced, price_in}
 use Rattle.prices.specs.Prices.{ArePrices, MeetReserves, reserves_in}

@@ -1,7 +1,7 @@
 use Rattle.std.proofs.Common.{◌≡◌, ◌<◌, ◌≤◌, ◌+◌, ◌-◌, ◌∷◌, ◌∙◌, [], ℕ, List, Ok, Option, sym, subst, ap, arith, length, length-append}
 use Rattle.std.proofs.lemmas.List.{length-map}
 use Rattle.auction_terms.specs.declared.choices.Choice.{Choice}
-use Rattle.auction_terms.specs.Borrowed.{bytes_of}
+use Rattle.auction_terms.specs.Lines.{bytes_of}
 use Rattle.bid_desk.specs.Sale.{sale_of}
 use Rattle.auction_input.specs.Refused.{Refuses}
 use Rattle.auction_input.proofs.StepFacts.{if-err-of}

@@ -1,5 +1,5 @@
 use Rattle.std.proofs.Common.{◌≡◌, ◌+◌, ℕ, length}
-use Rattle.auction_terms.specs.Borrowed.{bytes_of}
+use Rattle.auction_terms.specs.Lines.{bytes_of}
 use Rattle.answers.proofs.ReportFacts.{IsLeftFrom, MadeFrom}
 use Rattle.answers.proofs.report_run.all_won.Given as goal
 

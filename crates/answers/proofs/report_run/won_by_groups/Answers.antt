@@ -2,7 +2,7 @@ use Rattle.std.proofs.Common.{◌≡◌, ◌∙◌, IfErr, IfOk, List, ℕ, Ok, 
 use Rattle.std.proofs.lemmas.List.{length-map}
 use Rattle.std.proofs.lemmas.Result.{IfOk-weaker}
 use Rattle.auction_input.specs.Refused.{Refuses}
-use Rattle.auction_terms.specs.Borrowed.{bytes_of}
+use Rattle.auction_terms.specs.Lines.{bytes_of}
 use Rattle.group_compiler.specs.Compiled.{Compiling}
 use Rattle.answers.specs.inside.SolutionWinners.{parsed_winners}
 use Rattle.answers.proofs.CountFacts.{goes-over}

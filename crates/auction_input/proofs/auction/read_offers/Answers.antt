@@ -8,7 +8,7 @@ use Rattle.auction_input.specs.Refused.{Refuses}
 use Rattle.auction_input.specs.ParsedTexts.{parsed_form, parsed_groups}
 use Rattle.auction_input.specs.declared.refusal.Refusal.TheVariants as refusal
 use Rattle.auction_input.specs.inside.Auctions.{RefusesInputs}
-use Rattle.auction_terms.specs.Borrowed.{bytes_of}
+use Rattle.auction_terms.specs.Lines.{bytes_of}
 use Rattle.auction_terms.specs.FirstFault.{first_fault}
 use Rattle.auction_terms.specs.Stages.{each_in_turn}
 use Rattle.auction_input.proofs.AuctionFacts.{calls-refused, forms-refused, groups-refused, texts-refused}

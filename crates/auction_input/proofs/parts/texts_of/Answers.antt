@@ -1,6 +1,6 @@
 use Rattle.std.proofs.Common.{◌∙◌, ap}
 use Rattle.rayon.proofs.ListFacts.{IfOk-then}
-use Rattle.auction_terms.specs.Borrowed.{bytes_of}
+use Rattle.auction_terms.specs.Lines.{bytes_of}
 use Rattle.auction_input.proofs.PartFacts.{texts_held}
 use Rattle.auction_input.proofs.parts.texts_of.Goals as goal
 

@@ -1,6 +1,6 @@
 use Rattle.std.proofs.Common.{◌≤◌, ◌+◌, arith, length}
 use Rattle.auction_input.specs.Refused.{Refuses}
-use Rattle.auction_terms.specs.Borrowed.{bytes_of}
+use Rattle.auction_terms.specs.Lines.{bytes_of}
 use Rattle.auction_input.specs.ParsedTexts.{parsed_form}
 use Rattle.auction_terms.specs.Stages.{each_in_turn}
 use Rattle.auction_input.proofs.StepFacts.{if-err-of}

@@ -2,7 +2,7 @@ use Rattle.std.proofs.Common.{◌++◌, length, arith, ap}
 use Rattle.auction_terms.proofs.AllFaultsFacts.{found-all, found-more, keeps-both}
 use Rattle.auction_terms.proofs.NameCountFacts.{names-within}
 use Rattle.auction_terms.specs.AllGroupFaults.{fault_of_name}
-use Rattle.auction_terms.specs.Borrowed.{bytes_of}
+use Rattle.auction_terms.specs.Lines.{bytes_of}
 use Rattle.auction_terms.proofs.faulty_groups.add_names.Goals as goal
 
 pub overflow_add-number : goal.overflow_add-number

@@ -1,7 +1,7 @@
 use Rattle.std.proofs.Common.{◌≡◌, ◌+◌, ◌++◌, List, [], length}
 use Rattle.auction_terms.specs.AllFaults.{KeepsMore, all_faults}
 use Rattle.auction_terms.specs.AllGroupFaults.{fault_of_name}
-use Rattle.auction_terms.specs.Borrowed.{bytes_of}
+use Rattle.auction_terms.specs.Lines.{bytes_of}
 use Rattle.auction_terms.specs.GroupNames.{names_in}
 use Rattle.auction_terms.specs.declared.faults.Found.{Found}
 use Rattle.auction_terms.specs.declared.groups_text.GroupFault.{GroupFault}

@@ -3,7 +3,7 @@ use Rattle.std.proofs.lemmas.List.{length-map}
 use Rattle.std.specs.Prelude.{codes}
 use Rattle.auction_input.proofs.PartFacts.{as-many-numbers}
 use Rattle.auction_input.specs.Parts.{parts_held}
-use Rattle.auction_terms.specs.Borrowed.{bytes_of}
+use Rattle.auction_terms.specs.Lines.{bytes_of}
 use Rattle.input_faults.proofs.finding.take_form_parts.Goals as goal
 
 pub take_forms-requires : goal.take_forms-requires

@@ -1,5 +1,5 @@
 use Rattle.std.proofs.Common.{◌∙◌, refl}
-use Rattle.auction_terms.specs.Borrowed.{bytes_of}
+use Rattle.auction_terms.specs.Lines.{bytes_of}
 use Rattle.byte_sinks.proofs.Adding.{Adds-to}
 use Rattle.input_faults.proofs.DetailFacts.{form-known, line-with, of-neither}
 use Rattle.input_faults.specs.FaultLines.{message_of}

@@ -1,5 +1,5 @@
 use Rattle.std.proofs.Common.{arith, rules}
-use Rattle.auction_terms.specs.Borrowed.{bytes_of}
+use Rattle.auction_terms.specs.Lines.{bytes_of}
 use Rattle.byte_sinks.proofs.Adding.{Adds-then, Adds-to}
 use Rattle.byte_sinks.proofs.Known.{flat_map-next_item}
 use Rattle.input_faults.specs.FaultLines.{fault_line, message_of}

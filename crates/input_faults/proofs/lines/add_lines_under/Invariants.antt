@@ -1,6 +1,6 @@
 use Rattle.std.proofs.Common.{take}
 use Rattle.std.specs.Prelude.{flat_map}
-use Rattle.auction_terms.specs.Borrowed.{bytes_of}
+use Rattle.auction_terms.specs.Lines.{bytes_of}
 use Rattle.byte_sinks.specs.Adds.{Adds}
 use Rattle.input_faults.specs.FaultLines.{fault_line, message_of}
 use Rattle.input_faults.specs.TextDetails.{detail_under, within_limit}

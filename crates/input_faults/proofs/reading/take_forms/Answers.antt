@@ -5,7 +5,7 @@ use Rattle.auction_input.proofs.StageFacts.{left-first}
 use Rattle.auction_input.specs.ParsedTexts.{parsed_form}
 use Rattle.auction_terms.proofs.AllFaultsFacts.{found-all, found-more, keeps-both, keeps-none}
 use Rattle.auction_terms.specs.AllFaults.{accepted_with, all_faults}
-use Rattle.auction_terms.specs.Borrowed.{bytes_of}
+use Rattle.auction_terms.specs.Lines.{bytes_of}
 use Rattle.auction_terms.specs.Terms.{Terms}
 use Rattle.auction_terms.specs.declared.faults.Found.{Found}
 use Rattle.input_faults.specs.InputFaults.{faults_of_form, faults_of_forms}

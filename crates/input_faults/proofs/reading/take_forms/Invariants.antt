@@ -1,6 +1,6 @@
 use Rattle.std.proofs.Common.{◌≡◌, ◌+◌, ◌++◌, ℕ, List, drop}
 use Rattle.auction_terms.specs.AllFaults.{KeepsMore, all_faults}
-use Rattle.auction_terms.specs.Borrowed.{bytes_of}
+use Rattle.auction_terms.specs.Lines.{bytes_of}
 use Rattle.auction_terms.specs.declared.faults.Found.{Found}
 use Rattle.input_faults.proofs.FormsFacts.{HasRead}
 use Rattle.input_faults.specs.InputFaults.{faults_of_form, faults_of_forms}

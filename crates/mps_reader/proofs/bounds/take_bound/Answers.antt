@@ -5,7 +5,7 @@ use Rattle.std.specs.Prelude.{codes, slice_get}
 use Rattle.program_rows.specs.declared.mps_fault_kind.MpsFaultKind.TheVariants.{UnknownColumn}
 use Rattle.auction_terms.specs.LineFields.{field}
 use Rattle.program_rows.specs.MpsProgram.{value, bound_pair}
-use Rattle.auction_terms.specs.Borrowed.{bytes_of}
+use Rattle.auction_terms.specs.Lines.{bytes_of}
 use Rattle.mps_reader.specs.inside.Rows.{names_of}
 use Rattle.mps_reader.specs.inside.Tracking.{state_values, parsed_values, bounded_values}
 use Rattle.mps_reader.proofs.NameFacts.{length-bytes, own_name, same_name}

@@ -1,6 +1,6 @@
 use Rattle.std.proofs.Common.{◌&&◌, ◌∙◌, ap, sym, arith, not}
 use Rattle.std.specs.Prelude.{bytes_eq, codes}
-use Rattle.auction_terms.specs.Borrowed.{bytes_of}
+use Rattle.auction_terms.specs.Lines.{bytes_of}
 use Rattle.mps_reader.proofs.RowStepFacts.{field-at}
 use Rattle.mps_reader.proofs.MarkerFacts.{begins-again, ends-none}
 use Rattle.mps_reader.proofs.columns.take_marker.Goals as goal

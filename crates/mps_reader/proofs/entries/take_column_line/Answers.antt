@@ -3,7 +3,7 @@ use Rattle.std.specs.Prelude.{◌++◌, drop, bytes_eq}
 use Rattle.std.specs.List.{list_any}
 use Rattle.auction_terms.specs.LineFields.{field}
 use Rattle.program_rows.specs.MpsProgram.{is_marker, column_pairs, pairs}
-use Rattle.auction_terms.specs.Borrowed.{bytes_of}
+use Rattle.auction_terms.specs.Lines.{bytes_of}
 use Rattle.mps_reader.specs.inside.Rows.{names_of, option_now, declared_row_names, StampsAre}
 use Rattle.mps_reader.specs.inside.Tracking.{AreStampsUpTo}
 use Rattle.mps_reader.specs.inside.Columns.{ColumnsFit, IsApart, PairsFit}

@@ -1,5 +1,5 @@
 use Rattle.std.proofs.Common.{refl, length, []}
-use Rattle.auction_terms.specs.Borrowed.{bytes_of}
+use Rattle.auction_terms.specs.Lines.{bytes_of}
 use Rattle.mps_reader.proofs.LineFacts.{marker-tells}
 use Rattle.mps_reader.specs.inside.Rows.{names_of}
 use Rattle.mps_reader.proofs.ColumnStepFacts.{begun-fit, apart-none}

@@ -2,7 +2,7 @@ use Rattle.std.proofs.Common.{◌≡◌, ◌++◌, ◌≤◌, length}
 use Rattle.std.specs.Prelude.{take}
 use Rattle.std.specs.List.{list_all}
 use Rattle.auction_terms.specs.LineFields.{fields}
-use Rattle.auction_terms.specs.Borrowed.{bytes_of}
+use Rattle.auction_terms.specs.Lines.{bytes_of}
 use Rattle.mps_reader.specs.inside.Reading.{is_text_byte}
 use Rattle.mps_reader.proofs.fields.first_fields.Given as goal
 

@@ -3,7 +3,7 @@ use Rattle.std.specs.Prelude.{codes}
 use Rattle.std.proofs.lemmas.Bool.{le-ltb, lt-ltb}
 use Rattle.program_rows.specs.MpsProgram.{is_one_of}
 use Rattle.program_rows.specs.MpsFaults.{place_of}
-use Rattle.auction_terms.specs.Borrowed.{bytes_of}
+use Rattle.auction_terms.specs.Lines.{bytes_of}
 use Rattle.mps_reader.specs.inside.Sections.{word_of}
 use Rattle.mps_reader.proofs.SectionWordFacts.{named}
 use Rattle.mps_reader.proofs.HeaderCaseFacts.{header-place, header-rest, header-lacks}

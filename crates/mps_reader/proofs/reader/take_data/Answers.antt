@@ -2,7 +2,7 @@ use Rattle.std.proofs.Common.{rules, ◌≡◌, ◌∙◌, ap, sym, subst, lengt
 use Rattle.std.specs.Prelude.{bytes_eq, ◌∷◌, flat_map}
 use Rattle.std.specs.List.{list_any}
 use Rattle.program_rows.specs.MpsProgram.{line_right_sides}
-use Rattle.auction_terms.specs.Borrowed.{bytes_of}
+use Rattle.auction_terms.specs.Lines.{bytes_of}
 use Rattle.mps_reader.specs.inside.Rows.{names_of, option_now, declared_row_names, StampsAre}
 use Rattle.mps_reader.specs.inside.Sections.{word_of}
 use Rattle.mps_reader.proofs.NameFacts.{length-bytes}

@@ -2,7 +2,7 @@ use Rattle.std.proofs.Common.{rules, ◌≡◌, ◌∙◌, ap, sym, refl, arith,
 use Rattle.std.specs.Prelude.{option_map, position, not}
 use Rattle.program_rows.specs.declared.mps_fault_kind.MpsFaultKind.TheVariants.{NotBinary}
 use Rattle.auction_terms.specs.LineFields.{field}
-use Rattle.auction_terms.specs.Borrowed.{bytes_of}
+use Rattle.auction_terms.specs.Lines.{bytes_of}
 use Rattle.mps_reader.specs.inside.States.{is_binary_state}
 use Rattle.mps_reader.proofs.RowStepFacts.{no_name, field-at}
 use Rattle.mps_reader.proofs.AnswerFacts.{handed-on, handed-up}

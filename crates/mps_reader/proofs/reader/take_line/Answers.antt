@@ -1,6 +1,6 @@
 use Rattle.std.proofs.Common.{rules, ◌∙◌, Bool}
 use Rattle.auction_terms.specs.LineFields.{fields}
-use Rattle.auction_terms.specs.Borrowed.{bytes_of}
+use Rattle.auction_terms.specs.Lines.{bytes_of}
 use Rattle.mps_reader.proofs.AnswerFacts.{handed-on}
 use Rattle.mps_reader.proofs.LineAnswerFacts.{skipped-fault, skipped-next, unprintable-fault, header-answer, header-next, data-answer, data-next}
 use Rattle.mps_reader.proofs.reader.take_line.Goals as goal

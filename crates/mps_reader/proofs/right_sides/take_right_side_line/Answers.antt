@@ -2,7 +2,7 @@ use Rattle.std.proofs.Common.{rules, ◌&&◌, ◌++◌, ◌∙◌, ap, sym, sub
 use Rattle.std.specs.Prelude.{nat_le, flat_map}
 use Rattle.program_rows.specs.MpsProgram.{number_beside, line_right_sides, first_free}
 use Rattle.program_rows.specs.MpsFaults.{pairs_fault}
-use Rattle.auction_terms.specs.Borrowed.{bytes_of}
+use Rattle.auction_terms.specs.Lines.{bytes_of}
 use Rattle.mps_reader.specs.inside.Rows.{names_of, option_now, StampsAre, rows_by, bound_lines_of}
 use Rattle.mps_reader.proofs.NameFacts.{length-bytes}
 use Rattle.mps_reader.proofs.AnswerFacts.{handed-on}

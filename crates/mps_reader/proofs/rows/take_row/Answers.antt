@@ -4,7 +4,7 @@ use Rattle.std.specs.List.{list_any}
 use Rattle.std.proofs.lemmas.Bool.{not-true}
 use Rattle.mps_reader.specs.inside.Rows.{names_of}
 use Rattle.mps_reader.proofs.RowStepFacts.{no_name, added-free, added-bound, name-at, grown, field-at}
-use Rattle.auction_terms.specs.Borrowed.{bytes_of}
+use Rattle.auction_terms.specs.Lines.{bytes_of}
 use Rattle.mps_reader.proofs.RowFacts.{tells-free, tells-bound}
 use Rattle.mps_reader.proofs.rows.take_row.Goals as goal
 

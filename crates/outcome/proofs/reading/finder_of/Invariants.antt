@@ -1,6 +1,6 @@
 use Rattle.std.proofs.Common.{◌≡◌, take}
 use Rattle.program_rows.specs.ProgramNames.{column_names}
-use Rattle.auction_terms.specs.Borrowed.{bytes_of}
+use Rattle.auction_terms.specs.Lines.{bytes_of}
 use Rattle.outcome.proofs.reading.finder_of.Given as goal
 
 -- the names so far

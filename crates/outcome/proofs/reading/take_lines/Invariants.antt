@@ -1,8 +1,7 @@
 use Rattle.std.proofs.Common.{◌≡◌, ◌+◌, ◌≤◌, ℕ, List, length}
-use Rattle.auction_terms.specs.Lines.{lines_of}
+use Rattle.auction_terms.specs.Lines.{lines_of, bytes_of}
 use Rattle.auction_terms.proofs.FirstFaultFacts.{CheckedSoFar}
 use Rattle.outcome.specs.Solution.{solution_line_fault}
-use Rattle.auction_terms.specs.Borrowed.{bytes_of}
 use Rattle.outcome.specs.inside.Reading.{said_by}
 use Rattle.outcome.proofs.reading.take_lines.Given as goal
 

@@ -6,8 +6,7 @@ use Rattle.auction_input.specs.Settled.{held}
 use Rattle.auction_input.specs.declared.refusal.Refusal.TheVariants as refusal
 use Rattle.auction_terms.specs.Terms.{lots_in}
 use Rattle.bid_desk.specs.Closing.{book_of}
-use Rattle.byte_sinks.specs.Sinks.{SentFront}
-use Rattle.byte_sinks.specs.Written.{written_of}
+use Rattle.byte_sinks.specs.Sinks.{SentFront, written_of}
 use Rattle.presolve.specs.Lines.{left_out_lines}
 use Rattle.presolve.specs.Reasons.{reasons_of}
 use Rattle.auction_input.specs.declared.request.Request.TheVariants as request

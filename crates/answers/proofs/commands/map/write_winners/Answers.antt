@@ -5,7 +5,7 @@ use Rattle.answers.specs.Answer.{output_of}
 use Rattle.auction_input.specs.declared.request.Request.TheVariants as request
 use Rattle.auction_input.specs.Settled.{held}
 use Rattle.answers.specs.Exact.{Ends, by_refusal}
-use Rattle.auction_terms.specs.Borrowed.{bytes_of}
+use Rattle.auction_terms.specs.Lines.{bytes_of}
 use Rattle.auction_input.specs.ParsedParts.{only_text}
 use Rattle.auction_input.specs.declared.refusal.Refusal.TheVariants as refusal
 use Rattle.answers.proofs.CommandFacts.{cut-short, no-group, state, winners-refused, winners-written}

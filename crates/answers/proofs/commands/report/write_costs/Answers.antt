@@ -1,8 +1,7 @@
 use Rattle.std.proofs.Common.{List, inr, refl, subst}
 use Rattle.std.specs.Io.KnownBytes.{Appends}
 use Rattle.auction_terms.specs.declared.choices.Choice.{Choice}
-use Rattle.byte_sinks.specs.Sinks.{SentFront}
-use Rattle.byte_sinks.specs.Written.{written_of}
+use Rattle.byte_sinks.specs.Sinks.{SentFront, written_of}
 use Rattle.outcome.specs.Report.{report_text}
 use Rattle.bid_desk.specs.Sale.{sale_of}
 use Rattle.answers.specs.Answer.{output_of}

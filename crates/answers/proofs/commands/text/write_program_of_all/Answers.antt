@@ -5,9 +5,8 @@ use Rattle.auction_terms.specs.Terms.{lots_in}
 use Rattle.bid_desk.specs.Closing.{book_of}
 use Rattle.group_compiler.specs.Compiled.{program_without}
 use Rattle.mps_text.proofs.FaithfulTexts.{presolved_text_is_faithful}
-use Rattle.byte_sinks.specs.Sinks.{SentFront}
+use Rattle.byte_sinks.specs.Sinks.{SentFront, written_of}
 use Rattle.mps_text.specs.Text.{text}
-use Rattle.byte_sinks.specs.Written.{written_of}
 use Rattle.answers.specs.Answer.{output_of}
 use Rattle.auction_input.specs.declared.request.Request.TheVariants as request
 use Rattle.auction_input.specs.Settled.{held}

@@ -1,4 +1,4 @@
-use Rattle.auction_terms.specs.Borrowed.{bytes_of}
+use Rattle.auction_terms.specs.Lines.{bytes_of}
 use Rattle.answers.proofs.ReportFacts.{made-by}
 use Rattle.answers.proofs.report_run.WinningMaker.make.Goals as goal
 

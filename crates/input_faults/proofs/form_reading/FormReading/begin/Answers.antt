@@ -1,5 +1,5 @@
 use Rattle.std.proofs.Common.{◌≡◌, ◌∙◌, ℕ, ap}
-use Rattle.auction_terms.specs.Borrowed.{bytes_of}
+use Rattle.auction_terms.specs.Lines.{bytes_of}
 use Rattle.auction_terms.specs.Records.{records_of}
 use Rattle.bid_forms.specs.RowNumbers.{parsed_eligibility}
 use Rattle.input_faults.specs.TextDetails.{numbered, within_limit}
