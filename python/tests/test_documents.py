@@ -12,9 +12,8 @@ A_COMMAND = re.compile(r"(\./|sed |mkdir |PATH=|apt-get |pip )")
 # what needs a network or another machine, names no file of the tree (`DIR`, `rules.csv`), or runs all tests: test_command.py
 # installs by pip, test_auction.py has Slurm's profile
 NOT_RUN = re.compile(r"apt-get |pip |\./test |\./wdp-office explain rules\.csv |.* DIR ")
-# the reports that the commands of OFFICE leave, of examples; and what it shows whole of the folder `worked`
+# the reports that the commands of OFFICE leave, of examples
 LEFT = {"report.txt": "spectrum", "worked/report.txt": "worked", "cluster/report.txt": "worked"}
-WHOLE = ["input.txt", "programs/1.mps", "solutions/1.txt", "report.txt"]
 
 
 @pytest.fixture
@@ -38,7 +37,7 @@ def clone(tmp_path, wdp):
 
 
 def steps(page):
-    """The commands of a page, each with what is shown of its output, if that is; and the pieces of files that it shows."""
+    """The commands of a page, each with what is shown of its output, if that is; and the files that it shows."""
     commands, pieces = [], []
     for kind, _, text in BLOCK.findall(content(*page.split("/"))):
         if text.startswith("$ "):
@@ -51,29 +50,32 @@ def steps(page):
     return commands, pieces
 
 
+def beside(piece):
+    """The text whose parts are side by side in a piece, more than one space apart."""
+    lines = piece.splitlines()
+    starts = [it.start() for it in re.finditer(r"\S+( \S+)*", lines[0])]
+    places = [slice(*them) for them in zip(starts, [*starts[1:], None])]
+    cells = (line[place].rstrip() for place in places for line in lines)
+    return "".join(f"{cell}\n" for cell in cells if cell)
+
+
 @pytest.mark.parametrize("page, least", [("README.md", 3), ("docs/OFFICE.md", 30)])
 def test_the_commands_of_a_page(clone, page, least):
     folder, run = clone
     commands, pieces = steps(page)
-    texts = []
     for command, wanted in commands:
         status, output = run(command)
-        texts.append(output)
         assert "Traceback" not in output, output
         assert output == wanted if wanted is not None else status == 0, (command, output)
     assert len(commands) >= least
     if page == "docs/OFFICE.md":
         for name, example in LEFT.items():
             assert (folder / name).read_text() == content("examples", f"{example}.report.txt")
-        assert all((folder / "worked" / name).read_text() in pieces for name in WHOLE)
         assert "Optimal - objective value -50" in (folder / "solution.txt").read_text()
-        # (of one example OFFICE shows pieces without a command)
-        run("./wdp-office auction pool --input examples/worked_pool.txt")
-        paths = [
-            it for name in ("worked", "pool", "examples") for it in folder.glob(f"{name}/**/*")
-        ]
-        texts += [it.read_text(errors="replace") for it in paths if it.suffix in (".txt", ".mps")]
-        assert not [piece for piece in pieces if not any(piece in text for text in texts)]
+        assert not pieces
+    else:
+        examples = [content("examples", f"worked{it}.txt") for it in ("", ".report")]
+        assert [beside(piece) for piece in pieces] == examples
 
 
 def test_python(clone):
