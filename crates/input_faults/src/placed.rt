@@ -69,7 +69,7 @@ fn add_other<S: Sink>(writer: &mut Writer<'_, S>, texts: &[Given], refusal: &Ref
         Refusal::AnotherForm(another) => {
             writer.add(b" is in ");
             add_file_name(writer, file_name(texts, another.first_text));
-            writer.add(b"; with --last-wins the later one counts");
+            writer.add(b"; say --last-wins where the later one counts");
         }
         _ => writer.add(b""),
     }

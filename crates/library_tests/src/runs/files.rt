@@ -146,7 +146,7 @@ const ROWS: [Row; 5] = [
         words: &["wdp", "explain", "rules.txt", "gamma.txt", "later.txt"],
         input: b"",
         status: 1,
-        output: b"later.txt: another form of Gamma is in gamma.txt; with --last-wins the later one counts\n",
+        output: b"later.txt: another form of Gamma is in gamma.txt; say --last-wins where the later one counts\n",
         line: b"",
     },
     Row {
@@ -165,7 +165,7 @@ const REFUSED: [Refused; 13] = [
     },
     Refused {
         words: &["wdp", "text", "rules.txt", "gamma.txt", "later.txt"],
-        line: b"wdp: later.txt: another form of Gamma is in gamma.txt; with --last-wins the later one counts\n",
+        line: b"wdp: later.txt: another form of Gamma is in gamma.txt; say --last-wins where the later one counts\n",
     },
     Refused {
         words: &["wdp", "text", "two.txt"],
