@@ -10,7 +10,7 @@ use clap::{Arg, Command};
 use std::alloc::{AllocError, Global};
 
 /// The program's version.
-pub const VERSION: &str = "1.1.0";
+pub const VERSION: &str = "1.2.0";
 
 // What the help says of a command: its name, what it does, and what stands below its options.
 #[derive(Clone, Copy)]

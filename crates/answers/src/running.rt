@@ -62,7 +62,7 @@ pub fn run<R: Threads + Wait + Sync + AllocGlobal, D: Files, I: Read, S: Output,
     // Where std gives no words, memory was short, or one of them isn't UTF-8.
     ensures wordless { IfErr words (λ e. (error_kind e ≡ io_kind.OutOfMemory → result ≡ 1)
         × (error_kind e ≢ io_kind.OutOfMemory → (result ≡ 2)
-        × Puts (codes "wdp: a word of the command isn't UTF-8\n") (F.taken faults.old) (F.taken faults.new)
+        × Puts (codes "wdp: a word is no text\n") (F.taken faults.old) (F.taken faults.new)
         (F.failures faults.old) (F.failures faults.new))) }
 {
     let words = match words {
@@ -83,14 +83,14 @@ fn without_words<F: Sink>(error: &io::Error, faults: &mut F) -> u8
     ensures status { result ≤ 2 }
     ensures refused { result ≡ 1 → Puts (line refusal.OutOfMemory) (F.taken faults.old)
         (F.taken faults.new) (F.failures faults.old) (F.failures faults.new) }
-    ensures reported { result ≡ 2 → Puts (codes "wdp: a word of the command isn't UTF-8\n") (F.taken faults.old)
+    ensures reported { result ≡ 2 → Puts (codes "wdp: a word is no text\n") (F.taken faults.old)
         (F.taken faults.new) (F.failures faults.old) (F.failures faults.new) }
 {
     if error.kind() == io::ErrorKind::OutOfMemory {
         print_refusal(&[], &Refusal::OutOfMemory, faults);
         return 1;
     }
-    put_fault(b"wdp: a word of the command isn't UTF-8\n", faults)
+    put_fault(b"wdp: a word is no text\n", faults)
 }
 
 // Puts what is reported of words that ask for nothing.

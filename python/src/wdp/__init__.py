@@ -10,7 +10,7 @@ from wdp.results import Allocation, Certified, Counts, Group, Prices, Report, So
 from wdp.texts.mps import Matrix, Program
 from wdp.texts.refusals import Missing, NotFound, NotSolved, Refused, Unclear, WrongWords
 
-__version__ = "1.1.0"
+__version__ = "1.2.0"
 __all__ = ["Allocation", "Auction", "Certified", "Counts", "Explained", "Finding", "Group"]
 __all__ += ["Matrix", "Missing", "NotFound", "NotSolved", "Prices", "Program", "Refused"]
 __all__ += ["Report", "Solutions", "Tie", "Unclear", "Winner", "WrongWords"]

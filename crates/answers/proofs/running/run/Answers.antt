@@ -14,7 +14,7 @@ returns-in-Err-clause-outside g c = record {
   succeeded = λ other. (refl, refl);
   refused = λ one. inl (line refusal.OutOfMemory, by_memory refl refl, c.without_words.ensures.refused one);
   unasked = λ two. (ap asked_of c.in-Err.is, refl, refl);
-  reported = λ two. (codes "wdp: a word of the command isn't UTF-8\n", omega arith, c.without_words.ensures.reported two);
+  reported = λ two. (codes "wdp: a word is no text\n", omega arith, c.without_words.ensures.reported two);
 }
 
 pub returns-in-Ok-command_of-clause-outside : goal.returns-in-Ok-command_of-clause-outside
