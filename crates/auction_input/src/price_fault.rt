@@ -12,13 +12,13 @@ use thiserror::Error;
 /// What is wrong with a text of prices or of weights. A place is the number of a line, from 1.
 #[derive(Clone, Copy, Debug, PartialEq, Eq, Error)]
 pub enum PriceFault {
-    /// The line has a wrong number of fields.
+    /// The line hasn't two fields; in weights one field is a scale.
     Fields { place: usize },
-    /// The line names no bidder, and no group of which there may be a number.
+    /// The name isn't a bidder's; in weights it isn't the number of a group either.
     UnknownName { place: usize },
-    /// The line names a bidder that wins nothing.
+    /// The bidder wins nothing in group 1's solution.
     NotWinner { place: usize },
-    /// An earlier line gives a number to the same bidder or group, or is a scale too.
+    /// An earlier line has the same name or number, or is a scale too.
     RepeatedName { place: usize },
     /// The number isn't 1 to 18 digits.
     NumberText { place: usize },
@@ -26,7 +26,7 @@ pub enum PriceFault {
     AboveAmount { place: usize },
     /// The price is below the reserve of the winner's lots.
     BelowReserve { place: usize },
-    /// No line is a scale.
+    /// The weights have no scale.
     NoScale,
     /// Memory was refused.
     OutOfMemory,

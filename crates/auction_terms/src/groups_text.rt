@@ -28,18 +28,19 @@ use std::alloc::{AllocError, Global};
 use std::fmt;
 use thiserror::Error;
 
-/// Why a text is no list of groups. A place is the number of a line, from 1.
+/// Why a text isn't accepted as groups. A place is the number of a line, from 1. Words between backquotes are the cause
+/// that `explain` prints.
 #[derive(Clone, Copy, Debug, PartialEq, Eq, Error)]
 pub enum GroupFault {
-    /// The text has more than `TEXT_LIMIT` bytes.
+    /// The text is above its limit.
     TooLarge,
     /// The line is empty.
     EmptyLine { place: u32 },
-    /// The line names an unknown bidder.
+    /// A name, possibly an empty one, `is no bidder's name`.
     UnknownBidder { place: u32 },
-    /// The line names a bidder twice.
+    /// A name `is in the line already`.
     RepeatedBidder { place: u32 },
-    /// The line is one group too many.
+    /// There are `more than N groups`.
     TooManyGroups { place: u32 },
     /// Memory was refused.
     OutOfMemory,

@@ -24,36 +24,37 @@ use std::alloc::{AllocError, Global};
 use std::fmt;
 use thiserror::Error;
 
-/// Why a text is no form. A place is the number of a record, from 1.
+/// Why a text isn't accepted as a form. A place is the number of a record, from 1. Words between backquotes are the
+/// cause that `explain` prints.
 #[derive(Clone, Copy, PartialEq, Eq, Error)]
 pub enum FormFault {
-    /// The text has more than `TEXT_LIMIT` bytes.
+    /// The text is above its limit.
     TooLarge,
-    /// The first record isn't a bidder and then the categories in order, or there is no record.
+    /// `there is no record`, or `N fields in place of M`, or a field `in place of NAME`, the category's.
     Header { place: u32 },
-    /// The first record names an unknown bidder.
+    /// Field 1 `is no bidder's name`.
     UnknownBidder { place: u32 },
-    /// The record hasn't one field more than there are categories.
+    /// The record has `N fields in place of M`.
     FieldCount { place: u32 },
-    /// The amount isn't 1 to 18 digits.
+    /// Field 1 `isn't 1 to 18 digits`; a space isn't a digit.
     AmountText { place: u32 },
-    /// The amount is outside its limits.
+    /// Field 1 `isn't between L and H`.
     AmountRange { place: u32 },
-    /// The amount is no multiple of the step.
+    /// Field 1 `isn't a multiple of N`, the step.
     AmountStep { place: u32 },
-    /// A quantity isn't 1 to 18 digits.
+    /// A quantity `isn't 1 to 18 digits`.
     QuantityText { place: u32 },
-    /// A quantity is outside its limits.
+    /// A quantity `isn't between L and H`.
     QuantityRange { place: u32 },
-    /// The package has no lot.
+    /// The package has no lot: `each quantity is 0`.
     EmptyPackage { place: u32 },
-    /// The package is over the bidder's eligibility.
+    /// The lots have `N points, above the eligibility of M`.
     OverEligibility { place: u32 },
-    /// The amount is below the reserve.
+    /// Field 1 `is below the reserve of N`, that of the lots.
     BelowReserve { place: u32 },
-    /// The bid of the number `earlier`, from 1, has the same package.
+    /// The package is that of an earlier bid, which is numbered from 1.
     RepeatedPackage { place: u32, earlier: u32 },
-    /// The record is one bid too many.
+    /// There are `more than N bids`.
     TooManyBids { place: u32 },
     /// Memory was refused.
     OutOfMemory,

@@ -11,21 +11,25 @@ use thiserror::Error;
 /// What is wrong with a certificate.
 #[derive(Clone, Copy, Debug, PartialEq, Eq)]
 pub enum CertificateFaultKind {
-    /// A sum may leave 128 bits: a number of it has reached 2^126 or more in size.
+    /// A leaf without faults 3 to 8 has a size of 2^126 or more, and may be refused.
     TooLarge,
-    /// The text goes on after the certificate.
+    /// The line comes after the end of the tree.
     Beyond,
-    /// An unknown word, or a wrong number of fields.
+    /// The word is neither `split` nor `bound`; or there is no number after it, for a split above, or after a name.
     Fields,
+    /// The field isn't a whole number.
     NumberText,
+    /// The number is beyond the limits of numbers.
     NumberRange,
+    /// The program has no such column.
     UnknownColumn,
+    /// The program has no such row; the objective isn't one.
     UnknownRow,
-    /// A scale or multiplier of the wrong sign.
+    /// A scale, or a multiplier of a split or row, has the wrong sign.
     Sign,
-    /// A leaf doesn't show the bound.
+    /// A leaf doesn't show the bound: the certificate is wrong or another program's, or the solution isn't optimal.
     NotShown,
-    /// The text ends too early.
+    /// The text ends before the tree; the line is the last one.
     NoEnd,
     OutOfMemory,
 }

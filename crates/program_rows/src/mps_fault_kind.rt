@@ -1,49 +1,51 @@
 /// What can be wrong with an MPS text that is read, in the order in which faults are numbered from 1.
 #[derive(Clone, Copy, Debug, PartialEq, Eq)]
 pub enum MpsFaultKind {
-    /// The text is longer than is read.
+    /// The text is above its limit.
     TooLarge,
-    /// A byte that no line but a comment may have.
+    /// A byte outside comments is neither a tab nor printable ASCII.
     NotText,
-    /// A word that heads no section, a section after one that has to follow it, or data outside a section that takes data.
+    /// A section is unknown, comes twice or out of order; or data come before the first section or under `NAME`.
     Section,
-    /// A section that is known, and not read.
+    /// The section is `RANGES`, `SOS`, `SOS1`, `SOS2`, `QUADOBJ`, `QMATRIX`, `QSECTION`, `QCMATRIX` or `INDICATORS`, in
+    /// any place.
     SectionLeftOut,
-    /// A wrong number of fields.
+    /// The number of fields is wrong, or the sense is unknown.
     Fields,
-    /// A row that is neither `N`, `L`, `G` nor `E`.
+    /// The type is neither `N`, `L`, `G` nor `E`.
     RowType,
-    /// A row that was declared before.
+    /// An earlier line declares the row.
     RowRepeated,
-    /// No `N` row was declared.
+    /// There is no `N` row; at the section after `ROWS`.
     NoObjective,
-    /// A row that was not declared.
+    /// `ROWS` doesn't declare the row.
     UnknownRow,
-    /// A column that was named before, and not in the line before.
+    /// A marker or another column comes between the lines of the column.
     ColumnSplit,
-    /// A column and row, or a row's right side, that stood before.
+    /// A second entry of a column and row, or right side of a row, even in one line, even of 0.
     EntryRepeated,
-    /// A token that is no number.
+    /// The field isn't a number.
     NumberText,
-    /// A number that isn't whole.
+    /// The number isn't whole.
     NotWhole,
-    /// A number that has too many digits, or is beyond 10^18 in size.
+    /// The number has too many digits, an exponent beyond its limits, or is beyond 10^18 in size.
     NumberRange,
-    /// A marker line that is not made as markers are, or opens what is open, or ends what is not.
+    /// The markers aren't `NAME 'MARKER' 'INTORG'` and `NAME 'MARKER' 'INTEND'` in turn.
     Marker,
-    /// A bound on a column that was not named.
+    /// The bound is of a column that isn't under `COLUMNS`.
     UnknownColumn,
-    /// A bound that is neither `UP`, `LO`, `FX` nor `BV`.
+    /// The type is neither `UP`, `LO`, `FX` nor `BV`.
     BoundType,
-    /// A bound that is neither 0 nor 1.
+    /// The bound is neither 0 nor 1.
     BoundValue,
-    /// A right side of the objective that isn't 0.
+    /// The objective's right side isn't 0.
     ObjectiveConstant,
-    /// An objective that is to be maximised.
+    /// The sense is `MAX` or `MAXIMIZE`.
     SenseMax,
-    /// The text ends without `ENDATA`.
+    /// There is no `ENDATA`; the line is the last one.
     NoEnd,
-    /// The first column that isn't an integer from 0 or 1 to 0 or 1, by its place from 0.
+    /// The first column that isn't integer, has no upper bound, or has a lower bound above its upper one, numbered from
+    /// 0; at `ENDATA`.
     NotBinary { column: usize },
     /// Memory was refused.
     OutOfMemory,

@@ -13,21 +13,22 @@ use thiserror::Error;
 /// Why a solution is no point of its program. A place is the number of a line, from 1; columns and rows go by their places from 0.
 #[derive(Clone, Copy, Debug, PartialEq, Eq, Error)]
 pub enum SolutionFault {
-    /// The text has more than `SOLUTION_LIMIT` bytes.
+    /// The text is above its limit.
     TooLarge,
     /// The line hasn't two fields.
     Fields { place: usize },
-    /// The line names an unknown column.
+    /// The program has no such column: there is no such bid, or it is left out; or there is no `K`.
     UnknownColumn { place: usize },
-    /// The line names a column that stood before.
+    /// An earlier line names the column.
     RepeatedColumn { place: usize },
-    /// The value is no number.
+    /// The value isn't a number, or is beyond the limits of digits and exponents.
     ValueText { place: usize },
-    /// The value is neither 0 nor 1.
+    /// The value is more than 1/100,000 from 0 and from 1.
     NotZeroOne { place: usize },
-    /// The first column that isn't within its bounds.
+    /// A fixed column has its other value: `K` is 0, or isn't named. The place is `at column NAME`.
     BoundBroken { column: usize },
-    /// The first row that isn't met.
+    /// The first row that is broken: a bidder with two bids (`B..`), a category above its supply (`C..`), a pool above
+    /// its cap (`P..`). The place is `at row NAME`.
     RowBroken { row: usize },
     /// Memory was refused.
     OutOfMemory,
