@@ -10,7 +10,15 @@ from trials.program import ROOT
 
 # a fault's number and name, in a string of a source and in the line that refuses a text
 NUMBERED = re.compile(r'(?:"|: )([0-9]+ ([A-Z][A-Za-z]+))')
-VARIANT = re.compile(r"^((?: +/// .*\n)+) +([A-Z]\w+)(?: \{[^}]*\})?,$", re.MULTILINE)
+VARIANT = re.compile(r"((?: +/// .*\n)+) +([A-Z]\w+)")
+MESSAGE = re.compile(r"FileFault::(?!OutOfMemory)(\w+)\S* => \[(.*?)\]", re.DOTALL)
+
+
+def docs_of(source: str) -> dict[str, str]:
+    """The doc comment of each variant that has one."""
+    return {
+        name: " ".join(doc.replace("///", " ").split()) for doc, name in VARIANT.findall(source)
+    }
 
 
 class Section(NamedTuple):
@@ -28,8 +36,8 @@ class Section(NamedTuple):
     def meanings(self) -> dict[str, str]:
         """The doc comment of each fault of the sources, by number and name; empty if it has none."""
         source = "".join(path.read_text() for path in Path(ROOT, "crates").glob(self.sources))
-        docs = {name: doc.replace("///", " ").split() for doc, name in VARIANT.findall(source)}
-        return {fault: " ".join(docs.get(name, [])) for fault, name in NUMBERED.findall(source)}
+        docs = docs_of(source)
+        return {fault: docs.get(name, "") for fault, name in NUMBERED.findall(source)}
 
     def shown(self) -> str:
         """The rows as docs/REFERENCE.md shows them: those of the sources' faults in a table, the others in a list before it."""
@@ -53,3 +61,13 @@ def sections() -> list[Section]:
         name, sources, command, *texts = head.split(" | ")
         found.append(Section(name, sources, command, texts, rows))
     return found
+
+
+def of_files() -> str:
+    """What is said of a file that isn't read or written, and why, as docs/REFERENCE.md shows it."""
+    source = Path(ROOT, "crates", "auction_input", "src", "files.rt").read_text()
+    docs, lines = docs_of(source), ["\n| Message | Cause |", "|---|---|"]
+    for name, words in MESSAGE.findall(source.replace("kind.words()", '"KIND"')):
+        message = "".join(re.findall(r'"(.*?)"', words)).strip()
+        lines.append(f"| `{message}` | {docs[name]} |")
+    return "\n".join(lines) + "\n\n"

@@ -19,21 +19,27 @@ pub enum FileKind {
 /// Why a file isn't read, or not written.
 #[derive(Clone, Copy, Debug, PartialEq, Eq)]
 pub enum FileFault {
+    /// There is no such file, or no folder for a new one.
     NotFound,
+    /// The system denies access to the file, or to the folder of a new one.
     Denied,
+    /// The file can't be opened for another reason.
     Unopened,
+    /// A read failed.
     ReadFailed,
-    /// What isn't a file isn't read.
+    /// What is to be read isn't a file.
     NotRead(FileKind),
-    /// What isn't a file isn't replaced by one.
+    /// What is to be written isn't a file.
     NotReplaced(FileKind),
+    /// The file that is to be written may not be changed.
     ReadOnly,
+    /// The file can't be written for another reason.
     Unwritten,
-    /// One of several files without a byte.
+    /// One of several files has no byte.
     Empty,
-    /// One of several files whose last line has no end, though another follows.
+    /// One of several files, before the last, has a last line without an end.
     NoLineEnd,
-    /// It is the file at that place, from 0, of those that are read.
+    /// The file comes earlier among those that are read, at that place from 0: its name there follows.
     ReadAlready(usize),
     /// The file that is to be written is one of those that are read.
     ReadToo,
