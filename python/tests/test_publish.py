@@ -41,10 +41,8 @@ class Page:
         assert len(pieces[::2]) == len(set(pieces[::2]))
         self.texts, self.tables = dict(zip(pieces[::2], map(plain, pieces[1::2]))), {}
         for name, table in re.findall(r'<table id="table-(\w+)">(.*?)</table>', text, re.S):
-            cells = [CELL.findall(row) for row in table.split("<tr")[1:]]
-            self.tables[name] = [
-                [(tag, its, plain(cell)) for tag, its, cell in row] for row in cells
-            ]
+            found = [CELL.findall(row) for row in table.split("<tr")[1:]]
+            self.tables[name] = [[(*kind, plain(cell)) for *kind, cell in row] for row in found]
 
     def rows(self, table):
         return [[text for _, _, text in row] for row in self.tables.get(table, ())]
@@ -69,7 +67,7 @@ class Desk:
     def page(self, *given, **more):
         seen = self.results(*given, **more)
         assert seen.status == 0, seen.err
-        assert not list(SCHEMA.iter_errors(self.json()))
+        SCHEMA.validate(self.json())
         return Page(self.text())
 
     def audited(self, audit, *words):
@@ -83,12 +81,6 @@ class Desk:
 
     def table(self, name):
         return list(csv.DictReader((self.out / f"{name}.csv").read_text().splitlines()))
-
-    def refused(self, *given, **more):
-        seen = self.results(*given, **more)
-        stopped(seen)
-        assert seen.err.count("\n") == 1 and not self.out.exists()
-        return seen.err
 
 
 @pytest.fixture
@@ -283,24 +275,17 @@ def test_a_full_disk(desk):
     assert {name: (desk.out / name).read_bytes() for name in os.listdir(desk.out)} == before
 
 
-def objects(value):
-    """Each object within a value of JSON."""
-    inner = value.values() if isinstance(value, dict) else value if isinstance(value, list) else ()
-    own = [value] if isinstance(value, dict) else []
-    return own + [each for it in inner for each in objects(it)]
-
-
 def test_the_schema_takes_each_field_of_its_kind_and_no_others():
     jsonschema.Draft202012Validator.check_schema(SCHEMA.schema)
-    listed = [each for each in objects(SCHEMA.schema) if "properties" in each]
+    text, objects = content("docs", "results.schema.json"), []
+    json.loads(text, object_hook=lambda each: objects.append(each) or each)
+    listed = [each for each in objects if "properties" in each]
     # (numbers are whole ones)
-    assert len(listed) == 10 and '"type": "number"' not in json.dumps(SCHEMA.schema)
+    assert len(listed) == 10 and '"type": "number"' not in text
     for each in listed:
-        fields, has_others = each["properties"], each["additionalProperties"]
-        assert (each["required"], has_others) == (list(fields), False)
-        assert all(
-            {"$ref", "anyOf", "enum", "type"} & set(field) for field in fields.values()
-        ), each
+        fields = each["properties"]
+        assert (each["required"], each["additionalProperties"]) == (list(fields), False)
+        assert all({"$ref", "anyOf", "enum", "type"} & set(it) for it in fields.values()), each
 
 
 def test_a_folder_that_cannot_be_replaced_stays(tmp_path, monkeypatch):
@@ -348,17 +333,14 @@ def measured(pages, folder):
 @pytest.fixture(scope="module")
 def found(tmp_path_factory):
     """What the browser finds of each page in each width; on paper by the rules for paper in the place of those for screens."""
-    framed = {}
+    # the widest that the format has: 32 categories, names of 16 letters, amounts of 13 digits; and each bidder pays the value of
+    # its lots, so that every group binds
+    audited = {"tie": (TIE, TIE_REPORT, TIED), "long": of_audit("long.txt")}
+    framed, long_name = {}, f"Bidder{0:010},{'Incorporated' * 8}\n"
     for name in FRAMED:
-        desk = Desk(tmp_path_factory.mktemp(name))
-        given, words = {"tie": (TIE, TIE_REPORT, TIED)}.get(name), ["--currency", "GBP"]
-        if name == "long":
-            # the widest that the format has: 32 categories, names of 16 letters, amounts of 13 digits; and each bidder pays the
-            # value of its lots, so that every group binds
-            given = of_audit("long.txt")
-            text = f"Bidder{0:010},{'Incorporated' * 8}\n"
-            words += ["--names", desk.write("names.csv", text)]
-        data, report, audit = given or (*of_example(name), None)
+        desk, words = Desk(tmp_path_factory.mktemp(name)), ["--currency", "GBP"]
+        words += ["--names", desk.write("names.csv", long_name)] if name == "long" else []
+        data, report, audit = audited.get(name) or (*of_example(name), None)
         desk.page(data, report, *words, audit=audit)
         framed.update((f"{name} {kind}", desk.text()) for kind in KINDS)
         printed = desk.text().replace("@media print {", "@media all {")
