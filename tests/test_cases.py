@@ -1,22 +1,24 @@
 """The program gives what each case of cases/ says, and what fixtures/faults.txt and fixtures/solvers do: status, output and standard
 error, byte for byte.
 
-A row of faults is a change to an accepted text, and the line that refuses it; tools/pages puts it into docs/REFERENCE.md. If it is
-of rules, forms or groups, `explain` prints it first, followed by its field or name and the cause. The texts of
-solvers were written back from ours (commands.txt there says how), and answers.txt has what `wdp check` answers.
+A row of faults is a change to an accepted text, and the line that refuses it, in which the package finds its pieces; tools/pages
+puts it into docs/REFERENCE.md. If it is of rules, forms or groups, `explain` prints it first, followed by its field or name and the
+cause. The texts of solvers were written back from ours (commands.txt there says how), and answers.txt has what `wdp check` answers.
 """
 
 import re
-from pathlib import Path
 
 import pytest
-from trials import cases, details, faults
+from commands import ROOT
+from trials import cases, faults
+from trials.details import NUMBERED, is_line_of
 from trials.judging import done, refused, seen
-from trials.program import ROOT
+from wdp import Refused
 
 CHANGE = re.compile(r"`([^`]+)` → `([^`]*)`: `wdp: ([^`]+)`")
-NUMBERED = re.compile(r"(rules|form|groups)(?: [0-9]+)?: ([0-9]+) ")
-TEXTS = Path(ROOT, "fixtures", "solvers")
+# a refusal's part with its number, and the fault's number and name
+PIECES = re.compile(r"(\w+)(?: ([0-9]+))?: ([0-9]+ [A-Z]\w+)?")
+TEXTS = ROOT / "fixtures/solvers"
 ANSWERS = dict(line.split(": ", 1) for line in (TEXTS / "answers.txt").read_text().splitlines())
 
 
@@ -46,9 +48,12 @@ def changes():
 @pytest.mark.parametrize("words, text, line", changes())
 def test_example_of_a_fault(wdp, words, text, line):
     assert seen(wdp, words, text) == refused(line)
-    if of_part := NUMBERED.match(line):
+    pieces = Refused(f"wdp: {line}")
+    part, number, fault = PIECES.match(line).groups()
+    assert (pieces.text, pieces.part) == (f"wdp: {line}", part)
+    assert number in (None, str(pieces.number))
+    assert fault in (None, f"{pieces.kind_number} {pieces.kind}")
+    if NUMBERED.match(line):
         status, output, said = seen(wdp, ["explain"], text)
-        behind = details.PARTS[of_part[1]][int(of_part[2])]
         assert (status, said) == (1, b"")
-        first = output.decode(errors="replace").split("\n")[0]
-        assert re.fullmatch(re.escape(line) + behind, first)
+        assert is_line_of(output.decode(errors="replace").split("\n")[0], line)

@@ -1,8 +1,7 @@
 """`wdp explain` where every fault of an input is known, or the first one.
 
-The first line is the refusal: of cases, and of damaged inputs. Where faults are planted into an auction, the lines are those that
-were planted, each once and in order. What is to be told stands in tables here, made by hand from the formats. Of auctions without
-a fault the lines of `explain --bids` are those that comparing all bids finds.
+The first line is the refusal: of cases, and of damaged inputs. If faults are planted into an auction, the lines are those that were
+planted, each once and in order. Of auctions without a fault the lines of `explain --bids` are those that comparing all bids finds.
 """
 
 import itertools
@@ -13,7 +12,8 @@ from collections import Counter
 import pytest
 from damage import ACCEPTED, damaged_input
 from tied_auctions import input_text, random_auction
-from trials import cases, details, left_out
+from trials import cases, left_out
+from trials.details import is_line_of
 from trials.judging import row, seen
 from trials.planted import BID_PLANTS, GROUP_PLANTS, MOST_LINES, RULES, Planted
 from trials.worked import ALPHA, auction, rules_and
@@ -33,7 +33,6 @@ OF_AUCTIONS = re.compile("rules: |form |groups: (?!no group|group 1 )")
 
 
 def heads(text):
-    """The lines that head parts."""
     return [line.removesuffix(b"\r") for line in re.findall(rb"^%[^\n]*", text, re.MULTILINE)]
 
 
@@ -48,14 +47,6 @@ def fault_of_parts(text):
     if names.count(b"%rules") != 1:
         return "input: wrong number of rules"
     return "input: wrong number of groups" if names.count(b"%groups") > 1 else ""
-
-
-def is_line_of(line, refusal):
-    """Whether a line is what is told as this refusal, with what its kind of fault has behind it."""
-    kind = re.match(r"(rules|form|groups)(?: \d+)?: (\d+) ", refusal)
-    of_input = details.INPUT.get(refusal.removeprefix("input: "), "")
-    behind = details.PARTS[kind[1]][int(kind[2])] if kind else of_input
-    return bool(re.fullmatch(re.escape(refusal) + behind, line))
 
 
 def line_of(said):
@@ -116,12 +107,6 @@ def test_case(wdp, case):
     refusal = line_of(said) if OF_AUCTIONS.match(line_of(said)) else fault_of_parts(text)
     is_explained = status == 1 and not said
     expect_first(wdp, text, refusal_of(wdp, text) if is_explained else refusal)
-
-
-def test_enough_cases_are_refused_for_each():
-    kinds = Counter(re.split("[: ]", line_of(cases.wanted(it)[2]))[0] for it in cases.names())
-    least = {"rules": 60, "form": 15, "groups": 10, "input": 15}
-    assert [kind for kind in least if kinds[kind] < least[kind]] == []
 
 
 @pytest.mark.parametrize("first", range(0, 700, DAMAGES))

@@ -1,5 +1,7 @@
 """What `wdp explain` tells behind a refusal: the field or name, what stands there, and what was wanted, as the formats have it."""
 
+import re
+
 # so many bytes of a field are shown
 SHOWN = 40
 SHOWN_BYTE = r"(?:[ -&(-\[\]-~]|\\['\\]|\\x[0-9a-f]{2})"
@@ -62,6 +64,15 @@ INPUT = {
     "wrong number of groups": ": (?:[2-9]|[1-9][0-9]+) groups in place of 1 at most",
 }
 PARTS = {"rules": RULES, "form": FORM, "groups": GROUPS}
+NUMBERED = re.compile(r"(rules|form|groups)(?: [0-9]+)?: ([0-9]+) ")
+
+
+def is_line_of(line, refusal):
+    """Whether `explain` may print this line for this refusal: the same words, then the details of its fault."""
+    numbered = NUMBERED.match(refusal)
+    of_input = INPUT.get(refusal.removeprefix("input: "), "")
+    detail = PARTS[numbered[1]][int(numbered[2])] if numbered else of_input
+    return bool(re.fullmatch(re.escape(refusal) + detail, line))
 
 
 def shown(text):
