@@ -1,6 +1,7 @@
 """The tree, the commands of wdp-office in this process or in one of their own, and folders as offices and auctions have them."""
 import contextlib
 import io
+import json
 import os
 import re
 import resource
@@ -12,10 +13,14 @@ import time
 from collections import namedtuple
 from pathlib import Path
 
+import jsonschema
+
 from wdp import cli
 
 ROOT = Path(__file__).resolve().parents[2]
 EXAMPLES = ROOT / "examples"
+# the examples that have their reports beside them
+REPORTED = sorted(path.name.split(".")[0] for path in EXAMPLES.glob("*.report.txt"))
 WORKED = (EXAMPLES / "worked.txt").read_bytes()
 # a line break that begins a forged line, a terminal's escape, and marks that turn the direction
 EVIL = "x\ntotal 1\x1b[2K\r\u202e"
@@ -38,8 +43,16 @@ def is_in(pattern, text):
 
 
 def content(*names):
-    """A text of the tree."""
     return ROOT.joinpath(*names).read_bytes().decode()
+
+
+SCHEMA = jsonschema.Draft202012Validator(json.loads(content("docs", "results.schema.json")))
+
+
+def files_below(folder):
+    """The paths below a folder of all that is no folder, but of Python's compiled modules."""
+    found = (path for path in folder.rglob("*") if path.is_symlink() or not path.is_dir())
+    return {str(it.relative_to(folder)) for it in found if it.parent.name != "__pycache__"}
 
 
 def environment(**more):
@@ -48,7 +61,6 @@ def environment(**more):
 
 
 def without(library, folder):
-    """How a command is started that doesn't find this library."""
     (folder / f"{library}.py").write_text("raise ImportError\n")
     return {"env": environment(PYTHONPATH=f"{folder}:{ROOT}/python/src")}
 
@@ -96,12 +108,10 @@ def stopped(seen, *parts, status=1):
 
 
 def output(wdp, command, data):
-    """What the program prints."""
     return subprocess.run([wdp, command], input=data, capture_output=True, check=True).stdout
 
 
 def script(path, text):
-    """A program that is this shell script."""
     path.write_text("#!/bin/sh\n" + text + "\n")
     path.chmod(0o755)
     return path
@@ -144,7 +154,7 @@ class Auction:
 
     def __init__(self, where, wdp, data=WORKED):
         self.where, self.wdp = where, wdp
-        self.mark = f"AUCTION_OF={os.getpid()}.{time.monotonic()}"
+        self.mark = f"an auction of {os.getpid()} at {time.monotonic()}"
         where.mkdir()
         self.put("input.txt", data)
 
@@ -158,7 +168,7 @@ class Auction:
         return (self.where / name).read_bytes()
 
     def surroundings(self, **more):
-        return {**environment(WDP=self.wdp, **more), **dict([self.mark.split("=")])}
+        return environment(WDP=self.wdp, STARTED_BY=self.mark, **more)
 
     def start(self, *words, folder=True, stdin=subprocess.DEVNULL, stderr=subprocess.PIPE, **more):
         place = [self.where] if folder else []
@@ -166,7 +176,6 @@ class Auction:
         return start(command, stdin=stdin, stderr=stderr, env=self.surroundings(**more))
 
     def run(self, *words, data=None, **how):
-        """The status, the output and the messages of a run."""
         seen = ended(self.start(*words, stdin=subprocess.PIPE, **how), data)
         assert running(self.mark) == []
         return seen
@@ -184,10 +193,6 @@ class Auction:
 BIDDERS = ["Ant", "Bee", "Cat", "Dove", "Eel", "Fox", "Gnat", "Heron", "Ibis"]
 OFFICE = ROOT / "fixtures/office/folder"
 BY_HAND = (OFFICE / "joined.txt").read_text()
-
-
-def form(name, *bids):
-    return "".join(line + "\n" for line in [f"{name},Low,High", *bids])
 
 
 class Office:
@@ -213,12 +218,6 @@ class Office:
 
     def explain(self, *words):
         return run("explain", *self.files, *words).out.splitlines()
-
-    def said(self, *words):
-        """What gather prints on standard error if nothing is wrong, without the folder's path."""
-        seen = self.gather(*words)
-        assert (seen.status, seen.out[:6]) == (0, "%rules"), seen.err
-        return seen.err.replace(f"{self.folder}/", "")
 
     def refused(self, *words):
         """The lines of the faults, without the folder's path; the same of gather and of explain."""

@@ -22,7 +22,6 @@ def auction(tmp_path, wdp):
 
 @pytest.fixture(scope="session")
 def whole(tmp_path_factory, wdp):
-    """What a whole run leaves."""
     auction = Auction(tmp_path_factory.mktemp("whole") / "auction", wdp)
     auction.said("--ties")
     return auction
@@ -31,5 +30,5 @@ def whole(tmp_path_factory, wdp):
 @pytest.fixture
 def mark(monkeypatch):
     """What the processes that a test starts have in their surroundings."""
-    monkeypatch.setenv("STARTED_BY", f"{os.getpid()}.{time.monotonic()}")
-    return f"STARTED_BY={os.environ['STARTED_BY']}"
+    monkeypatch.setenv("STARTED_BY", f"a test of {os.getpid()} at {time.monotonic()}")
+    return os.environ["STARTED_BY"]

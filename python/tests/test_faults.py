@@ -9,7 +9,7 @@ import shutil
 import subprocess
 
 import pytest
-from commands import EVIL, EXAMPLES, ROOT, content, form, rows, run, script, stopped
+from commands import EVIL, EXAMPLES, ROOT, content, rows, run, script, stopped
 from damage import ACCEPTED, damaged_input
 
 from wdp import files
@@ -23,7 +23,6 @@ from wdp.texts.tables import Records, written
 DAMAGES = int(os.environ.get("DAMAGES", "60"))
 AFTER = "the forms and groups are read once the parts and the rules are right"
 NAME = EVIL + "\udcff Heron.csv"
-SHOWN = "x\\ntotal 1\\x1b[2K\\r\\u202e\\udcff Heron.csv"
 # a fault of a value that is quoted; a line of the program, and how it comes after a fault; rows that are alike have one
 QUOTED = re.compile(r"(?P<path>.*?):(?P<line>[0-9]+):(?P<column>[0-9]+): '(?P<value>[^'\\]*)' ")
 OF_PROGRAM = re.compile(r"(?m)^((?:rules|groups|form \d+): \d+ \w+(?: at \w+ \d+)?)")
@@ -31,18 +30,13 @@ IN_BRACKETS = re.compile(r"\(wdp: (.*?)(?:, earlier bid \d+)?\)$")
 ALIKE = re.compile("nothing but zeros|s between (its|their) fields|more faults")
 
 
-@pytest.fixture
-def explain(tmp_path):
-    """What explain prints of one input, without its path."""
-
-    def explained(text, *words):
-        path = tmp_path / "input.txt"
-        path.write_bytes(text if isinstance(text, bytes) else text.encode())
-        seen = run("explain", path, *words)
-        assert seen.err == ""
-        return seen.out.replace(str(path), "").splitlines()
-
-    return explained
+def lines_of(folder, text):
+    """What explain prints of an input, without its path."""
+    path = folder / "input.txt"
+    path.write_bytes(text)
+    seen = run("explain", path)
+    assert seen.err == ""
+    return seen.out.replace(str(path), "").splitlines()
 
 
 def by_hand(name):
@@ -54,17 +48,17 @@ def by_hand(name):
             faults.append(f":{text.count(chr(10))}{line[4:]}")
         else:
             text += line.replace("␍", "\r").replace("⌂", "\ufeff") + "\n"
-    return text, faults
+    return text.encode(), faults
 
 
-def test_each_fault_of_an_input(explain):
+def test_each_fault_of_an_input(tmp_path):
     text, faults = by_hand("by_hand.txt")
     # forms come before groups, which are in lines 1 to 5
     wanted = sorted(faults, key=lambda line: int(line.split(":")[1]) < 6)
-    assert explain(text) == [*wanted, f"{len(wanted)} faults"]
+    assert lines_of(tmp_path, text) == [*wanted, f"{len(wanted)} faults"]
     text, faults = by_hand("rules_by_hand.txt")
-    for each in (text, "%rules\n" + text[7:].replace("\n", "\r")):
-        assert explain(each) == [*faults, AFTER, f"{len(faults)} faults"]
+    for each in (text, b"%rules\n" + text[7:].replace(b"\n", b"\r")):
+        assert lines_of(tmp_path, each) == [*faults, AFTER, f"{len(faults)} faults"]
 
 
 def assert_in_place(line, texts):
@@ -78,11 +72,11 @@ def assert_in_place(line, texts):
 
 
 @pytest.mark.parametrize("version", range(len(ACCEPTED)))
-def test_damaged_inputs(explain, wdp, version):
+def test_damaged_inputs(tmp_path, wdp, version):
     """Each of the program's lines comes out once, unless rows are alike, and at its place."""
     for seed in range(DAMAGES):
         text = damaged_input(ACCEPTED[version], seed)
-        *lines, _ = explain(text)
+        *lines, _ = lines_of(tmp_path, text)
         done = subprocess.run([wdp, "explain"], input=text, capture_output=True)
         found = OF_PROGRAM.findall(done.stdout.decode("ascii"))
         said = [refusal for line in lines for refusal in IN_BRACKETS.findall(line)]
@@ -105,22 +99,6 @@ def test_each_fault_of_each_file(office):
     faults = f"2:9: '1,5' isn't 1 to 18 digits: {comma}", f"4:23: '' isn't 1 to 18 digits: {empty}"
     assert office.explain() == [*(f"{office.rules}:{it}" for it in faults), AFTER, "2 faults"]
     stopped(office.gather(), *faults)
-
-
-def test_cells_forge_no_line(office):
-    for row in ('"50\n00\x1b",1,1', 'x,"1\u202e\n\n",1', "1,2\x1b,\x9b3,4"):
-        office.write("forms/Fox.csv", form("Fox", row))
-        for line in office.refused():
-            assert line.isprintable() and line.startswith("forms/Fox.csv:2:"), line
-    office.write("forms/Fox.csv", "Fox," + '"a\nb\x1b",' * 900 + "\n")
-    (line,) = office.refused()
-    assert line.isprintable() and len(line) < 2_000
-
-
-def test_a_hundred_faults_of_a_file_are_printed(office):
-    office.write("forms/Fox.csv", form("Fox", *["x,1,1"] * 150))
-    lines = office.refused()
-    assert (len(lines), lines[-1]) == (101, "forms/Fox.csv: 50 more faults in this file")
 
 
 NAMES = (
@@ -191,22 +169,13 @@ def test_a_file_that_becomes_a_pipe_or_grows_while_it_is_read(tmp_path, monkeypa
 
 
 def test_a_line_break_in_a_name_forges_no_line(office):
-    before, heron = office.said().count("\n"), office.forms / NAME
-    (office.forms / "Heron.csv").rename(heron)
-    office.write("forms/." + NAME, b"")
-    said = office.said()
-    assert said.count("\n") == before + 1 and all(map(str.isprintable, said.splitlines()))
-    assert f"Heron: forms/{SHOWN}, 3 bids" in said and "not read: ." + SHOWN in said
-    heron.write_bytes(b"Heron,Low,High\n1,2\n")
-    os.mkfifo(office.forms / ("pipe" + NAME))
-    lines = office.refused()
-    assert all(map(str.isprintable, lines)) and any("it is a pipe" in line for line in lines)
+    """(runs.txt has such names in a folder.)"""
     evil, files = office.folder / NAME, office.files
     given = [evil, *files[1:]], [files[0], evil, files[2]], [*files, "--output", evil / "none"]
     for words in (*given, [*files, "--allow-missing", NAME], []):
         seen = run(*(["gather", *words] if words else ["explain", evil]))
         said = seen.out + seen.err
-        assert seen.status in (1, 2) and SHOWN[:12] in said
+        assert seen.status in (1, 2) and "x\\ntotal 1\\x1b" in said
         assert all(map(str.isprintable, said.split("\n")))
 
 
@@ -248,11 +217,8 @@ def test_records_and_what_is_written_is_read_back():
     assert [row.values for row in Records(" a , b")] == [[" a ", " b"]]
     draw = random.Random(5)
     for _ in range(2_000):
-        row = [
-            "x",
-            *("".join(draw.choices('ab,;"%\r\n\t \ufeff', k=size)) for size in (0, 1, 2, 4)),
-        ]
-        row = draw.sample(row, draw.randrange(1, 6))
+        fields = ["".join(draw.choices('ab,;"%\r\n\t \ufeff', k=size)) for size in (0, 1, 2, 4)]
+        row = draw.sample(["x", *fields], draw.randrange(1, 6))
         assert [each.values for each in Records(written(row))] == [row]
     # neither a head of a part, nor a mark that is dropped
     assert written(["%form", "\ufeffFox"]) == '"%form","\ufeffFox"\n'

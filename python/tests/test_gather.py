@@ -1,14 +1,13 @@
 """An office's files joined into one input, and the receipt. (test_runs.py has what is asked of the office, and what is refused.)"""
 import os
 import re
-import shutil
 import zipfile
 from datetime import date
 from pathlib import Path
 
 import openpyxl
 import pytest
-from commands import BIDDERS, BY_HAND, form, run, small_files, stopped, without
+from commands import BIDDERS, BY_HAND, small_files, stopped, without
 
 from wdp.office.versions import words_of
 
@@ -31,18 +30,7 @@ def test_nine_exports_join_to_the_text_made_by_hand(office):
         assert joined.split("%groups\n")[1].split() == ["-", *groups]
 
 
-def test_blank_forms(office):
-    for words, ending in (([], ".csv"), (["--workbooks"], ".xlsx")):
-        assert run("form", office.rules, "--output", office.folder / "blank", *words).status == 0
-        assert sorted(os.listdir(office.folder / "blank")) == [name + ending for name in BIDDERS]
-        shutil.rmtree(office.folder / "blank")
-
-
-def test_the_last_form_counts_and_times_have_no_last_year(office):
-    (office.forms / "Heron.csv").rename(office.forms / "Heron-9.csv")
-    office.write("forms/Heron-10.csv", form("Heron", "4100,1,1"))
-    joined = office.gather("--last-wins", "name").out
-    assert "%form\nHeron,Low,High\n4100,1,1\n%form\n" in joined
+def test_times_have_no_last_year():
     # (no file system here has such times; 400 years have 146,097 days)
     assert words_of(21 * 146_097 * 86_400 * 10**9) == "10370-01-01 00:00:00.000000000"
     assert words_of(10**40) == f"{10**31} s after 1970-01-01.000000000"

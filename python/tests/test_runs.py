@@ -24,7 +24,7 @@ def test_run(office, monkeypatch, mark, change, words, status, said):
     given, before = shlex.split(words.replace("@", "rules.csv forms groups.txt")), office.there()
     seen = run(*given)
     assert seen.status == int(status) and is_in(said, "^" + (seen.err or seen.out)), seen
-    assert office.there() == before
+    assert office.there() == before and all(map(str.isprintable, seen.err.splitlines()))
     wait_for(lambda: not running(mark), 30)
     if seen.status:
         # (what explain is asked for are faults)
