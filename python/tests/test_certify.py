@@ -1,27 +1,25 @@
-"""Certificates: what is optimal gets one that the oracle accepts, a better point is found, and so is a tie; and reading programs.
+"""Certificates: what is optimal gets one that the oracle accepts, a better point is found, and so is a tie; reading programs; and
+the points of cbc and HiGHS. (runs.txt has other solvers by a command, and such as lie, test_auction.py what they start.)
 
 tests/test_verify.py holds the oracle beside the proved program.
 """
 import itertools
 import random
+import re
+import subprocess
 
 import pytest
-from commands import content, run, without
+from commands import content, rows, run, script, without
 from damage import OF_CERTIFICATE, damaged
 from oracle import Checker
+from tied_auctions import subsets
 
+from wdp import solve
 from wdp.certify.layout import Layout
 from wdp.certify.search import Beaten, LimitReached, OnlySearch, Search
-from wdp.texts.refusals import Refused
+from wdp.texts.refusals import NotSolved, Refused
 from wdp.texts.solution import read_solution
 from wdp.texts.zero_one import AT_LEAST, AT_MOST, EQUAL, Column, Row, ZeroOne, read_program
-
-
-# Programs: near-tied auctions, and small ones of every kind.
-
-
-def column(name, cost, entries, lower=0, upper=1):
-    return Column(name, cost, sorted(entries), lower, upper)
 
 
 def auction(supply, bids):
@@ -32,7 +30,7 @@ def auction(supply, bids):
     for bidder, offers in enumerate(bids):
         for number, (amount, quantities) in enumerate(offers, 1):
             entries = [(len(bids) + at, lots) for at, lots in enumerate(quantities) if lots]
-            columns.append(column(f"X{bidder + 1}_{number}", -amount, [(bidder, 1), *entries]))
+            columns.append(Column(f"X{bidder + 1}_{number}", -amount, [(bidder, 1), *entries]))
     return ZeroOne(rows, columns)
 
 
@@ -48,14 +46,6 @@ def near_tied_bids(draw, supply, lot_value):
     return made
 
 
-def all_points(program):
-    """Every point of a small program, as the set of its columns at 1."""
-    for values in itertools.product((0, 1), repeat=len(program.columns)):
-        ones = {place for place, value in enumerate(values) if value}
-        if program.fault_of(ones) is None:
-            yield ones
-
-
 def small_program(draw):
     """Rows of all kinds, coefficients of both signs, fixed columns, blocks and columns without one."""
     count, kinds = draw.randrange(1, 9), [AT_MOST, AT_MOST, AT_LEAST, EQUAL]
@@ -69,7 +59,7 @@ def small_program(draw):
         if len(rows) > len(sides) and draw.random() < 0.8:
             entries.append((draw.randrange(len(sides), len(rows)), 1))
         lower, upper = draw.choice([(0, 1)] * 6 + [(0, 0), (1, 1)])
-        columns.append(column(f"X{at}", draw.randrange(-20, 10), entries, lower, upper))
+        columns.append(Column(f"X{at}", draw.randrange(-20, 10), entries, lower, upper))
     return ZeroOne(rows, columns)
 
 
@@ -112,7 +102,9 @@ def test_small_programs_of_which_each_point_is_tried(seed, count, cost):
         program = small_program(draw)
         for column in program.columns:
             column.cost = cost(draw, column.cost)
-        points = sorted(all_points(program), key=program.objective)
+        points = map(set, subsets(range(len(program.columns))))
+        points = [ones for ones in points if program.fault_of(ones) is None]
+        points.sort(key=program.objective)
         if points:
             count -= 1
             least = program.objective(points[0])
@@ -137,14 +129,14 @@ def test_programs_at_the_edge():
     assert certified(auction([2, 1], []), set())[1] == b"bound 1\n"
     for columns in ([], [("K", -80, [], 1, 1)], [("X", -80, [], 0, 0)]):
         for sides in ([], [Row("C", AT_MOST, 1)]):
-            program = ZeroOne(sides, [column(*each) for each in columns])
+            program = ZeroOne(sides, [Column(*each) for each in columns])
             ones = {at for at, column in enumerate(program.columns) if column.lower}
             assert certified(program, ones)[0].ones == ones and only(program, ones)
     # nobody wins; an offer of net 0 ties with that
     assert only(auction([1], [[(-1, (1,))]]), set())
     assert not only(auction([1], [[(0, (1,))]]), set())
     # the row of the others is X0 + X1 at most 1, which looks like that of a block
-    program = ZeroOne([], [column("X0", -3, []), column("X1", -4, [])])
+    program = ZeroOne([], [Column("X0", -3), Column("X1", -4)])
     assert only(program, {0, 1}) and not only(program, {0})
 
 
@@ -238,3 +230,48 @@ def test_other_ways_of_writing(end):
     assert read_solution(b"# all\nX3_1 0.999999\n\nK\t1", program, "s") == {0, 1}
     with pytest.raises(Refused, match="^s: the bound of column K is broken$"):
         read_solution(b"X3_1 1\n", program, "s")
+
+
+@pytest.mark.parametrize("name", ["cbc", "highs"])
+def test_points_and_programs_at_the_edge(name):
+    assert solve.point_of(SMALL, name) == BEST
+    without_alpha = re.sub(rb" UP (BND X1_.) 1", rb" FX \1 0", SMALL)
+    assert solve.point_of(without_alpha, name, 60) == b"X2_1 1\nX3_1 1\n"
+    head, end = b"NAME wdp\nROWS\n N OBJ\n L B1\nCOLUMNS\n", b"RHS\n RHS B1 1\n"
+    assert solve.point_of(head + end + b"ENDATA\n", name) == b""
+    fixed = b" K OBJ -80\nRHS\n RHS B1 1\nBOUNDS\n BV BND K\n FX BND K 1\nENDATA\n"
+    assert solve.point_of(head + fixed, name) == b"K 1\n"
+    none = head.replace(b" L", b" G") + b" X1_1 OBJ 1\n" + end + b"BOUNDS\n BV BND X1_1\nENDATA\n"
+    with pytest.raises(NotSolved) as failed:
+        solve.point_of(none, name)
+    assert failed.value.status == solve.NO_POINT
+    with pytest.raises(Refused, match="no point is known to begin with: the row B1 is broken"):
+        solve.nothing(none)
+    assert solve.nothing(SMALL) == b""
+
+
+OF_CBC = """
+Stopped on time (no integer solution - continuous used) - objective value -9.5 | no solution yet
+Infeasible - objective value 0 | found no solution
+Optimal - objective value -62⏎  0 X1_1 1 | a line that isn't understood
+"""
+
+
+def test_answers_of_cbc():
+    for text, said in rows(OF_CBC):
+        with pytest.raises(Refused, match=said):
+            solve.of_cbc(text.encode() + b"\n")
+
+
+def test_a_solver_that_does_not_end(tmp_path, monkeypatch):
+    monkeypatch.setattr(solve, "LONGEST_GRACE", 1)
+    endless = f"'{script(tmp_path / 'a solver', 'sleep 7000')}' {{mps}}"
+    with pytest.raises(NotSolved, match="overstepped its limit of 1 s and was ended") as failed:
+        solve.point_of(SMALL, endless, 1)
+    assert failed.value.status == solve.TIME_OUT
+
+
+def test_the_command_of_solvers(folder):
+    seen = run("solve", "--solver", "cbc", "--log", "log", "p.mps", stdin=subprocess.DEVNULL)
+    assert seen == (0, BEST.decode(), "")
+    assert b"cbc" in (folder / "log").read_bytes().lower()
