@@ -8,20 +8,18 @@ import signal
 import subprocess
 import sys
 import time
-from pathlib import Path
 from types import SimpleNamespace
 
 import pytest
+from commands import ROOT, content, running, start, wait_for
 from gate import lanes, toolchain
 from gate.edits import Sources, edit_of
 from gate.said import is_within, told_in
 from gate.steps import Steps, counts_in
 from gate.trial import Trial
-from trials.program import ROOT
+from trials.judging import seen
 
-# The trial of edits, by what a check says.
-
-LIB = Path(ROOT, "fixtures", "edits", "names.rt.txt").read_text()
+LIB = content("fixtures", "edits", "names.rt.txt")
 TAILS = "first second Name::new NameReader::new FaultFromHigh::from FaultFromLow::from".split()
 NAMES = [f"names::{name}" for name in TAILS]
 OPEN = "no proof: expected answers in ./proofs/x/Answers.antt; `search` did not prove `%s`"
@@ -165,8 +163,6 @@ def test_what_an_earlier_run_refused_is_not_tried_again():
     assert run("one", False, is_well=False) == ([], [])
 
 
-# The order of tasks.
-
 MEMORY = (-1, 0, 3 * 10**9, 10**15)
 
 
@@ -205,20 +201,16 @@ def test_tasks_that_cannot_end(capsys):
 
 
 def test_without_rt(tmp_path):
-    command, here = ["/usr/bin/python3", f"{ROOT}/tools/prove"], {"PATH": str(tmp_path)}
-    run = subprocess.run(command, cwd=tmp_path, env=here, capture_output=True)
-    last = run.stdout.splitlines()[-1]
-    assert (run.returncode, last, run.stderr) == (2, b"0 passed, 1 failed", b"")
+    here = {"cwd": tmp_path, "env": {"PATH": str(tmp_path)}}
+    came = seen("/usr/bin/python3", [f"{ROOT}/tools/prove"], b"", **here)
+    assert (came[0], came[1].splitlines()[-1], came[2]) == (2, b"0 passed, 1 failed", b"")
 
-
-# How tests are run and counted.
 
 HEAD = "import pytest, os\n\ndef test_one():\n    pass\n\n"
 TWO = "def test_two():\n    assert 1 == 2\n"
 SKIPPED = HEAD + "@pytest.mark.skip('numpy isn\\'t there')\n" + TWO
-FIXTURE = (
-    HEAD + "@pytest.fixture\ndef made():\n    %sraise OSError('no')\n\ndef test_two(made): pass\n"
-)
+FIXTURE = HEAD + "@pytest.fixture\ndef made():\n    %sraise OSError('no')\n\n"
+FIXTURE += "def test_two(made): pass\n"
 ENDING = HEAD + "def test_two():\n    os._exit(0)\n"
 NO_ROW = HEAD + "@pytest.mark.parametrize('row', [])\ndef test_two(row): pass\n"
 # what a file of tests has, further words, and how many pass and fail; None where it isn't counted at all
@@ -244,28 +236,27 @@ FILES = {
 
 
 def run_tests(folder, text, words, **env):
-    (folder / "conftest.py").symlink_to(Path(ROOT, "conftest.py"))
+    (folder / "conftest.py").symlink_to(ROOT / "conftest.py")
     if text is not None:
         (folder / "test_it.py").write_text(text)
-    command = ["/usr/bin/python3", "-m", "pytest", "-c", f"{ROOT}/pytest.ini", "--rootdir", folder]
     paths = ":".join(f"{ROOT}/{name}" for name in ("tools", "python/src", "python/tests"))
-    how = {"env": {**os.environ, "PYTHONPATH": paths, **env}, "timeout": 120}
-    words = [*command, *words.split(), "test_it.py"]
-    return subprocess.run(words, cwd=folder, capture_output=True, **how)
+    how = {"env": {**os.environ, "PYTHONPATH": paths, **env}, "cwd": folder, "timeout": 120}
+    words = ["-c", f"{ROOT}/pytest.ini", "--rootdir", folder, *words.split(), "test_it.py"]
+    return seen("/usr/bin/python3", ["-m", "pytest", *words], b"", **how)
 
 
 @pytest.mark.parametrize("text, words, counts", FILES.values(), ids=FILES)
 def test_tests_are_counted(tmp_path, text, words, counts):
-    done = run_tests(tmp_path, text, words)
-    assert counts_in(done.stdout) == counts, done.stdout
+    status, output, _ = run_tests(tmp_path, text, words)
+    assert counts_in(output) == counts, output
     # (a test that ends the process may have any status: it isn't counted)
-    assert counts is None or (done.returncode == 0) == (counts[0] > 0 == counts[1])
+    assert counts is None or (status == 0) == (counts[0] > 0 == counts[1])
 
 
 @pytest.mark.parametrize("text, status", [(SKIPPED, 0), (HEAD, 1)], ids=["missed", "not missed"])
 def test_a_library_that_is_hidden_has_to_be_missed(tmp_path, text, status):
-    done = run_tests(tmp_path, text, "", WITHOUT_LIBRARIES="numpy")
-    assert (done.returncode, counts_in(done.stdout)) == (status, (1, 0))
+    came, output, _ = run_tests(tmp_path, text, "", WITHOUT_LIBRARIES="numpy")
+    assert (came, counts_in(output)) == (status, (1, 0))
 
 
 # what a step does, and how many pass and fail
@@ -303,23 +294,15 @@ def test_a_step_that_is_run_again_counts_once_and_one_that_is_refused_counts(tmp
 
 @pytest.mark.parametrize("number", [signal.SIGTERM, signal.SIGINT, signal.SIGHUP])
 def test_a_run_that_is_ended_leaves_nothing(number):
-    text = f"""import sys; sys.path.insert(0, {ROOT + '/tools'!r}); sys.dont_write_bytecode = True
+    text = f"""import sys; sys.path.insert(0, {str(ROOT / 'tools')!r}); sys.dont_write_bytecode = True
 from gate.steps import Steps; steps = Steps('/'); steps.stop_on_signals()
 steps.run_from([(str(n), ['sh', '-c', 'sleep 61.37 & wait']) for n in range(3)], 2)"""
-    streams = {"stdout": subprocess.PIPE, "stderr": subprocess.STDOUT}
-    ending = subprocess.Popen([sys.executable, "-c", text], **streams)
-
-    def listed(*words):
-        return subprocess.run(words, capture_output=True, text=True).stdout.splitlines()
-
-    groups = []
-    while len(groups) < 2:
-        time.sleep(0.05)
-        groups = listed("pgrep", "-P", str(ending.pid))
-    time.sleep(0.2)
+    mark = f"{number} of {os.getpid()}"
+    how = {"stderr": subprocess.STDOUT, "env": {**os.environ, "STARTED_BY": mark}}
+    ending = start([sys.executable, "-c", text], **how)
+    # (itself, and of each of two steps the shell and what it waits for)
+    wait_for(lambda: len(running(mark)) == 5)
     ending.send_signal(number)
     told = ending.communicate(timeout=20)[0]
     assert (ending.returncode, len(re.findall(rb"ended with status -9", told))) == (128 + number, 2)
-    # (nobody may have taken notice of an ended one yet)
-    found = [line.split() for line in listed("ps", "-eo", "pgid=,stat=")]
-    assert not [group for group, state in found if group in groups and state[0] != "Z"]
+    assert running(mark) == []

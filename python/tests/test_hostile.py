@@ -4,12 +4,13 @@ import os
 import random
 import re
 import signal
-import threading
+import sys
 import time
+from concurrent.futures import ThreadPoolExecutor
 from functools import partial
 
 import pytest
-from commands import EVIL, content, output, rows, running, script, wait_for
+from commands import EVIL, content, environment, output, rows, running, script, start, wait_for
 
 import wdp
 from wdp import example
@@ -65,7 +66,7 @@ def test_what_is_on_standard_error(program):
     fails(late, wdp.Refused, "^wdp: write failed after 3 bytes$")
 
 
-def test_no_program_outlives_its_answer(program, monkeypatch, mark):
+def test_no_program_outlives_its_answer(program, monkeypatch, mark, tmp_path):
     late = program("exec sleep 7000", time_limit=0.2)
     fails(late.compile, wdp.Unclear, "gave no answer in 0.2 s, and was ended$")
     monkeypatch.setattr("wdp.program.MOST_OF_MESSAGES", 1_000_000)
@@ -79,21 +80,14 @@ def test_no_program_outlives_its_answer(program, monkeypatch, mark):
     (left,) = running(mark)
     os.kill(int(left), signal.SIGKILL)
     wait_for(lambda: not running(mark), 30)
-    # an interrupt (a job that a shell runs beside others begins with the signal ignored)
-    asleep = program("sleep 7000", time_limit=7000)
-
-    def interrupt():
-        wait_for(lambda: running(mark))
-        time.sleep(0.5)  # (it runs before its caller knows of it)
-        os.kill(os.getpid(), signal.SIGINT)
-
-    was, thread = signal.getsignal(signal.SIGINT), threading.Thread(target=interrupt)
-    signal.signal(signal.SIGINT, signal.default_int_handler)
-    with pytest.raises(KeyboardInterrupt):
-        thread.start()
-        asleep.compile()
-    thread.join()
-    signal.signal(signal.SIGINT, was)
+    # an interrupt
+    asleep = script(tmp_path / "asleep", "sleep 7000 & wait")
+    ask = f"import wdp; wdp.Auction.from_text({ONE!r}, program={str(asleep)!r}).compile()"
+    asking = start([sys.executable, "-c", ask], env=environment())
+    wait_for(lambda: len(running(mark)) == 3)
+    time.sleep(0.5)  # (the program runs before its caller knows of it)
+    asking.send_signal(signal.SIGINT)
+    assert asking.communicate(timeout=60)[1].endswith(b"\nKeyboardInterrupt\n")
     wait_for(lambda: not running(mark), 30)
 
 
@@ -118,30 +112,28 @@ def test_large_and_full(program, monkeypatch, tmp_path):
 
 
 def test_threads():
-    auction, seen = wdp.Auction.from_text(example.INPUT), []
-    ask = lambda: seen.append(auction.report(example.SOLUTIONS))  # noqa: E731
-    threads = [threading.Thread(target=ask) for _ in range(4)]
-    for thread in threads:
-        thread.start()
-    for thread in threads:
-        thread.join()
+    auction = wdp.Auction.from_text(example.INPUT)
+    with ThreadPoolExecutor(4) as pool:
+        seen = list(pool.map(auction.report, [example.SOLUTIONS] * 4))
     assert seen == [auction.report(example.SOLUTIONS)] * 4
 
 
 @pytest.fixture
 def answered(monkeypatch):
-    """Has the program answer a text, without starting one; whether that is taken."""
+    """Which of some texts are taken for answers to a call, without a program that gives them."""
 
-    def is_taken(answer, call, text=ONE):
-        monkeypatch.setattr("wdp.api.answer", lambda *_: answer.encode())
-        auction = wdp.Auction.from_text(text)
-        try:
-            return bool(call(auction))
-        except wdp.Unclear as unclear:
-            assert AS_DESCRIBED in str(unclear) and str(unclear).isprintable()
-            return False
+    def taken(call, answers, text=ONE):
+        auction, found = wdp.Auction.from_text(text), []
+        for answer in answers:
+            monkeypatch.setattr("wdp.api.answer", lambda *_: answer.encode())
+            try:
+                call(auction)
+                found.append(answer)
+            except wdp.Unclear as unclear:
+                assert AS_DESCRIBED in str(unclear) and str(unclear).isprintable()
+        return found
 
-    return is_taken
+    return taken
 
 
 NEAR = """
@@ -157,27 +149,25 @@ def test_answers_that_are_nearly_right(answered):
     given = example.SOLUTIONS, example.CERTIFICATES
     report = lambda auction: auction.report(given[0])  # noqa: E731
     verify = lambda auction: auction.verify(*given, unique="bound 1")  # noqa: E731
-    answers = [WORKED[:cut] for cut in range(len(WORKED))]
+    answers = [WORKED[:cut] for cut in range(len(WORKED) + 1)]
     answers += [WORKED.replace(old, new, 1) for old, new in rows(NEAR)]
     beyond = ("unique\n", "tie\ntotal 62\n", "\n", "group 5 -\ntotal 0\ncost 0\n", EVIL)
     answers += [WORKED + more for more in beyond]
-    assert answered(WORKED, report, example.INPUT)
-    assert not [answer for answer in answers if answered(answer, report, example.INPUT)]
-    beyond = ["", "unique", "unique\nunique\n", "Unique\n", "tie\n", "tie\nBeta 1 20\n"]
+    assert answered(report, answers, example.INPUT) == [WORKED]
+    beyond = ["unique\n", "", "unique", "unique\nunique\n", "Unique\n", "tie\n", "tie\nBeta 1 20\n"]
     beyond += ["tie\ntotal 62\ntotal 62\n", "tie\ntotal 62\nunique\n"]
-    assert answered(WORKED + "unique\n", verify, example.INPUT)
-    assert not [more for more in beyond if answered(WORKED + more, verify, example.INPUT)]
-    compiled = lambda auction: auction.compile()  # noqa: E731
+    right = WORKED + "unique\n"
+    assert answered(verify, [WORKED + more for more in beyond], example.INPUT) == [right]
     changes = [("-", "Beta"), ("1", "2"), ("ENDATA\n", ""), ("NAME wdp\n", "")]
-    answers = [PROGRAM[:-1], "x" + PROGRAM, PROGRAM * 2, PROGRAM + "\n", PROGRAM[14:]]
+    answers = [PROGRAM, PROGRAM[:-1], "x" + PROGRAM, PROGRAM * 2, PROGRAM + "\n", PROGRAM[14:]]
     answers += [PROGRAM.replace(old, new, 1) for old, new in changes]
-    assert answered(PROGRAM, compiled) and not answered(PROGRAM, compiled, example.INPUT)
-    assert not [answer for answer in answers if answered(answer, compiled)]
-    for answer in ("total 5", "total 5\ntotal 5\n", "Alpha 1 30\n", "total five\n", "total 5\n\n"):
-        assert not answered(answer, lambda auction: auction.map(""))
+    assert answered(wdp.Auction.compile, answers) == [PROGRAM]
+    assert answered(wdp.Auction.compile, [PROGRAM], example.INPUT) == []
+    answers = ["total 5", "total 5\ntotal 5\n", "Alpha 1 30\n", "total five\n", "total 5\n\n"]
+    assert answered(lambda auction: auction.map(""), answers) == []
     counts = "rows 1 columns 2 entries 3"
-    for answer in (counts, "rows 1 columns 2\n", f"{counts}\n{counts}\n"):
-        assert not answered(answer, lambda auction: auction.check(""))
+    answers = [counts, "rows 1 columns 2\n", f"{counts}\n{counts}\n"]
+    assert answered(lambda auction: auction.check(""), answers) == []
 
 
 def test_no_answer_is_taken_for_another(pytestconfig):
