@@ -5,7 +5,7 @@ import signal
 import subprocess
 import sys
 
-from commands import ROOT, WORKED, content, ended, run, start
+from commands import ROOT, WORKED, content, ended, files_below, run, start
 
 import wdp
 from wdp import cli
@@ -84,18 +84,13 @@ def test_functions_are_short_and_public_ones_have_docstrings():
         assert node.name.startswith("_") or ast.get_docstring(node), node.name
 
 
-def files_of(folder):
-    names = {path.relative_to(folder) for path in folder.rglob("*") if path.is_file()}
-    return {name for name in names if "__pycache__" not in name.parts}
-
-
 def test_pip_installs_it_without_a_network(tmp_path):
     subprocess.run(["cp", "-r", ROOT / "python", tmp_path / "python"], check=True)
     words = "-m pip install -q --no-build-isolation --no-index --no-compile --target".split()
     how = {"PATH": "/usr/bin:/bin", "PIP_DISABLE_PIP_VERSION_CHECK": "1", "HOME": str(tmp_path)}
     made = start([sys.executable, *words, tmp_path / "to", tmp_path / "python"], env=how)
     assert ended(made).status == 0
-    assert files_of(tmp_path / "to" / "wdp") == files_of(SOURCE)
+    assert files_below(tmp_path / "to" / "wdp") == files_below(SOURCE)
     text = "import wdp, wdp.program; print(wdp.__version__, wdp.program.tree_of_package())\n"
     text += "wdp.Auction.from_text('').check('ENDATA')"
     how = {"cwd": tmp_path, "env": {**os.environ, "PYTHONPATH": str(tmp_path / "to")}}
