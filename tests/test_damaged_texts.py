@@ -4,15 +4,13 @@ text has to give is in tables here and in fixtures/damaged, made by hand from wh
 import os
 import re
 import tempfile
-from pathlib import Path
 
 import pytest
+from damage import TEXTS
 from trials.judging import done, refused, seen
-from trials.program import ROOT
 from trials.worked import ALPHA, MADE_ELSEWHERE, NO_COLUMN, ONE_BID_OF_ALPHA, ONE_COLUMN, RULES
 from trials.worked import TWO_BIDS_OF_ALPHA, auction, rules_and
 
-TABLES = Path(ROOT, "fixtures", "damaged")
 SIZES = "rows 3 columns 1 entries 2\n"
 CHECK, TEXT, MAP = ["check"], ["text"], ["map", "--group", "1"]
 ONE_WINNER = done("Alpha 1 30\ntotal 30\n")
@@ -26,15 +24,11 @@ TOLD_OF_FORM = {"h": "2 Header", "f": "4 FieldCount", "q": "8 QuantityText"}
 READ_OF_FORM = ["", NO_COLUMN, ONE_BID_OF_ALPHA, TWO_BIDS_OF_ALPHA, TWO_BIDS_OF_ALPHA]
 
 
-def with_line_10(line):
-    return ONE_COLUMN.replace(" X3_1 B3 1\n", line)
-
-
 def cuts(table, end, whole):
     """Each text that is cut, the number of its last line, and its letter."""
     yield "", 0, "."
     before = ""
-    for number, row in enumerate((TABLES / table).read_text().splitlines(), 1):
+    for number, row in enumerate((TEXTS / table).read_text().splitlines(), 1):
         letters, _, line = row.partition("|")
         letters, line = letters.rstrip(), line + end
         for size, letter in enumerate(letters + (letters[-1:] or ".") * len(end), 1):
@@ -57,7 +51,7 @@ def cut_texts():
 
 def tokens(table):
     """Texts of numbers, and what is told of each; in a text `99*` is so many of what follows."""
-    for line in (TABLES / table).read_text(encoding="utf-8").splitlines():
+    for line in (TEXTS / table).read_text(encoding="utf-8").splitlines():
         told, _, texts = line.partition(": ")
         whole = re.sub(r"(\d\d)\*(.)", lambda it: int(it[1]) * it[2], texts)
         yield from ((told, token) for token in whole.split())
@@ -68,7 +62,7 @@ def numbers():
     for told, it in tokens("numbers.txt"):
         fault = refused(f"program: {told} at line 10")
         wanted = done(accepted[told]) if told in accepted else fault
-        yield f"number {it}", CHECK, with_line_10(f" X3_1 B3 {it}\n"), wanted
+        yield f"number {it}", CHECK, ONE_COLUMN.replace(" X3_1 B3 1\n", f" X3_1 B3 {it}\n"), wanted
     accepted = {"zero": done("total 0\n"), "one": ONE_WINNER}
     for told, it in tokens("values.txt"):
         wanted = accepted.get(told) or refused(f"solution 1: {told} at line 1")

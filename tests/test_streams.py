@@ -6,16 +6,14 @@ import contextlib
 import fcntl
 import os
 import resource
-import signal
 import subprocess
 import tempfile
 from functools import partial
-from pathlib import Path
 
 import pytest
+from commands import ROOT, content
 from trials import cases
 from trials.judging import TIME_LIMIT, done, encoded, refusals, refused, row, seen, written_of
-from trials.program import ROOT
 from trials.worked import FOUR_COLUMNS, GAMMA, NO_COLUMN, ONE_COLUMN, SOLUTION_OF_ALL, WINNERS
 from trials.worked import auction, rules_and
 
@@ -24,20 +22,17 @@ MIB, PAGE, INPUT_LIMIT = 1 << 20, 4096, 128 << 20
 STACK, LEAST_STACK = 512 << 10, 128 << 10
 
 # Each command with an input and its output; and with the most groups there are, each the empty one: outputs of half a megabyte.
-TEXT, GROUPS = rules_and(GAMMA), 1024
 NAMES = "one_form compile_gamma_and_all check_one_form map_three_winners report_cost_of_beta_by_2".split()
 COMMANDS = {it: (cases.words(it), cases.content(it, "stdin"), cases.wanted(it)[1]) for it in NAMES}
-LONG = auction("-\n" * GROUPS)
-LONG_OUTPUT = "".join(f"* program {k} -\n{FOUR_COLUMNS}" for k in range(1, GROUPS + 1))
-LONG_REPORT = LONG + ("%solution\n" + SOLUTION_OF_ALL) * GROUPS
-LONG_REPORT_OUTPUT = "".join(f"group {k} -\n{WINNERS}cost 0\n" for k in range(1, GROUPS + 1))
-LONG_COMMANDS = {
-    "long compile": (["compile"], LONG, LONG_OUTPUT),
-    "long report": (["report"], LONG_REPORT, LONG_REPORT_OUTPUT),
-}
-BY_64 = {
-    f"{name} by 64": ([*it[0], "--workers", "64"], *it[1:]) for name, it in LONG_COMMANDS.items()
-}
+TEXT, NUMBERS = rules_and(GAMMA), range(1, 1025)
+LONG = auction("-\n" * len(NUMBERS))
+LONG_OUTPUT = "".join(f"* program {k} -\n{FOUR_COLUMNS}" for k in NUMBERS)
+LONG_REPORT = LONG + ("%solution\n" + SOLUTION_OF_ALL) * len(NUMBERS)
+OF_LONG_REPORT = "".join(f"group {k} -\n{WINNERS}cost 0\n" for k in NUMBERS)
+LONG_COMMANDS = {"long compile": (["compile"], LONG, LONG_OUTPUT)}
+LONG_COMMANDS["long report"] = ["report"], LONG_REPORT, OF_LONG_REPORT
+WORKERS = ["--workers", "64"]
+BY_64 = {f"{name} by 64": (it[0] + WORKERS, *it[1:]) for name, it in LONG_COMMANDS.items()}
 
 FAULTY = TEXT.replace("12,0,1", "1,0,1")
 FAULT = refused("form 1: 12 BelowReserve at record 2")
@@ -114,13 +109,10 @@ def test_disk_that_fills_up(wdp, words, text, output):
     """After each number of bytes, or where blocks end; without a signal."""
     around = [1, 65_535, 65_536, 65_537, 131_071, 131_072, 131_073, len(output) - 1, len(output)]
     for size in around if len(output) > PAGE else range(len(output) + 1):
-
-        def limit(size=size):
-            signal.signal(signal.SIGXFSZ, signal.SIG_IGN)
-            resource.setrlimit(resource.RLIMIT_FSIZE, (size, size))
-
+        # (Python ignores SIGXFSZ, and so does what it starts then)
+        disk = {**with_limit(resource.RLIMIT_FSIZE, size), "restore_signals": False}
         with tempfile.TemporaryFile() as target, row(f"a disk of {size} bytes"):
-            status, _, faults = seen(wdp, words, text, stdout=target, preexec_fn=limit)
+            status, _, faults = seen(wdp, words, text, stdout=target, **disk)
             target.seek(0)
             is_cut = size < len(output)
             line = b"wdp: write failed after %d bytes\n" % size if is_cut else b""
@@ -194,7 +186,7 @@ def test_where_the_reading_of_a_long_input_stops(wdp):
 
 WITHOUT_THREADS = {
     **{name: (*it[:2], done(it[2]), name != "check_one_form") for name, it in COMMANDS.items()},
-    "compile by 64 workers": (["compile", "--workers", "64"], LONG, done(LONG_OUTPUT), True),
+    "compile by 64 workers": (["compile", *WORKERS], LONG, done(LONG_OUTPUT), True),
     "a refusal": (["text"], FAULTY, FAULT, True),
     "no form": (["text"], rules_and(), done(NO_COLUMN), False),
 }
@@ -211,7 +203,7 @@ def test_no_threads(failed, words, text, wanted, wants_some):
 @pytest.mark.parametrize("command", ["compile", "report", "verify"])
 def test_as_many_workers_as_the_words_say(failed, tmp_path, command, workers):
     """The caller is among them: what several start is that many threads more."""
-    verified = Path(ROOT, "examples", "verified.txt").read_text()
+    verified = content("examples", "verified.txt")
     text = {"compile": LONG, "report": LONG_REPORT, "verify": verified}[command]
 
     def came(*words):
@@ -258,8 +250,8 @@ def test_little_memory(wdp, words, text):
     # with so much the program starts
     short = (it for it in sizes if seen(wdp, ["--version"], "", **with_memory(it)) == OUT_OF_MEMORY)
     least, wanted = next(short), seen(wdp, words, text)
-    for n in range(128 if text == LONG else 64):
-        size = least + step * n * (16 if text == LONG else 1)
+    steps = range(0, 2048, 16) if text == LONG else range(64)
+    for size in (least + step * n for n in steps):
         with row(f"{size >> 10} kB"):
             assert seen(wdp, words, text, **with_memory(size)) in (wanted, OUT_OF_MEMORY)
 

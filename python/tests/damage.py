@@ -15,10 +15,9 @@ FIELDS = b'|0|1|00| 1|1 |-1|+1|1,5|1.5|10000|10001|1000000|1000001|1000000000000
 FIELDS += b"|999999999999999999|1000000000000000000|rules|category|bidder|pool|member|lot|2|3|4|%form|Low|High|a1|1a"
 FIELDS = [*FIELDS.split(b"|"), b"ABCDEFGHIJKLMNOP", b"ABCDEFGHIJKLMNOPQ"]
 BYTES = [b"%c" % each for each in b',;\n\r"% +-019aAzZ\t\0\xff']
-WORDS = b"0 -1 -0 +5 1e3 10e-1 0.5 1. . 1e61 1e-61 e1 0x1 --1 one \xff 1\r X1_1 C1 B1 X0_0 OBJ x1_1 split leaf Bound # \t".split(
-    b" "
-)
-WORDS += [b"%d" % (sign * (10**18 + more)) for sign in (1, -1) for more in (0, 1)]
+WORDS = b"0 -1 -0 +5 1e3 10e-1 0.5 1. . 1e61 1e-61 e1 0x1 --1 one \xff 1\r X1_1 C1 B1 X0_0 OBJ x1_1 "
+WORDS += b"split leaf Bound # \t"
+WORDS = [*WORDS.split(b" "), *(b"%d" % (sign * (10**18 + n)) for sign in (1, -1) for n in (0, 1))]
 WORDS += [b"7" * 40, b"-" + b"9" * 40, b"0" * 31, b"0" * 29 + b"1", b""]
 LINES = b"|# a comment| # not one|\t \t|bound 0|bound 1|split 0|end|\r|\0".split(b"|")
 
@@ -47,7 +46,6 @@ def near(draw, text):
 
 
 def of_line(draw, text, separator, others):
-    """One piece of a line is changed."""
     lines = text.split(b"\n")
     at = draw.randrange(len(lines))
     lines[at] = separator.join(changed(draw, lines[at].split(separator), others))
