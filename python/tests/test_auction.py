@@ -15,8 +15,8 @@ import sys
 import time
 
 import pytest
-from commands import ROOT, TIED, WORKED, content, ended, output, rows, running, script, solver
-from commands import start, wait_for
+from commands import EXAMPLES, REPORTED, ROOT, TIED, WORKED, content, ended, output, rows
+from commands import running, script, solver, start, wait_for
 
 TOTALS = b"62 32 50 50".split()
 TABLES = [f"{name}.csv" for name in ("bidders", "categories", "groups", "pools")]
@@ -49,6 +49,20 @@ def test_to_its_page(auction, wdp):
     assert (report, audit) == auction.outcome()
     assert made.st_mtime_ns == (auction.where / "certificates/1.txt").stat().st_mtime_ns
     assert b"Lots &amp; &lt;more&gt;" in auction.read("results/results.html")
+
+
+@pytest.mark.parametrize("name", REPORTED)
+def test_each_solver_gives_the_report_beside_the_example(auction, name):
+    """`wdp verify` prints it again from what is kept, then the groups that were added, and the prices."""
+    text, report = ((EXAMPLES / f"{name}.{it}").read_bytes() for it in ("txt", "report.txt"))
+    seen = auction.run("--solver", "highs", "--no-certify", folder=False, data=text)
+    assert (seen.status, seen.out.encode()) == (0, report), seen.err
+    auction.put("input.txt", text)
+    auction.said("--solver", "cbc")
+    assert auction.read("report.txt") == report
+    verified = output(auction.wdp, "verify", auction.read("audit.txt"))
+    more = rb"(group \d+ .*\n)?prices\n(\w+ \d+\n)+sum \d+\nleast\n"
+    assert re.fullmatch(re.escape(report) + more, verified, re.DOTALL)
 
 
 def test_without_a_folder(auction, tmp_path):
@@ -196,7 +210,7 @@ def test_inputs_that_are_refused(auction, change, why):
 
 
 # what may be in page.json of a folder, of which nothing is taken for a title; and what isn't a run's own
-SPOILT = ["[]", "null", "5", '{"title": "\\ud800"}', "[" * 40_000, '{"title": ["x"], "currency": 5}']
+SPOILT = ["[" * 40_000, *'[] null 5 {"title":"\\ud800"} {"title":["x"],"currency":5}'.split()]
 
 
 def test_what_is_no_page_counts_for_nothing(auction):
@@ -288,7 +302,6 @@ STAND_INS = {
 
 @pytest.fixture
 def by_snakemake(tmp_path):
-    """Starts a run by Snakemake."""
     for name, text in STAND_INS.items():
         script(tmp_path / name, text.format(tmp_path))
 

@@ -9,22 +9,18 @@ import re
 import subprocess
 from html import escape, unescape
 
-import jsonschema
 import pytest
-from commands import OFFICE, content, output, run, small_files, stopped, without
+from commands import OFFICE, REPORTED, SCHEMA, content, output, run, small_files, stopped, without
 
 from wdp import files
 from wdp.publish.results import cell_text
 
-NAMES = ["worked", "worked_pool", "spectrum", "unsold_values", "spectrum_cap", "twelve_bands"]
 FILES = ["bidders.csv", "categories.csv", "groups.csv", "pools.csv", "results.html", "results.json"]
 # One lot, and two bids of 10 for it: by which is first, Alpha's cost is 10 or 0.
-TIE, TIE_REPORT, AUDIT, TIED = (
-    (OFFICE / f"tie{kind}.txt").read_text() for kind in ("", ".report", ".audit", ".tied")
-)
+TEXTS = ("tie", "tie.report", "tie.audit", "tie.tied")
+TIE, TIE_REPORT, AUDIT, TIED = ((OFFICE / f"{name}.txt").read_text() for name in TEXTS)
 SOLUTIONS = "%solution\nX1_1 1\n%solution\nX2_1 1\n"
 CERTIFICATES = "%certificate\nbound 1 C1 10\n" * 2
-SCHEMA = jsonschema.Draft202012Validator(json.loads(content("docs", "results.schema.json")))
 CELL = re.compile(r'<(t[hd])(?: scope="(\w+)")?[^>]*>(.*?)</t[hd]>', re.S)
 POOL_TEXT = content("fixtures", "office", "results.txt")
 
@@ -49,8 +45,6 @@ class Page:
 
 
 class Desk:
-    """A folder in which results are made."""
-
     def __init__(self, folder):
         self.folder, self.out = folder, folder / "out"
 
@@ -112,7 +106,7 @@ KEYS["categories"] = "name supply sold unsold reserve value value_left", range(7
 KEYS["pools"] = "name load cap left", range(4)
 
 
-@pytest.mark.parametrize("name", NAMES)
+@pytest.mark.parametrize("name", REPORTED)
 def test_each_form_says_what_the_report_says(desk, name):
     """The page is compared with the report, and JSON and CSV with the page."""
     data, report = of_example(name)
@@ -276,7 +270,7 @@ def test_a_full_disk(desk):
 
 
 def test_the_schema_takes_each_field_of_its_kind_and_no_others():
-    jsonschema.Draft202012Validator.check_schema(SCHEMA.schema)
+    SCHEMA.check_schema(SCHEMA.schema)
     text, objects = content("docs", "results.schema.json"), []
     json.loads(text, object_hook=lambda each: objects.append(each) or each)
     listed = [each for each in objects if "properties" in each]
