@@ -3,24 +3,20 @@ said of each (edits.txt). It needs the toolchain's `rt`, whose gate refuses sour
 
 import re
 import subprocess
-from pathlib import Path
 
 import pytest
-from trials.program import ROOT
+from commands import ROOT
 
-FIXTURE = Path(ROOT, "fixtures", "edits")
+FIXTURE = ROOT / "fixtures/edits"
 # the pairs of old and new text of each, and what is said, as a regular expression
-EDITS = {
-    head.partition(": ")[0]: (pairs, head.partition(": ")[2])
-    for head, _, pairs in (
-        it.partition("\n") for it in (FIXTURE / "edits.txt").read_text().split("\n\n")
-    )
-}
+EDITS = {}
+for text in (FIXTURE / "edits.txt").read_text().split("\n\n"):
+    head, _, pairs = text.partition("\n")
+    EDITS[head.partition(": ")[0]] = pairs, head.partition(": ")[2]
 
 
 @pytest.fixture(scope="module")
 def tried(tmp_path_factory):
-    """What the trial of all edits says, and its status."""
     folder = tmp_path_factory.mktemp("edits")
     crate = folder / "crates" / "sample"
     for part in ("src", "must-fail"):
@@ -31,7 +27,7 @@ def tried(tmp_path_factory):
     for name, (pairs, _) in EDITS.items():
         (crate / f"must-fail/{name}.edit").write_text(f"file: src/lib.rt\n{pairs.strip()}\n")
     subprocess.run(["git", "init", "-q", folder], check=True)
-    words, how = [Path(ROOT, "tools/try_edits")], {"stdin": subprocess.DEVNULL, "text": True}
+    words, how = [ROOT / "tools/try_edits"], {"stdin": subprocess.DEVNULL, "text": True}
     run = subprocess.run(words, cwd=folder, capture_output=True, **how)
     print(run.stderr, run.stdout)
     return run.returncode, run.stdout
