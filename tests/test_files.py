@@ -12,9 +12,10 @@ import socket
 import stat
 import subprocess
 import time
-from collections.abc import Callable, Iterator
+from collections.abc import Iterator
 from dataclasses import dataclass
 from pathlib import Path
+from typing import IO
 
 import pytest
 from trials import judging
@@ -43,9 +44,7 @@ class Office:
         how = {"stdout": subprocess.PIPE, "stderr": subprocess.PIPE, **how}
         return subprocess.Popen([self.program, *words], cwd=self.folder, **how)
 
-    def seen(self, *words: str, given: str | bytes = b"", **how: object) -> Seen:
-        """Status, output and standard error of a run."""
-        given = how.pop("stdin", given)
+    def seen(self, *words: str, given: str | bytes | IO[bytes] = b"", **how: object) -> Seen:
         return judging.seen(self.program, list(words), given, cwd=self.folder, **how)
 
     def there(self) -> dict[str, bytes | bool]:
@@ -92,7 +91,7 @@ def test_run(office: Office, run: str) -> None:
     is_refused = wanted not in before
     for more in ([], ["-o", "out"])[: 1 + (is_refused and "-o" not in words)]:
         with office.path(given or "empty.txt").open("rb") as file:
-            seen = office.seen(*words, *more, stdin=file)
+            seen = office.seen(*words, *more, given=file)
         has_faults = "explain" in words and wanted != "empty.txt"
         assert seen == (refused(wanted) if is_refused else (has_faults, before[wanted], b""))
         assert office.there() == before
@@ -111,9 +110,7 @@ def test_words_that_are_refused(office: Office, words: str) -> None:
 
 def test_pipes_of_the_shell(office: Office) -> None:
     def in_shell(script: str) -> Seen:
-        command = ["bash", "-c", script, office.program]
-        run = subprocess.run(command, cwd=office.folder, capture_output=True, timeout=TIME_LIMIT)
-        return run.returncode, run.stdout, run.stderr
+        return judging.seen("bash", ["-c", script, office.program], b"", cwd=office.folder)
 
     two = '"$0" text <(cat rules.txt) <(cat gamma.txt); "$0" text <(cat one.txt)'
     assert in_shell(two) == done(ONE_COLUMN * 2)
@@ -133,12 +130,6 @@ def test_more_files_than_may_be_open(office: Office) -> None:
     assert seen[0] == 0 and seen == office.seen("text", given="".join(texts))
 
 
-def test_faults_are_an_output_and_their_file_is_kept(office: Office) -> None:
-    words = ["explain", "rules.txt", "gamma.txt", "lots.txt"]
-    assert office.seen(*words, "-o", "out") == (1, b"", b"")
-    assert office.path("out").read_bytes() == office.path("unknown").read_bytes()
-
-
 @pytest.mark.skipif(os.getuid() != 0, reason="root may read and write anything, and become nobody")
 def test_without_rights(office: Office) -> None:
     for folder in (office.folder, *office.folder.parents):
@@ -156,17 +147,17 @@ def test_without_rights(office: Office) -> None:
     assert by_nobody("program.mps", "-o", "new") == refused("new: permission denied")
 
 
-# What is written.
-
-
-def test_output_and_its_rights(office: Office) -> None:
+def test_outputs_and_their_rights(office: Office) -> None:
     before = office.there()
     assert office.seen("text", "one.txt", "-o", "new", umask=0o027) == done("")
     office.path("out").chmod(0o604)
     office.path("link").symlink_to("out")
     assert office.seen("text", "one.txt", "-olink") == done("")
+    # faults are an output, too, whose file is kept
+    words = ["explain", "rules.txt", "gamma.txt", "lots.txt"]
+    assert office.seen(*words, "-o", "faults") == (1, b"", b"")
     written = dict.fromkeys(("new", "out", "link"), ONE_COLUMN.encode())
-    assert office.there() == {**before, **written}
+    assert office.there() == {**before, **written, "faults": before["unknown"]}
     rights = [stat.S_IMODE(office.path(name).stat().st_mode) for name in ("new", "out")]
     assert rights == [0o640, 0o604] and office.path("link").is_symlink()
 
@@ -212,9 +203,6 @@ def test_a_run_that_is_ended_at_any_moment(office: Office, number: signal.Signal
     assert office.there().keys() == before.keys()
 
 
-# Streams.
-
-
 @pytest.mark.parametrize("words", ["", "text", "text -", "text one.txt"])
 def test_at_a_terminal(office: Office, words: str) -> None:
     """Something is typed, and Ctrl-D."""
@@ -228,13 +216,10 @@ def test_at_a_terminal(office: Office, words: str) -> None:
     assert (child.returncode, *seen) == (0, ONE_COLUMN.encode(), hint)
 
 
-def closing(streams: str) -> Callable[[], object]:
-    return lambda: [os.close(int(stream)) for stream in streams]
-
-
 @pytest.mark.parametrize("streams", ["0", "1", "2", "01", "02", "12", "012"])
 def test_closed_streams(office: Office, streams: str) -> None:
-    words, how = ["text", "one.txt", "-o", "out"], {"preexec_fn": closing(streams)}
+    words = ["text", "one.txt", "-o", "out"]
+    how = {"preexec_fn": lambda: [os.close(int(stream)) for stream in streams]}
     assert office.seen(*words, **how) == done("")
     assert office.path("out").read_text() == ONE_COLUMN
     # nothing that is said on a closed stream comes to stand in a file
@@ -242,9 +227,6 @@ def test_closed_streams(office: Office, streams: str) -> None:
     assert office.seen("text", "form.csv", "-o", "out", **how)[0] == 1
     assert office.seen("text", "one.txt", **how)[0] == ("1" in streams)
     assert office.there() == before
-
-
-# Many lists of files.
 
 
 def write_at_random(office: Office, draw: random.Random, place: int, text: str) -> str:
@@ -263,10 +245,6 @@ def write_at_random(office: Office, draw: random.Random, place: int, text: str) 
     return name
 
 
-def is_plain(path: Path) -> bool:
-    return path.is_file() and path.read_bytes().startswith(b"%")
-
-
 @pytest.mark.parametrize("block", range(BLOCKS))
 def test_random_lists_beside_the_joined_input(office: Office, block: int) -> None:
     """Files that may be joined are answered as the joined text is, or refused in one line of one file's; others are refused."""
@@ -279,10 +257,10 @@ def test_random_lists_beside_the_joined_input(office: Office, block: int) -> Non
         names = [write_at_random(office, draw, *it) for it in enumerate(chosen)]
         target = draw.choice(["out", "gone/out", "-"])
         seen = office.seen("compile", "-o", target, "--", *names)
-        paths = [office.path(name) for name in names]
-        ends = all(path.read_bytes().endswith(b"\n") for path in paths[:-1] if path.is_file())
-        if all(map(is_plain, paths)) and ends and target != "gone/out":
-            joined = b"".join(path.read_bytes() for path in paths)
+        texts = [office.there().get(name) or b"" for name in names]
+        are_parts = all(text.startswith(b"%") for text in texts)
+        if are_parts and all(text.endswith(b"\n") for text in texts[:-1]) and target != "gone/out":
+            joined = b"".join(texts)
             status, output, faults = office.seen("compile", given=joined)
             written = office.there().get("out", b"")
             assert (seen[0], seen[1] + written) == (status, output), (turn, names)
