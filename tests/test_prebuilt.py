@@ -28,7 +28,6 @@ class Tree:
     home: Path
 
     def put(self, program: bytes, recorded: bytes | None = None, sources: str = "none") -> None:
-        """A program that comes with the tree, and its record."""
         (self.root / "prebuilt" / "wdp.gz").write_bytes(gzip.compress(program))
         name = sha256(recorded or program).hexdigest()
         told = f"sources {sources}\nprogram {name}\ntoolchain none\n"
