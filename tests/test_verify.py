@@ -1,37 +1,31 @@
-"""`wdp verify` beside an independent checker, and all that can win in small auctions: ties, winners who are the only ones, prices, and
-damaged certificates.
+"""`wdp verify` beside an independent checker, and all that can win in small auctions, listed from the definitions over all bids.
+(What else is refused is shown by cases.)
 
-Random auctions have few lots, bidders and amounts, so that much ties; some have values of unsold lots and pools, bids of net 0, bids
-that have no column, or nobody who wins. All that is feasible is listed from the definitions, over all bids, and the independent
-checker judges each certificate. (What else is refused is shown by cases.)
-
-- One of the allocations of the greatest total is the solution of group 1, and what the search among all other points of its program
-  comes to is claimed: `unique` is printed where the list has one of the greatest total, and else `tie` and another of the list.
+- What the search among all other points comes to is claimed: `unique` is printed if the list has one allocation of the greatest
+  total, and else `tie` and another of the list.
 - A cover is accepted if and only if the prices cover the cost of each set of bidders, and `least` is printed if and only if the weights
   show it; and then no whole prices that cover every set and meet the reserves have a lower sum.
-- Ten thousand certificates are damaged copies of seven, three of these of winners who are the only ones. The report is printed where
-  the checker finds the bound shown, and else the number, the kind and the line of its first fault. Where it says that a sum could
-  leave 128 bits at a line, `wdp` may stop there.
+- Of damaged certificates the report is printed if the checker finds the bound shown, and else the number, the kind and the line of its
+  first fault. If the checker says that a sum could leave 128 bits at a line, `wdp` may stop there.
 """
 
 import itertools
 import math
 import random
 import re
-from copy import deepcopy
-from pathlib import Path
+from dataclasses import replace
 
 import pytest
 import tied_auctions as tied
+from commands import ROOT, output
 from damage import damaged
 from oracle import Checker
 from tied_auctions import BIDDERS, bid_of
 from trials.judging import KINDS, done, refused, row, seen
-from trials.program import ROOT
 from wdp.certify.layout import Layout
 from wdp.certify.search import Beaten, OnlySearch, Search
 from wdp.texts.solution import read_solution, solution_text
-from wdp.texts.zero_one import read_program
+from wdp.texts.zero_one import ZeroOne, read_program
 
 # so many auctions are tried in one test
 COUNT = 25
@@ -42,10 +36,8 @@ DRAWS = 60  # so many weights are tried
 
 
 def programs_of(wdp, text):
-    """The program of each group."""
-    status, output, messages = seen(wdp, ["compile"], text)
-    assert (status, messages) == (0, b"")
-    return [read_program(b"* " + piece, "the program") for piece in output.split(b"* program ")[1:]]
+    pieces = output(wdp, "compile", text).split(b"* program ")[1:]
+    return [read_program(b"* " + piece, "the program") for piece in pieces]
 
 
 def point_of(program, allocation):
@@ -121,19 +113,14 @@ def test_winners(wdp, first):
 
 
 class Pricing:
-    """An auction with reserves, what sets of its bidders cost by the definitions, and its input before the prices."""
+    """An auction, what sets of its bidders cost by the definitions, and its input before the prices."""
 
     def __init__(self, wdp, auction, draw):
-        reserves, bids = [0] * len(auction.supply), sum(auction.forms, [])
-        if bids and draw.random() < 0.5:
-            most = min(bid.amount // sum(bid.package) for bid in bids)
-            reserves = [draw.randrange(most + 1) for _ in auction.supply]
-        auction = auction._replace(reserves=reserves)
-        self.wdp, self.auction, self.draw = wdp, auction, draw
+        self.wdp, self.draw = wdp, draw
         text = tied.input_text(auction, [()]).encode()
         self.first = Group(auction, programs_of(wdp, text)[0], (), draw)
-        self.bid = {bidder: bid_of(auction, (bidder, bid)) for bidder, bid in self.first.won}
-        self.reserve = {it: tied.weighed(reserves, bid.package) for it, bid in self.bid.items()}
+        self.bid = {winner[0]: bid_of(auction, winner) for winner in self.first.won}
+        self.reserve = {it: tied.reserve_of(auction, bid) for it, bid in self.bid.items()}
         everybody = tied.subsets(range(1, len(auction.forms) + 1))
         self.cost = {group: tied.cost_of(auction, self.first.won, group) for group in everybody}
         self.groups = tied.subsets(sorted(self.bid))[:8]
@@ -141,11 +128,6 @@ class Pricing:
         others = list(zip(programs_of(wdp, text), self.groups))[1:]
         answers = [self.first] + [Group(auction, *it, draw) for it in others]
         self.input, self.report = answered(auction, text, self.groups, answers)
-
-    def verified(self, *parts):
-        return seen(self.wdp, ["verify"], self.input + b"".join(parts))
-
-    # By the definitions.
 
     def covers(self, price):
         sums = ((sum(price.get(it, 0) for it in group), cost) for group, cost in self.cost.items())
@@ -168,8 +150,6 @@ class Pricing:
         shown += sum(weight * self.reserve[bidder] for bidder, weight in own.items())
         return within and shown > scale * (sum(price.values()) - 1)
 
-    # What is drawn.
-
     def draw_price(self, bidder):
         low, most = self.reserve[bidder], self.bid[bidder].amount
         single = min(max(low, self.cost[(bidder,)]), most)
@@ -185,54 +165,46 @@ class Pricing:
         rest = {bidder: max(0, scale - self.on(bidder, groups)) for bidder in self.bid}
         return scale, groups, {it: rest[it] * (self.draw.random() < 0.7) for it in rest}
 
-    # Parts, and what is printed.
-
-    def prices_part(self, price):
-        lines = self.draw.sample(sorted(price), len(price))
-        return ("%prices\n" + "".join(f"{BIDDERS[it - 1]} {price[it]}\n" for it in lines)).encode()
-
     def cover(self, price):
         """A certificate of the least objective of group 1's program, each column of a winner raised by the winner's surplus; and the
         fault that it has as a cover."""
-        program = deepcopy(self.first.program)
+        program, columns = self.first.program, []
         for column in program.columns:
             bidder = int(column.name[1:].split("_")[0]) if column.name.startswith("X") else 0
-            column.cost += self.bid[bidder].amount - price[bidder] if bidder in self.bid else 0
-        points = [point_of(program, it) for it in tied.allocations(self.auction)]
-        best = min((it for it in points if it is not None), key=program.objective)
-        certificate = Search(Layout(program), best).certificate()
-        fault = Checker(program).verdict(program.objective(self.first.ones), certificate).fault
-        assert (fault is None) == (program.objective(best) == program.objective(self.first.ones))
-        return b"%cover\n" + certificate, fault
+            surplus = self.bid[bidder].amount - price[bidder] if bidder in self.bid else 0
+            columns.append(replace(column, cost=column.cost + surplus))
+        raised = ZeroOne(program.rows, columns)
+        certificate = Search(Layout(raised), self.first.ones).certificate()
+        wanted = raised.objective(self.first.ones)
+        return b"%cover\n" + certificate, Checker(raised).verdict(wanted, certificate).fault
 
     def expect(self, price, weights):
-        """Asks for these prices; whether they cover, and whether `least` is printed."""
+        """Asks for these prices, and says what comes of it: they don't cover, they do, or they are shown to be the least."""
         cover, fault = self.cover(price)
         assert (fault is None) == self.covers(price)
+        paid = [f"{BIDDERS[it - 1]} {price[it]}\n" for it in sorted(price)]
         scale, groups, own = weights
         lines = [f"{number} {weight}\n" for number, weight in groups.items() if weight]
         lines += [f"{BIDDERS[it - 1]} {weight}\n" for it, weight in own.items() if weight]
-        part = f"%weights\n{scale}\n{''.join(lines)}".encode()
-        told = self.verified(self.prices_part(price), cover, part)
+        prices = "%prices\n" + "".join(self.draw.sample(paid, len(paid)))
+        parts = prices.encode() + cover + f"%weights\n{scale}\n{''.join(lines)}".encode()
+        told = seen(self.wdp, ["verify"], self.input + parts)
         if fault is not None:
-            assert told == refused(
-                f"cover: {KINDS.index(fault.kind) + 1} {fault.kind} at line {fault.line}"
-            )
-            return False, False
-        least = self.shows(price, weights)
-        lines = "".join(f"{BIDDERS[it - 1]} {price[it]}\n" for it in sorted(price))
-        of_sum = f"sum {sum(price.values())}\n" + "least\n" * least
-        assert told == done(f"{self.report}prices\n{lines}{of_sum}")
-        return True, least
+            kind = KINDS.index(fault.kind) + 1
+            assert told == refused(f"cover: {kind} {fault.kind} at line {fault.line}")
+            return "no cover"
+        shown = "least" if self.shows(price, weights) else "cover"
+        of_sum = f"sum {sum(price.values())}\n" + "least\n" * (shown == "least")
+        assert told == done(f"{self.report}prices\n{''.join(paid)}{of_sum}")
+        return shown
 
 
 def priced(wdp, number):
-    """Tries an auction; whether its prices covered, and whether they were least."""
     draw = random.Random(f"prices {number}")
     auction = tied.random_auction(draw)
-    came_up = set()
+    auction = tied.with_reserves(auction, draw) if draw.random() < 0.5 else auction
     with row(f"auction {number}: {tied.input_text(auction, [()])}"):
-        trial = Pricing(wdp, auction, draw)
+        trial, came_up = Pricing(wdp, auction, draw), set()
         covering = [price for price in trial.whole_prices() if trial.covers(price)]
         lowest = min(covering, key=lambda price: sum(price.values()), default=None)
         prices = [{it: trial.draw_price(it) for it in trial.bid} for _ in range(2)]
@@ -241,10 +213,10 @@ def priced(wdp, number):
         for price in prices:
             drawn = [trial.draw_weights() for _ in range(DRAWS)]
             weights = next((it for it in drawn if trial.shows(price, it)), drawn[0])
-            covers, least = trial.expect(price, weights)
-            if least and covering:
+            outcome = trial.expect(price, weights)
+            came_up.add(outcome)
+            if outcome == "least" and covering:
                 assert sum(price.values()) == sum(lowest.values())
-            came_up |= {("covers", covers), ("least", least)}
     return came_up
 
 
@@ -252,13 +224,11 @@ def priced(wdp, number):
 def test_prices(wdp, first):
     came_up = set().union(*(priced(wdp, number) for number in range(first, first + COUNT)))
     # (the first block shows that each outcome comes up; the auctions are the same in each run)
-    assert first or len(came_up) == 4
+    assert first or len(came_up) == 3
 
-
-# Damaged certificates.
 
 # so many certificates are tried in one test; a solution, an auction, and what is damaged
-DAMAGES, CERTIFICATES = 200, Path(ROOT, "fixtures", "certificates")
+DAMAGES, CERTIFICATES = 200, ROOT / "fixtures/certificates"
 
 
 class Certified:

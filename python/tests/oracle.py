@@ -18,13 +18,11 @@ Split = namedtuple("Split", "form most is_high", defaults=[False])
 Verdict = namedtuple("Verdict", "fault large_lines")
 
 
-class Refused(Exception):
+class Refused(NumberFault):
     """The kind of a line's first fault."""
 
 
 class Checker:
-    """Checks texts against one program."""
-
     def __init__(self, program):
         self.program = program
         self.row_places = {row.name: place for place, row in enumerate(program.rows)}
@@ -69,8 +67,6 @@ class Checker:
             except NumberFault as fault:
                 kind = "NumberText" if str(fault) == "NotWhole" else str(fault)
                 return Verdict(Fault(number, kind), large)
-            except Refused as refused:
-                return Verdict(Fault(number, str(refused)), large)
         return Verdict(None if is_whole else Fault(number, "NoEnd"), large)
 
     def leaf(self, words, least, splits):

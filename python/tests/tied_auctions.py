@@ -22,6 +22,10 @@ def bid_of(auction, winner):
     return auction.forms[bidder - 1][bid - 1]
 
 
+def reserve_of(auction, bid):
+    return weighed(auction.reserves, bid.package)
+
+
 def sold(auction, allocation):
     """How many lots of each category the winners take together."""
     packages = [bid_of(auction, winner).package for winner in allocation]
@@ -52,7 +56,6 @@ def allocations(auction, left_out=()):
 
 
 def greatest(auction, left_out=()):
-    """The allocations of the greatest total."""
     found = allocations(auction, left_out)
     most = max(total(auction, allocation) for allocation in found)
     return [allocation for allocation in found if total(auction, allocation) == most]
@@ -96,15 +99,12 @@ def report_text(auction, groups, won):
     """What `wdp report` prints of the groups and of what is won without each."""
     text = ""
     for number, (group, allocation) in enumerate(zip(groups, won), 1):
-        own = sum(bid_of(auction, winner).amount for winner in won[0] if winner[0] in group)
-        cost = total(auction, allocation) - (total(auction, won[0]) - own)
-        shown = winners_text(auction, allocation)
+        shown, cost = winners_text(auction, allocation), cost_of(auction, won[0], group)
         text += f"group {number} {names_of(group)}\n{shown}cost {cost}\n"
     return text
 
 
 def input_text(auction, groups):
-    """The parts of rules, forms and groups."""
     end, names = "," * (auction.version > 1), BIDDERS[: len(auction.forms)]
     lines = ["%rules", f"rules,{auction.version},1,,{end}"]
     for each in zip(CATEGORIES, auction.supply, auction.reserves, auction.values):
@@ -132,6 +132,13 @@ def random_auction(draw, most=4):
     lots = supply, values, size
     forms = [random_form(draw, *lots, package, most) for _ in range(draw.randrange(2, 5))]
     return Auction(version, supply, values, pools if version == 3 else [], forms)
+
+
+def with_reserves(auction, draw):
+    """It with reserves of lots that each bid meets."""
+    bids = sum(auction.forms, [])
+    most = min((bid.amount // sum(bid.package) for bid in bids), default=0)
+    return auction._replace(reserves=tuple(draw.randrange(most + 1) for _ in auction.supply))
 
 
 def package_of_some(draw, supply):
