@@ -19,11 +19,8 @@ LEFT = {"report.txt": "spectrum", "worked/report.txt": "worked", "cluster/report
 @pytest.fixture
 def clone(tmp_path, wdp):
     """What git has of the tree, with the program that is tried; how a command ends there, and what it prints."""
-    listed = subprocess.check_output(["git", "ls-files", "-z"], cwd=ROOT).split(b"\0")
-    names = [name for name in listed if name and not name.startswith(b"crates/")]
-    names = [name for name in names if os.path.lexists(os.path.join(bytes(ROOT), name))]
-    copy = ["xargs", "-0", "cp", "--parents", "-P", "-t", tmp_path]
-    subprocess.run(copy, cwd=ROOT, input=b"\0".join(names), check=True)
+    copy = f"git ls-files -z ':!crates' | tar -c --null -T - | tar -x -C '{tmp_path}'"
+    subprocess.run(["sh", "-c", copy], cwd=ROOT, check=True)
     (tmp_path / "wdp").unlink()
     (tmp_path / "wdp").symlink_to(wdp)
     how = {"cwd": tmp_path, "stdin": subprocess.DEVNULL, "stdout": subprocess.PIPE}
