@@ -12,10 +12,10 @@ from hashlib import sha256
 from pathlib import Path
 
 import pytest
-from trials.program import ROOT as TREE
+from commands import ROOT, files_below
 from wdp import cli
 
-ROOT, SYSTEM = Path(TREE), "/usr/sbin:/usr/bin:/sbin:/bin"
+SYSTEM = "/usr/sbin:/usr/bin:/sbin:/bin"
 OFFICE = list(cli.COMMANDS)
 COMMANDS = {"wdp": "text compile check map report verify explain".split(), "wdp-office": OFFICE}
 # what the tests of the office's sample type themselves
@@ -55,11 +55,6 @@ def tree(wdp, folder):
 def make(tree, *words):
     done = run("make", *words, "PREFIX=", cwd=tree, env={"PATH": SYSTEM})
     return done.returncode, done.stdout + done.stderr
-
-
-def files_below(root):
-    paths = (it for it in root.rglob("*") if it.is_symlink() or not it.is_dir())
-    return {str(path.relative_to(root)) for path in paths if path.parent.name != "__pycache__"}
 
 
 @pytest.fixture(scope="module")
