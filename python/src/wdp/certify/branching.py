@@ -17,6 +17,14 @@ UNDECIDED = 1e-5
 CANDIDATES, STEPS = 8, 40  # splits that are tried, and steps of the dual simplex for each side
 
 
+class Visit(NamedTuple):
+    """A subtree that is to come, with a relaxation that has its columns and the basis to start from."""
+
+    node: Node
+    relaxation: Relaxation
+    basis: list[int] | None
+
+
 class Split(NamedTuple):
     """Columns of one block, of which a fractional solution takes `part` in all."""
 
@@ -83,11 +91,7 @@ def sides(layout: Layout, node: Node, split: Split) -> tuple[Node, Node]:
 
 
 def strongest(
-    layout: Layout,
-    task: tuple[Node, Relaxation, list[int] | None],
-    splits: list[Split],
-    reached: float,
-    limit: float,
+    layout: Layout, task: Visit, splits: list[Split], reached: float, limit: float
 ) -> Split:
     """The split whose sides have the greatest product of gains, at a node whose relaxation has reached an objective."""
     node, relaxation, basis = task

@@ -11,6 +11,7 @@ from typing import Any
 
 import numpy as np
 from numpy.typing import NDArray
+from scipy.sparse import csr_matrix, vstack
 
 from wdp.texts.mps import matrix_of
 from wdp.texts.refusals import Refused
@@ -28,54 +29,47 @@ NEVER_AT_ANY_SIZE = 10**60
 
 class Layout:
     """`members` has the columns of each block, `block_rows` their rows (or None), `shared` the place of each shared row, with -1
-    if it is turned round. `split_row` is the place of a row for a split that is open above the root, or None.
+    if it is turned round. `split_row` is the place of a row for a split that is open above the root, or None. `loads` has what
+    each column takes of each shared row, and `rows` the same as a matrix, after a row 'at most 1' for each block.
     """
 
     def __init__(self, program: ZeroOne, split_row: int | None = None) -> None:
         self.program, self.split_row = program, split_row
-        columns = program.columns
+        columns, entries = program.columns, matrix_of(program).entries
         self.count = len(columns)
         self.is_open: Array = np.array([not column.is_fixed for column in columns], bool)
-        self.matrix = matrix_of(program)
-        self.members, self.block_rows = blocks_of(program, self.matrix.entries, self.is_open)
+        self.members, self.block_rows = blocks_of(program, entries, self.is_open)
         in_blocks = set(self.block_rows)
         kinds = [(at, row.kind) for at, row in enumerate(program.rows) if at not in in_blocks]
         self.shared = [(at, sign) for at, kind in kinds for sign in SIGNS[kind]]
+        if self.count * len(self.shared) > LARGEST_TABLE:
+            what = "too many columns and rows that several blocks share"
+            raise Refused(f"the program has {what}: {self.count} times {len(self.shared)}")
+        rows, signs = np.array(self.shared, np.int64).reshape(-1, 2).T
+        shared = entries[rows].multiply(signs[:, None])
+        self.loads: Array = np.ascontiguousarray(shared.toarray().T)
         self.costs: Array = np.array([column.cost for column in columns], np.int64)
-        self.loads = self.table_of_loads()
         # what the columns fixed to 1 cost, and what they leave of the right sides
         fixed = [place for place, column in enumerate(columns) if column.lower == 1]
         self.fixed_ones = set(fixed)
-        self.constant = sum(columns[place].cost for place in fixed)
+        self.constant = program.objective(fixed)
         taken = [sum(map(int, loads)) for loads in self.loads[fixed].T]
         right_sides = [sign * program.rows[at].right_side for at, sign in self.shared]
         self.right_sides = [right - less for right, less in zip(right_sides, taken)]
-        self.order = np.concatenate(self.members) if self.members else np.zeros(0, int)
-        self.starts = np.cumsum([0] + [len(block) for block in self.members])[:-1]
+        self.order = np.concatenate([np.zeros(0, int), *self.members])
+        sizes = [len(places) for places in self.members]
+        self.starts = np.cumsum([0] + sizes)[:-1]
         self.block_of: Array = np.full(self.count, -1)
-        for block, places in enumerate(self.members):
-            self.block_of[places] = block
-        self.has_row: Array = np.array([row is not None for row in self.block_rows], bool)
+        self.block_of[self.order] = np.repeat(np.arange(len(sizes)), sizes)
+        ones, shape = np.ones(len(self.order)), (len(sizes), self.count)
+        of_blocks = csr_matrix((ones, (self.block_of[self.order], self.order)), shape)
+        self.rows = vstack([of_blocks, shared], "csr")
         self.largest_cost = max((abs(column.cost) for column in columns), default=0)
         self.largest_loads = [int(abs(loads).max(initial=0)) for loads in self.loads.T]
         self.names: Array = np.array([f"{column.name} 1" for column in columns], object)
-        self.rounding = self.rounding_error()
-
-    def table_of_loads(self) -> Array:
-        size = f"{self.count} times {len(self.shared)}"
-        if self.count * len(self.shared) > LARGEST_TABLE:
-            what = "too many columns and rows that several blocks share"
-            raise Refused(f"the program has {what}: {size}")
-        rows, signs = np.array(self.shared, np.int64).reshape(-1, 2).T
-        loads: Array = np.ascontiguousarray(self.matrix.entries[rows].toarray().T) * signs
-        return loads
-
-    def rounding_error(self) -> int:
-        """The most that prices lose by rounding, at any scale and in its units, if each moves by a half."""
-        error = sum(abs(number) for number in self.right_sides)
-        for places in self.members:
-            error += sum(int(number) for number in abs(self.loads[places]).max(axis=0, initial=0))
-        return error // 2 + 1
+        # the most that prices lose by rounding, at any scale and in its units, if each moves by a half
+        moved = sum(abs(number) for number in self.right_sides)
+        self.rounding = (moved + len(sizes) * sum(self.largest_loads)) // 2 + 1
 
     def priced(self, scale: int, prices: Sequence[int]) -> Array:
         """The scaled costs with what prices of the shared rows add; exact."""

@@ -102,8 +102,8 @@ class Leaf:
     def __init__(self, bound: Bound, node: Node | None = None, last: int = 0) -> None:
         self.bound, self.node, self.layout = bound, node or bound.node, bound.layout
         self.cuts = [0] * len(self.node.path)
-        has_row = self.layout.has_row
-        self.blocks = [-min(0, part) if row else 0 for part, row in zip(bound.parts, has_row)]
+        of_blocks = zip(bound.parts, self.layout.block_rows)
+        self.blocks = [0 if row is None else -min(0, part) for part, row in of_blocks]
         self.reduced = bound.priced.copy()
         if self.blocks:
             is_in_block = self.layout.block_of >= 0
@@ -122,7 +122,7 @@ class Leaf:
         members, part = self.layout.members[block], self.bound.parts[block]
         outside = np.setdiff1d(members, self.node.path[at].places)
         row = 0
-        if self.layout.has_row[block]:
+        if self.layout.block_rows[block] is not None:
             row = max(0, -part, -int(self.bound.priced[outside].min(initial=0)))
         self.reduced[members] += row - self.blocks[block]
         self.blocks[block] = row

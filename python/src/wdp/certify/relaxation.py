@@ -9,9 +9,9 @@ from typing import Any
 import numpy as np
 import swiglpk as glpk
 from scipy.optimize import linprog
-from scipy.sparse import csr_matrix, diags, eye, hstack, vstack
+from scipy.sparse import eye, hstack
 
-from wdp.certify.layout import SIGNS, Array, Layout
+from wdp.certify.layout import Array, Layout
 from wdp.certify.leaf import Bound, Node
 
 UNITS_IN_GAP = 1000
@@ -26,45 +26,27 @@ class Relaxation:
     def __init__(self, layout: Layout, bound: Bound, core: Array, gap: int) -> None:
         self.layout, self.core, self.count, self.gap = layout, core, len(core), gap
         self.unit = max(gap, 1) / UNITS_IN_GAP
-        self.root_prices = bound.prices
-        # columns without a row add to the bound what the relaxation adds again
-        paid = [part if row else 0 for part, row in zip(bound.parts, layout.has_row)]
-        self.base = bound.value - sum(bound.parts) + sum(paid)
-        self.rows = np.flatnonzero(layout.has_row)
-        self.row_of: Array = np.full(len(layout.members), -1)
-        self.row_of[self.rows] = np.arange(len(self.rows))
-        self.height = len(self.rows) + len(layout.shared)
-        self.place_of: Array = np.full(layout.count, -1)
-        self.place_of[core] = np.arange(self.count)
-        taken = self.taken()
-        right_sides = np.array([1] * len(self.rows) + layout.right_sides, float)
+        self.root_prices, self.base = bound.prices, bound.value
+        self.blocks, self.height = len(layout.members), layout.rows.shape[0]
+        rows = layout.rows[:, core]
+        right_sides = np.array([1] * self.blocks + layout.right_sides, float)
         # no slack is above what the row could be short of at all: boxed columns are never dual infeasible
-        reach = (abs(right_sides) + abs(taken).sum(axis=1).A1)[len(self.rows) :]
-        self.upper: Array = np.concatenate([np.ones(self.count + len(self.rows)), reach, reach])
-        self.lower: Array = np.zeros(len(self.upper))
-        parts: Array = np.array([*paid, 0], object)
-        reduced = bound.priced[core].astype(object) - parts[layout.block_of[core]]
+        reach = (abs(right_sides) + abs(rows).sum(axis=1).A1)[self.blocks :]
+        self.upper: Array = np.concatenate([np.ones(self.count + self.blocks), reach, reach])
         cap = float(CAP_IN_GAPS * UNITS_IN_GAP)
-        costs = [*reduced, *-parts[self.rows], *bound.prices]
+        reduced = bound.reduced()[core].astype(object)
+        costs = [*reduced, *(-part for part in bound.parts), *bound.prices]
         in_units = [min(cap, float(cost / self.unit)) for cost in costs]
         self.problem = glpk.glp_create_prob()
-        over = -eye(self.height, len(layout.shared), -len(self.rows))
-        self.load(hstack([taken, eye(self.height), over], "csc"), right_sides)
+        over = -eye(self.height, len(layout.shared), -self.blocks)
+        self.load(hstack([rows, eye(self.height), over], "csc"), right_sides)
         for column, cost in enumerate(in_units + [cap] * len(layout.shared)):
             glpk.glp_set_obj_coef(self.problem, column + 1, cost)
-            self.set_bounds(column)
+            self.set_bound(column)
 
     def __del__(self) -> None:
         if hasattr(self, "problem"):
             glpk.glp_delete_prob(self.problem)
-
-    def taken(self) -> Any:
-        """The core's entries in the rows of blocks, and then in the shared ones."""
-        rows = self.row_of[self.layout.block_of[self.core]]
-        held = np.flatnonzero(rows >= 0)
-        shape = len(self.rows), self.count
-        own = csr_matrix((np.ones(len(held)), (rows[held], held)), shape)
-        return vstack([own, csr_matrix(self.layout.loads[self.core].T.astype(float))], "csr")
 
     def load(self, matrix: Any, right_sides: Array) -> None:
         """Gives the problem to GLPK, with a basis of slacks alone."""
@@ -87,27 +69,20 @@ class Relaxation:
             glpk.glp_set_row_stat(problem, row, glpk.GLP_NS)
             glpk.glp_set_col_stat(problem, self.count + row, glpk.GLP_BS)
 
-    def set_bounds(self, column: int) -> None:
-        lower, upper = float(self.lower[column]), float(self.upper[column])
-        kind = glpk.GLP_FX if lower == upper else glpk.GLP_DB
-        glpk.glp_set_col_bnds(self.problem, column + 1, kind, lower, upper)
+    def set_bound(self, column: int) -> None:
+        upper = float(self.upper[column])
+        kind = glpk.GLP_DB if upper else glpk.GLP_FX
+        glpk.glp_set_col_bnds(self.problem, column + 1, kind, 0.0, upper)
 
     def enter(self, node: Node) -> None:
-        lower, upper = self.lower.copy(), self.upper.copy()
+        upper = self.upper.copy()
         upper[: self.count] = node.allowed[self.core]
-        lower[: self.count] = 0
-        upper[self.count : self.count + len(self.rows)] = 1
-        for block in node.forced:
-            row = self.row_of[block]
-            if row >= 0:
-                upper[self.count + row] = 0
-            else:
-                place = self.place_of[self.layout.members[block][0]]
-                lower[place] = upper[place]
-        changed = np.flatnonzero((lower != self.lower) | (upper != self.upper))
-        self.lower, self.upper = lower, upper
+        upper[self.count : self.count + self.blocks] = 1
+        upper[[self.count + block for block in node.forced]] = 0
+        changed = np.flatnonzero(upper != self.upper)
+        self.upper = upper
         for column in changed:
-            self.set_bounds(int(column))
+            self.set_bound(int(column))
 
     def solve(
         self, limit: float | None = None, steps: int | None = None, seconds: float = np.inf
@@ -151,7 +126,7 @@ class Relaxation:
 
     def prices(self, scale: int) -> list[int]:
         """The prices of the shared rows at a scale, rounded."""
-        shared = range(len(self.rows) + 1, self.height + 1)
+        shared = range(self.blocks + 1, self.height + 1)
         duals = (-glpk.glp_get_row_dual(self.problem, row) for row in shared)
         more = (round(scale * dual * self.unit) for dual in duals)
         return [max(0, scale * root + each) for root, each in zip(self.root_prices, more)]
@@ -173,15 +148,14 @@ def root_prices(layout: Layout, seconds: float) -> list[int]:
     """Whole prices of the shared rows, which HiGHS finds from nothing the fastest; 0 if it fails, since any prices are right."""
     if not layout.shared or not layout.members:
         return [0] * len(layout.shared)
-    matrix, unit = layout.matrix, max(1, layout.largest_cost) / 1000
-    signed = [(at, sign) for at, kind in enumerate(matrix.senses) for sign in SIGNS[kind]]
-    places, signs = np.array(signed).T
-    rows = csr_matrix(diags(signs.astype(float)) @ matrix.entries[places])
-    right = signs * np.array(matrix.right_sides, float)[places]
-    costs, bounds = (layout.costs / unit).astype(float), [*zip(matrix.lower, matrix.upper)]
+    unit, blocks = max(1, layout.largest_cost) / 1000, len(layout.members)
+    right_sides = np.array([1] * blocks + layout.right_sides, float)
+    bounds = [(0, int(is_open)) for is_open in layout.is_open]
     limit = {"time_limit": max(1.0, seconds)}
-    found = linprog(costs, rows, right, bounds=bounds, method="highs-ds", options=limit)
+    costs = (layout.costs / unit).astype(float)
+    found = linprog(
+        costs, layout.rows, right_sides, bounds=bounds, method="highs-ds", options=limit
+    )
     if found.status != 0:
         return [0] * len(layout.shared)
-    duals = dict(zip(signed, found.ineqlin.marginals))
-    return [max(0, round(-float(duals[each]) * unit)) for each in layout.shared]
+    return [max(0, round(-float(dual) * unit)) for dual in found.ineqlin.marginals[blocks:]]

@@ -12,7 +12,8 @@ from typing import NamedTuple, NoReturn
 
 import numpy as np
 
-from wdp.certify.branching import POSITIVE, Split, candidates, halving, sides, strongest
+from wdp.certify import Say
+from wdp.certify.branching import POSITIVE, Split, Visit, candidates, halving, sides, strongest
 from wdp.certify.layout import Layout
 from wdp.certify.leaf import Bound, Leaf, Node
 from wdp.certify.relaxation import Relaxation, root_prices
@@ -32,8 +33,6 @@ PROMISING, PROMISING_LINES = 40, 400
 SECONDS_BETWEEN_MESSAGES = 10
 NO_LIMIT = 1e6
 
-Say = Callable[[str], None]
-
 
 class LimitReached(Refused):
     status = 4
@@ -41,15 +40,6 @@ class LimitReached(Refused):
 
 class Again(Exception):
     """A better point makes the gap so small that costs want finer units."""
-
-
-class Visit(NamedTuple):
-    """A subtree that is to come, with a relaxation that has its columns and the basis to start from."""
-
-    node: Node
-    relaxation: Relaxation
-    basis: list[int] | None
-    is_root: bool = False
 
 
 class Search:
@@ -87,8 +77,8 @@ class Search:
                     task = self.tasks.pop()
                     if isinstance(task, Visit):
                         self.visit(task)
-                    elif not self.write(task):
-                        raise Refused("the second side of a fixing isn't shown")
+                    else:
+                        self.have_to_write(task)
                 return "".join(line + "\n" for line in self.lines).encode("ascii")
             self.say("the search begins again")
 
@@ -122,14 +112,12 @@ class Search:
         self.leaves += 1
         return True
 
-    def write_empty(self, node: Node) -> bool:
-        """Writes the leaf of a node at which a block has to win and has no column left, which needs no prices."""
-        return self.write(Leaf(Bound(self.layout, node, 0, [0] * len(self.layout.shared))))
+    def have_to_write(self, leaf: Leaf) -> None:
+        if not self.write(leaf):
+            raise Refused("the numbers of this program are too large for a certificate")
 
     def show(self, node: Node, prices_at: Callable[[int], list[int]]) -> bool:
         """Writes a leaf with prices at the first scale that shows it."""
-        if self.is_empty(node):
-            return self.write_empty(node)
         for scale in SCALES:
             bound = Bound(self.layout, node, scale, prices_at(scale))
             if bound.is_above(self.least):
@@ -137,10 +125,6 @@ class Search:
             if scale * (self.least - 1) - bound.value > self.layout.rounding:
                 break
         return False
-
-    def is_empty(self, node: Node) -> bool:
-        """Whether a block has to win and has no column left."""
-        return any(not node.allowed[self.layout.members[block]].any() for block in node.forced)
 
     def open_root(self, prices: list[int]) -> None:
         """Shows the root, or begins the tree below it. Better prices, better points and fixed columns help one another in turns."""
@@ -170,7 +154,7 @@ class Search:
                 break
             prices = better if is_better else prices
         self.at_root = relaxation
-        self.tasks.append(Visit(node, relaxation, basis, True))
+        self.tasks.append(Visit(node, relaxation, basis))
 
     def try_promising(self, bound: Bound) -> None:
         """Searches the columns that are nearest to the choice of their blocks: a good point makes the gap small."""
@@ -224,9 +208,12 @@ class Search:
         return bound.node.without(places)
 
     def visit(self, task: Visit) -> None:
-        node, relaxation = task.node, task.relaxation
+        node, relaxation, basis = task
+        if any(not node.allowed[self.layout.members[block]].any() for block in node.forced):
+            nothing = [0] * len(self.layout.shared)
+            return self.have_to_write(Leaf(Bound(self.layout, node, 0, nothing)))
         relaxation.enter(node)
-        relaxation.restore(task.basis)
+        relaxation.restore(basis)
         limit = relaxation.units(self.least - 1)
         stop = limit + abs(limit) * 1e-4 + 1e-6
         reached = relaxation.solve(limit=stop, seconds=self.seconds_left())
@@ -234,56 +221,53 @@ class Search:
         if not is_shown and reached is not None and reached > limit:
             reached = relaxation.solve()
             is_shown = self.show(node, relaxation.prices)
-        if not is_shown and (reached is None or self.is_empty(node)):
-            self.settle_or_halve(node, relaxation)
-        elif not is_shown:
-            self.part(task, reached)
+        if not is_shown and not self.fix_and_shrink(node, relaxation):
+            self.part(Visit(node, relaxation, relaxation.basis()), reached)
+
+    def fix_and_shrink(self, node: Node, relaxation: Relaxation) -> bool:
+        """Fixes columns, if that is worth while, or goes on with a smaller relaxation; whether the node is then visited again."""
+        layout, fixed, basis = self.layout, node, relaxation.basis()
+        if relaxation.overstep() < 1e-7:
+            fixed = self.fix(Bound(layout, node, 1, relaxation.prices(1)), NODE_PART)
+        core = np.flatnonzero(fixed.allowed)
+        is_smaller = len(core) < SHRINKS_AT * relaxation.count and relaxation.count > SMALL
+        if is_smaller:
+            bound = Bound(layout, Node(fixed.allowed), 1, relaxation.root_prices)
+            relaxation, basis = Relaxation(layout, bound, core, relaxation.gap), None
+        if is_again := is_smaller or fixed is not node:
+            self.tasks.append(Visit(fixed, relaxation, basis))
+        return is_again
 
     def part(self, task: Visit, reached: float | None) -> None:
-        """Fixes what can be fixed, and splits where the relaxation is undecided."""
-        layout, node, relaxation = self.layout, task.node, task.relaxation
-        values, basis = relaxation.values(), relaxation.basis()
-        if not task.is_root and relaxation.overstep() < 1e-7:
-            node = self.fix(Bound(layout, node, 1, relaxation.prices(1)), NODE_PART)
-        core = np.flatnonzero(node.allowed)
-        is_smaller = len(core) < SHRINKS_AT * relaxation.count and relaxation.count > SMALL
-        if not task.is_root and is_smaller:
-            bound = Bound(layout, Node(node.allowed), 1, relaxation.root_prices)
-            relaxation = Relaxation(layout, bound, core, relaxation.gap)
-            relaxation.enter(node)
-            reached = relaxation.solve(seconds=self.seconds_left())
-            values, basis = relaxation.values(), relaxation.basis()
+        """Splits where the relaxation is undecided, or if it is of no help by halves, down to single points."""
+        layout, (node, relaxation, _) = self.layout, task
+        values = relaxation.values()
         held = np.flatnonzero(values > POSITIVE)
         splits = candidates(layout, node, relaxation.core[held], values[held])
-        if reached is None or not splits:
-            self.try_point(relaxation.points(values > 0.5))
-            self.settle_or_halve(node, relaxation)
-            return
-        limit, where = relaxation.units(self.least - 1), (node, relaxation, basis)
-        self.split(Visit(*where), strongest(layout, where, splits, reached, limit))
+        if reached is not None and splits:
+            limit = relaxation.units(self.least - 1)
+            return self.split(task, strongest(layout, task, splits, reached, limit))
+        self.try_point(relaxation.points(values > 0.5))
+        if half := halving(layout, node):
+            self.split(task, half)
+        else:
+            self.settle(node)
 
     def split(self, task: Visit, split: Split) -> None:
         self.lines.append("split 0 " + " ".join(self.layout.names[split.places]))
         low, high = sides(self.layout, task.node, split)
         self.tasks += [task._replace(node=high), task._replace(node=low)]
 
-    def settle_or_halve(self, node: Node, relaxation: Relaxation) -> None:
-        """Without the help of a relaxation: tests the one point that is left, or splits a block."""
-        is_empty = self.is_empty(node)
-        if split := None if is_empty else halving(self.layout, node):
-            self.split(Visit(node, relaxation, relaxation.basis()), split)
-        elif not (self.write_empty(node) if is_empty else self.show_settled(node)):
-            raise Refused("the numbers of this program are too large for a certificate")
-
-    def show_settled(self, node: Node) -> bool:
-        """Shows a node with one point, by its objective or by a row that it breaks."""
-        zeros, places = [0] * len(self.layout.shared), np.flatnonzero(node.allowed)
-        for at, right in enumerate(self.layout.right_sides):
-            if sum(int(load) for load in self.layout.loads[places, at]) > right:
-                prices = zeros[:at] + [1] + zeros[at + 1 :]
-                return self.write(Leaf(Bound(self.layout, node, 0, prices)))
-        self.try_point({int(place) for place in places})
-        return self.write(Leaf(Bound(self.layout, node, 1, zeros)))
+    def settle(self, node: Node) -> None:
+        """Shows a node with one point, by a row that it breaks or by its objective."""
+        prices, places = [0] * len(self.layout.shared), np.flatnonzero(node.allowed)
+        taken = [sum(map(int, loads)) for loads in self.layout.loads[places].T]
+        sides = enumerate(zip(taken, self.layout.right_sides))
+        broken = [at for at, (load, right) in sides if load > right]
+        for at in broken[:1]:
+            prices[at] = 1
+        self.try_point(set(map(int, places)))
+        self.have_to_write(Leaf(Bound(self.layout, node, int(not broken), prices)))
 
     def try_point(self, places: set[int]) -> bool:
         """Takes a point of the open columns if it is feasible and better than the best one; whether it is."""
