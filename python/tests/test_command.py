@@ -12,7 +12,7 @@ from wdp import cli
 
 TOOL, SOURCE = ROOT / "wdp-office", ROOT / "python/src/wdp"
 # the modules of which a user of the package reads the help
-PUBLIC = ["__init__", "api", "results", "texts/mps", "texts/refusals"]
+PUBLIC = ["__init__", "api", "results", "texts/refusals"]
 STRANGE = ["", "-", "--", "--versions", "a\nb", "\x1b[1mgather", "x" * 100_000]
 
 

@@ -6,8 +6,8 @@ The command wdp-office has an auction's office round it.
 """
 from wdp.api import Auction
 from wdp.office.judge import Explained, Finding
-from wdp.results import Allocation, Certified, Counts, Group, Prices, Report, Solutions, Tie, Winner
-from wdp.texts.mps import Matrix, Program
+from wdp.results import Allocation, Certified, Counts, Group, Matrix, Prices, Program, Report
+from wdp.results import Solutions, Tie, Winner
 from wdp.texts.refusals import Missing, NotFound, NotSolved, Refused, Unclear, WrongWords
 
 __version__ = "1.2.0"

@@ -1,7 +1,6 @@
 """An auction: what goes into the program, and each of its commands as a call."""
 from __future__ import annotations
 
-import math
 import os
 from collections.abc import Iterable
 from numbers import Real
@@ -11,9 +10,8 @@ from wdp import certify, files, solve
 from wdp import prices as pricing
 from wdp.office.judge import Explained, explained
 from wdp.program import Limits, Path, answer, found_program
-from wdp.results import Allocation, Certified, Counts, Report, Solutions, joined
+from wdp.results import Allocation, Certified, Counts, Program, Report, Solutions, joined
 from wdp.texts import answers, records
-from wdp.texts.mps import Program
 from wdp.texts.parts import with_groups
 from wdp.texts.records import Text
 from wdp.texts.refusals import NotFound, NotSolved, Refused, WrongWords
@@ -168,15 +166,15 @@ class Auction:
         return answers.read_programs(output, asked)
 
     def solve(
-        self, solver: str | None = None, time_limit: int | None = None, workers: int = 1
+        self, solver: str | None = None, time_limit: float | None = None, workers: int = 1
     ) -> Solutions:
         """A point of each program: from `cbc`, from `highs` as scipy has it, or from a command as docs/OFFICE.md describes;
-        by default from cbc if it is installed. That it is the best one is the solver's word. `time_limit` is in whole
-        seconds, for each program.
+        by default from cbc if it is installed. That it is the best one is the solver's word. `time_limit` is in seconds, for
+        each program; a solver that runs as a program gets them rounded up.
 
         Raises NotFound if the solver isn't there, NotSolved if it gives no point, and WrongWords if it isn't known.
         """
-        name, seconds = checked_solver(solver), whole_seconds(time_limit)
+        name, seconds = checked_solver(solver), seconds_of(time_limit)
         points = (point_of(program, name, seconds) for program in self.compile(workers))
         return Solutions(tuple(points), name)
 
@@ -217,34 +215,35 @@ class Auction:
         return Certified(self._report("verify", audit, 1), made, shown, *claims, audit)
 
     def prices(
-        self, certified: Certified, solver: str | None = None, time_limit: int | None = None
+        self, certified: Certified, solver: str | None = None, time_limit: float | None = None
     ) -> Certified:
         """What is certified, with prices: whole ones of the least sum that cover every group of bidders, and of these the nearest
         to what each winner costs alone. Its report has them, and after the groups of the auction those that show them: each
-        winner alone, and what binds the sum. `time_limit` is in whole seconds, for each solver's run and each certificate.
+        winner alone, and what binds the sum. `time_limit` is in seconds, for each solver's run and each certificate.
 
         Raises what `solve` and `certify` do."""
-        name, seconds = checked_solver(solver), whole_seconds(time_limit)
+        name, seconds = checked_solver(solver), seconds_of(time_limit)
         given = zip(certified.solutions, certified.certificates)
         found = [Found(text.encode(), shown.encode(), 0) for text, shown in given]
         programs = self.compile()
         listed = [joined(program.names) for program in programs]
-        more = [win.bidder for win in certified.report[0].winners if win.bidder not in listed]
-        grown, parts = self, b""
-        while more or not parts:
-            listed += more
+
+        def with_more(more: list[str]) -> Auction:
+            """The auction with groups after those that are listed, each of which is solved and certified."""
+            listed.extend(more)
             text = with_groups(self._given, listed[len(programs) :])
             grown = Auction.from_text(text, program=self._program, time_limit=self._time_limit)
-            for program in grown.compile()[len(found) :]:
+            for program in grown.compile()[len(found) :] if more else ():
                 begin = point_of(program, name, seconds).encode()
                 found.append(certify.certified(program.text.encode(), begin, seconds))
-            more = []
-            if not parts:
-                points = [each.solution for each in found]
-                program_text = programs[0].text.encode()
-                award = pricing.Award(self._given, program_text, points, listed)
-                more, parts = award.priced(name, seconds)
-        return grown._certified(found, name, (certified.unique, certified.tie), parts)
+            return grown
+
+        winners = [winner.bidder for winner in certified.report[0].winners]
+        with_more([winner for winner in winners if winner not in listed])
+        points = [each.solution for each in found]
+        award = pricing.Award(self._given, programs[0].text.encode(), points, listed)
+        more, parts = award.priced(name, seconds)
+        return with_more(more)._certified(found, name, (certified.unique, certified.tie), parts)
 
     def report(self, solutions: Iterable[Any], workers: int = 1) -> Report:
         """Winners, total and opportunity cost of each group in pounds, from a solution for each: texts, or dicts of columns
@@ -301,7 +300,7 @@ def checked_solver(solver: str | None) -> str:
     return solve.checked_solver(solver)
 
 
-def point_of(program: Program, solver: str, seconds: int | None) -> str:
+def point_of(program: Program, solver: str, seconds: float | None) -> str:
     """A solver's point of a group's program; a NotSolved says of which group."""
     try:
         return solve.point_of(program.text.encode(), solver, seconds).decode()
@@ -327,12 +326,6 @@ def listed(given: Iterable[Any], what: str) -> list[Any]:
     if records.is_text(given) or not records.is_list(given):
         raise WrongWords(f"{what}: a list is asked for")
     return list(given)
-
-
-def whole_seconds(time_limit: float | None) -> int | None:
-    """A time limit that a solver takes, rounded up."""
-    seconds = seconds_of(time_limit)
-    return None if seconds is None else math.ceil(seconds)
 
 
 def seconds_of(time_limit: float | None) -> float | None:

@@ -201,7 +201,7 @@ class Award:
         return Weights(scale, {g: y for g, y in zip(groups, whole) if y}, whole[len(groups) :])
 
     def found(
-        self, solver: str, seconds: int | None, at_once: AtOnce, log: Path | None
+        self, solver: str, seconds: float | None, at_once: AtOnce, log: Path | None
     ) -> tuple[Prices, bytes]:
         """Prices, and the certificate that they cover every group. The solver looks for allocations that show what further groups
         cost, and the certificate is the judge."""
@@ -225,7 +225,7 @@ class Award:
     def priced(
         self,
         solver: str,
-        seconds: int | None = None,
+        seconds: float | None = None,
         at_once: AtOnce = nullcontext,
         log: Path | None = None,
     ) -> tuple[list[str], bytes]:

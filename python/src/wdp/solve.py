@@ -4,6 +4,7 @@ Nothing that a solver says of its answer counts. Its point is compared with the 
 one is for a certificate to show (wdp.certify).
 """
 import argparse
+import math
 import os
 import re
 import shlex
@@ -16,7 +17,7 @@ from pathlib import Path
 from wdp import files, guard
 from wdp.office.choices import checked
 from wdp.program import Limits, ran, signal_named
-from wdp.texts.mps import matrix_of
+from wdp.results import Matrix
 from wdp.texts.refusals import NotFound, NotSolved, Refused, WrongWords, need
 from wdp.texts.solution import read_solution, solution_text
 from wdp.texts.zero_one import AT_LEAST, AT_MOST, ZeroOne, read_program
@@ -72,7 +73,7 @@ def filled(words: list[str], known: dict[str, str]) -> list[str]:
 
 
 def point_of(
-    text: bytes, solver: str, seconds: int | None = None, log: Path | None = None
+    text: bytes, solver: str, seconds: float | None = None, log: Path | None = None
 ) -> bytes:
     """A feasible point of a program in MPS, as a solution has it. What the solver prints goes to the file `log`. Raises NotSolved,
     whose status is 4 if the solver has none when its time is over, and 3 if there is none."""
@@ -98,16 +99,16 @@ def nothing(text: bytes) -> bytes:
     return solution_text(ones, program)
 
 
-def answer_of(text: bytes, solver: str, seconds: int | None, folder: Path, log: Path) -> bytes:
+def answer_of(text: bytes, solver: str, limit: float | None, folder: Path, log: Path) -> bytes:
     """The answer of a solver that is called as a program, of which nothing is left. It may overstep its limit by some seconds."""
-    words = command_words(solver)
+    words, seconds = command_words(solver), limit and math.ceil(limit)
     name = os.path.basename(words[0])
     paths = {place: str(folder / file) for place, file in FILES.items()}
     files.write_all({paths["mps"]: text, paths["free"]: free_text(text)})
     guarded = [sys.executable, "-IS", guard.__file__, str(os.getpid()), str(MOST_OF_ANSWER)]
     guarded += filled(words, {**paths, **({"seconds": str(seconds)} if seconds else {})})
-    limit = seconds and seconds + min(LONGEST_GRACE, 5 + seconds // 10)
-    limits = Limits(MOST_OF_ANSWER, limit, signal.SIGTERM)
+    late = seconds and seconds + min(LONGEST_GRACE, 5 + seconds // 10)
+    limits = Limits(MOST_OF_ANSWER, late, signal.SIGTERM)
     with open(log, "wb+") as printed:
         ended = ran(guarded, b"", limits, printed, printed, folder)
     said = ended.last_line[:LONGEST] or "it printed nothing"
@@ -147,13 +148,13 @@ def of_cbc(answer: bytes) -> bytes:
     return b"".join(made)
 
 
-def by_highs(program: ZeroOne, seconds: int | None) -> set[int]:
+def by_highs(program: ZeroOne, seconds: float | None) -> set[int]:
     """The columns at 1 of the best point that HiGHS finds, as scipy has it."""
     need("HiGHS", "numpy", "scipy")
     import numpy as np
     from scipy.optimize import Bounds, LinearConstraint, milp
 
-    matrix = matrix_of(program)
+    matrix = Matrix.of(program)
     kinds, right = np.array(matrix.senses), np.array(matrix.right_sides, float)
     low = np.where(kinds == AT_MOST, -np.inf, right)
     high = np.where(kinds == AT_LEAST, np.inf, right)
@@ -164,7 +165,7 @@ def by_highs(program: ZeroOne, seconds: int | None) -> set[int]:
         integrality=np.ones(len(matrix.columns)),
         bounds=Bounds(matrix.lower, matrix.upper),
         constraints=rows,
-        options={"mip_rel_gap": 0, **limit},
+        options={"mip_rel_gap": 0.0, **limit},
     )
     if found.x is None:
         status = TIME_OUT if found.status == 1 else NO_POINT

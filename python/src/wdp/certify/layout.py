@@ -13,7 +13,7 @@ import numpy as np
 from numpy.typing import NDArray
 from scipy.sparse import csr_matrix, vstack
 
-from wdp.texts.mps import matrix_of
+from wdp.results import Matrix
 from wdp.texts.refusals import Refused
 from wdp.texts.zero_one import AT_LEAST, AT_MOST, EQUAL, ZeroOne
 
@@ -35,7 +35,7 @@ class Layout:
 
     def __init__(self, program: ZeroOne, split_row: int | None = None) -> None:
         self.program, self.split_row = program, split_row
-        columns, entries = program.columns, matrix_of(program).entries
+        columns, entries = program.columns, Matrix.of(program).entries
         self.count = len(columns)
         self.is_open: Array = np.array([not column.is_fixed for column in columns], bool)
         self.members, self.block_rows = blocks_of(program, entries, self.is_open)
@@ -80,14 +80,14 @@ class Layout:
         priced += self.loads.astype(dtype) @ np.array(prices, dtype)
         return priced
 
-    def lowest_in_blocks(self, numbers: Array, allowed: Array) -> list[int | None]:
-        """The least of the numbers in each block, among the allowed columns; None if it has none."""
+    def lowest_in_blocks(self, numbers: Array, allowed: Array) -> list[int]:
+        """The least of the numbers in each block, among the allowed columns; 1 if it has none."""
         if not self.members:
             return []
         never = NEVER if numbers.dtype != object else NEVER_AT_ANY_SIZE
         counted = np.where(allowed, numbers, never)[self.order]
         lowest = np.minimum.reduceat(counted, self.starts)
-        return [None if number >= never else int(number) for number in lowest]
+        return [1 if number >= never else int(number) for number in lowest]
 
 
 def blocks_of(

@@ -56,8 +56,9 @@ class Bound:
     def __init__(self, layout: Layout, node: Node, scale: int, prices: list[int]) -> None:
         self.layout, self.node, self.scale, self.prices = layout, node, scale, prices
         self.priced = layout.priced(scale, prices)
-        lowest = layout.lowest_in_blocks(self.priced, node.allowed)
-        self.parts = [part_of(number, at in node.forced) for at, number in enumerate(lowest)]
+        # what each block adds: any number is right for one that has to win and has no column left
+        lowest = enumerate(layout.lowest_in_blocks(self.priced, node.allowed))
+        self.parts = [number if at in node.forced else min(0, number) for at, number in lowest]
         self.right = sum(price * number for price, number in zip(prices, layout.right_sides))
         self.value = scale * layout.constant + sum(self.parts) - self.right
 
@@ -72,15 +73,6 @@ class Bound:
         parts = np.array(self.parts, self.priced.dtype)
         return np.subtract(self.priced, parts[self.layout.block_of])
 
-    def cheapest(self) -> set[int]:
-        """The allowed columns that the blocks choose at these prices; a point if the shared rows are met."""
-        chosen = set()
-        for block, all_members in enumerate(self.layout.members):
-            members = all_members[self.node.allowed[all_members]]
-            if len(members) and (block in self.node.forced or self.parts[block] < 0):
-                chosen.add(int(members[np.argmin(self.priced[members])]))
-        return chosen
-
     def worth_fixing(self, least: int) -> tuple[Array, int]:
         """The allowed columns at 1 in no point below `least`, and the least of their reduced costs."""
         reduced = self.reduced()
@@ -89,15 +81,8 @@ class Bound:
         return places, int(reduced[places].min()) if len(places) else 0
 
 
-def part_of(lowest: int | None, is_forced: bool) -> int:
-    """What a block adds to the bound; any number is right if it has to win and none of its columns is left."""
-    if is_forced:
-        return 1 if lowest is None else lowest
-    return min(0, lowest or 0)
-
-
 class Leaf:
-    """The multipliers by which a bound is shown. `last` is an extra multiplier for the last cut of the node."""
+    """The multipliers by which a bound is shown. `last` is an extra one for the last cut of the node, which adds as much to it."""
 
     def __init__(self, bound: Bound, node: Node | None = None, last: int = 0) -> None:
         self.bound, self.node, self.layout = bound, node or bound.node, bound.layout
@@ -133,41 +118,33 @@ class Leaf:
         self.cuts[at] += multiplier
         self.reduced[cut.places] += -multiplier if cut.is_high else multiplier
 
-    def value(self) -> int:
-        """The bound that the leaf shows, from the reduced costs alone."""
-        bound = self.bound
-        negative = self.reduced[(self.reduced < 0) & self.layout.is_open]
-        high = sum(number for number, cut in zip(self.cuts, self.node.path) if cut.is_high)
-        right = sum(self.blocks) + bound.right - high
-        return bound.scale * self.layout.constant + sum(map(int, negative)) - right
-
-    def rows(self) -> list[tuple[int, int]]:
-        """The rows that have a multiplier, in the order of the program."""
+    def rows(self) -> dict[int, int]:
+        """The multipliers of the rows that have one, in the order of the program."""
         of_blocks = zip(self.layout.block_rows, self.blocks)
         multipliers = Counter({row: number for row, number in of_blocks if row is not None})
         for (row, sign), price in zip(self.layout.shared, self.bound.prices):
             multipliers[row] += sign * price
-        return sorted((place, number) for place, number in multipliers.items() if number)
+        return {place: multipliers[place] for place in sorted(multipliers) if multipliers[place]}
 
     def fits(self) -> bool:
         """Whether each number is at most 10^18, and the size of the leaf (docs/REFERENCE.md) is below 2^126."""
         rows, scale, layout = self.rows(), self.bound.scale, self.layout
-        if max([scale, *self.cuts, *(abs(number) for _, number in rows)]) > MOST:
+        if max([scale, *self.cuts, *(abs(number) for number in rows.values())]) > MOST:
             return False
         widest = {row: load for (row, _), load in zip(layout.shared, layout.largest_loads)}
         # the bound is as large as all costs, and one more
         column = 2 * scale * (layout.largest_cost + 1)
-        column += sum(abs(number) * widest.get(row, 1) for row, number in rows)
+        column += sum(abs(number) * widest.get(row, 1) for row, number in rows.items())
         column += sum(number * len(cut.places) for number, cut in zip(self.cuts, self.node.path))
-        right = sum(abs(number * layout.program.rows[row].right_side) for row, number in rows)
-        right += 2 * sum(self.cuts)
+        right = 2 * sum(self.cuts)
+        right += sum(abs(n * layout.program.rows[row].right_side) for row, n in rows.items())
         # the checker counts each column of a split's form, and one more on its right side
-        above = 0 if layout.split_row is None else dict(rows).get(layout.split_row, 0)
+        above = 0 if layout.split_row is None else rows.get(layout.split_row, 0)
         return (column + above * layout.count) * (layout.count + 1) + right + 2 * above < WIDEST
 
     def line(self) -> str:
         """The line of a certificate. The multiplier of a split above the root comes first."""
-        rows = dict(self.rows())
+        rows = self.rows()
         above = [] if self.layout.split_row is None else [rows.pop(self.layout.split_row, 0)]
         named = ((self.layout.program.rows[row].name, number) for row, number in rows.items())
         return " ".join(map(str, ["bound", self.bound.scale, *above, *self.cuts, *chain(*named)]))

@@ -111,18 +111,13 @@ class Relaxation:
     def restore(self, basis: list[int] | None) -> None:
         if basis is None:
             return
-        wanted, now = set(basis), set(self.basis() or [])
-        for variable in now - wanted:
-            self.set_status(variable, glpk.GLP_NS, glpk.GLP_NL)
-        for variable in wanted - now:
-            self.set_status(variable, glpk.GLP_BS, glpk.GLP_BS)
-
-    def set_status(self, variable: int, row_status: int, column_status: int) -> None:
-        """Moves a variable into the basis or out of it."""
-        if variable <= self.height:
-            glpk.glp_set_row_stat(self.problem, variable, row_status)
-        else:
-            glpk.glp_set_col_stat(self.problem, variable - self.height, column_status)
+        wanted = set(basis)
+        for variable in wanted.symmetric_difference(self.basis() or []):
+            status = glpk.GLP_BS if variable in wanted else glpk.GLP_NL
+            if variable <= self.height:
+                glpk.glp_set_row_stat(self.problem, variable, status)
+            else:
+                glpk.glp_set_col_stat(self.problem, variable - self.height, status)
 
     def prices(self, scale: int) -> list[int]:
         """The prices of the shared rows at a scale, rounded."""

@@ -59,7 +59,7 @@ class Search:
         self.begun = self.last_said = time.monotonic()
         self.seconds, self.most_lines = math.inf if seconds is None else seconds, lines
         self.is_from_nothing = ones <= layout.fixed_ones
-        self.root_value: int | None = None
+        self.root_value = -math.inf
         self.at_root: Relaxation | None = None
         self.lines: list[str] = []
         self.tasks: list[Visit | Leaf] = []
@@ -94,8 +94,7 @@ class Search:
         is_late = self.elapsed() >= self.seconds
         if is_late or len(self.lines) > self.most_lines:
             limit = f"time limit of {self.seconds:g} seconds" if is_late else "limit of lines"
-            known = "" if self.root_value is None else f"; {self.known()}"
-            raise LimitReached(f"the {limit} is reached after {far}{known}")
+            raise LimitReached(f"the {limit} is reached after {far}; {self.known()}")
         if time.monotonic() - self.last_said >= SECONDS_BETWEEN_MESSAGES:
             self.last_said = time.monotonic()
             self.say(f"{far}, {self.elapsed():.0f} s")
@@ -105,8 +104,8 @@ class Search:
         return f"the least objective is between {self.root_value} and {self.least}"
 
     def write(self, leaf: Leaf) -> bool:
-        """Writes a leaf if it shows the bound and its numbers fit."""
-        if leaf.value() <= leaf.bound.scale * (self.least - 1) or not leaf.fits():
+        """Writes a leaf whose bound is above the limit, if its numbers fit."""
+        if not leaf.fits():
             return False
         self.lines.append(leaf.line())
         self.leaves += 1
@@ -131,9 +130,7 @@ class Search:
         layout, node = self.layout, Node(self.layout.is_open.copy())
         for turn in range(ROUNDS):
             bound = Bound(layout, node, 1, prices)
-            known = bound.value if self.root_value is None else self.root_value
-            self.root_value = max(bound.value, known)
-            self.try_point(bound.cheapest())
+            self.root_value = max(bound.value, self.root_value)
             if turn == 0 and self.is_from_nothing:
                 self.try_promising(bound)
             if bound.is_above(self.least) and self.write(Leaf(bound)):

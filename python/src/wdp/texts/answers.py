@@ -5,8 +5,7 @@ from contextlib import suppress
 from itertools import islice
 
 from wdp.texts.refusals import Unclear, escaped
-from wdp.texts.mps import Program
-from wdp.results import Allocation, Counts, Group, Prices, Report, Tie, Winner
+from wdp.results import Allocation, Counts, Group, Prices, Program, Report, Tie, Winner
 from wdp.texts.accepted import Bid, form_of
 from wdp.texts.parts import groups_in, names_in, parts_of
 
@@ -65,10 +64,14 @@ class Asked:
 
 
 class Answer:
-    """An answer, of which one piece after the other is taken."""
+    """An answer, in ASCII, of which one piece after the other is taken."""
 
     def __init__(self, output: bytes) -> None:
-        self.at, self.text = 0, text_of(output)
+        self.at = 0
+        try:
+            self.text = output.decode("ascii")
+        except UnicodeDecodeError as error:
+            raise unclear(f"byte {error.start + 1} of it isn't ASCII") from None
 
     def take(self, form: re.Pattern[str]) -> re.Match[str]:
         """The next lines, which must have this form."""
@@ -85,14 +88,6 @@ def unclear(why: str) -> Unclear:
     return Unclear("the program's answer isn't as docs/REFERENCE.md says: " + escaped(why))
 
 
-def text_of(output: bytes) -> str:
-    """An answer as a text; it is ASCII."""
-    try:
-        return output.decode("ascii")
-    except UnicodeDecodeError as error:
-        raise unclear(f"byte {error.start + 1} of it isn't ASCII") from None
-
-
 def names_of(text: str) -> tuple[str, ...]:
     return () if text == "-" else tuple(text.split("+"))
 
@@ -106,7 +101,7 @@ def names_of_head(number: str, names: str, wanted: int, asked: Asked) -> tuple[s
 
 
 def read_programs(output: bytes, asked: Asked) -> list[Program]:
-    before, *pieces = PROGRAM.split(text_of(output))
+    before, *pieces = PROGRAM.split(Answer(output).text)
     found = list(zip(pieces[::3], pieces[1::3], pieces[2::3]))
     if len(found) != len(asked.groups) or before:
         raise unclear(f"it has {len(found)} programs, for {len(asked.groups)} groups")

@@ -3,7 +3,6 @@
 Nothing is judged here that the program judges: records are written, and it says what is wrong with them.
 """
 import operator
-import sys
 from collections.abc import Iterable, Mapping, Sequence
 from contextlib import suppress
 from dataclasses import dataclass
@@ -162,20 +161,16 @@ def whole(number: int, what: str) -> int:
 
 
 def is_frame(given: object) -> bool:
-    """Whether this is a data frame of pandas, which isn't imported for that: who has made one has imported it."""
-    kind = getattr(sys.modules.get("pandas"), "DataFrame", None)
-    return isinstance(kind, type) and isinstance(given, kind)
+    """Whether this is a data frame, for which pandas isn't imported: who has made one has imported it."""
+    return hasattr(given, "iloc") and hasattr(given, "columns")
 
 
 def records_in(given: Any, what: str) -> list[Any]:
     """A list of records, or the rows of a data frame by the names of its columns."""
     if is_frame(given):
-        names = list(map(str, given.columns))
-        if len(set(names)) < len(names):
+        if len(set(map(str, given.columns))) < len(given.columns):
             raise WrongWords(f"{what}: two columns of the data frame have the same name")
-        # (column by column, so that no value turns into another type by its neighbours)
-        columns = [given.iloc[:, place].tolist() for place in range(len(names))]
-        return [dict(zip(names, values)) for values in zip(*columns)]
+        return list(given.rename(columns=str).to_dict("records"))
     if not is_list(given):
         raise WrongWords(f"{what}: a list of records is asked for, and this is {of_type(given)}")
     return list(given)
