@@ -18,8 +18,7 @@ PACKAGE = os.path.dirname(os.path.realpath(__file__))
 INSTALL = "make install in the tree of wdp installs it, or name it by program= or $WDP"
 END_OF_MESSAGES = 65_536  # bytes at the end of standard error that are read: a refusal is one line
 MOST_OF_MESSAGES = 256 * 1024 * 1024  # bytes of standard error, after which a program is ended
-# seconds between looks at a program: the longer it takes, the fewer
-SHORTEST_LOOK, LONGEST_LOOK = 0.004, 0.25
+LOOK_EVERY = 0.25  # seconds, at how much a program has printed
 PATIENCE = 15  # seconds for a program that is to end
 REFUSALS = {1: Refused, 2: WrongWords, 3: NotFound}  # by the program's status
 
@@ -105,7 +104,6 @@ def status_of(
     most_of_answer = limits.most, f"an answer to this can have, {limits.most} bytes"
     most_of_messages = MOST_OF_MESSAGES, f"{MOST_OF_MESSAGES} bytes on standard error"
     mosts = {"stdout": most_of_answer, "stderr": most_of_messages}
-    pause = SHORTEST_LOOK
     try:  # (in a group of its own, so that all of it can be ended)
         how: Any = {**streams, "cwd": folder, "start_new_session": True}
         started: subprocess.Popen[bytes] = subprocess.Popen(words, **how)
@@ -115,9 +113,8 @@ def status_of(
     try:
         last = math.inf if limits.seconds is None else time.monotonic() + limits.seconds
         while True:
-            pause = min(pause * 1.25, LONGEST_LOOK)
             with contextlib.suppress(subprocess.TimeoutExpired):
-                started.wait(max(min(pause, last - time.monotonic()), 0))
+                started.wait(max(min(LOOK_EVERY, last - time.monotonic()), 0))
             for name, (most, what) in mosts.items():
                 if os.fstat(streams[name].fileno()).st_size > most:
                     raise Unclear(f"{words[0]} prints more than {what}")
