@@ -147,8 +147,9 @@ class Auction:
                 refused.column = form.columns[fields[0] - 1]
 
     def _report(self, command: str, given: bytes, workers: int) -> Report:
+        words = [command, f"--workers={records.whole(workers, 'workers')}"]
         asked = answers.Asked(given)
-        output = self._answer([command, *workers_of(workers)], given, asked.most_of_report)
+        output = self._answer(words, given, asked.most_of_report)
         return answers.read_report(output, asked, command == "verify")
 
     def explain(self, bids: bool = False) -> Explained:
@@ -161,7 +162,8 @@ class Auction:
 
         Raises Refused if the rules, a form or a group has a fault, and WrongWords for other numbers of workers.
         """
-        asked, words = answers.Asked(self._given), ["compile", *workers_of(workers)]
+        words = ["compile", f"--workers={records.whole(workers, 'workers')}"]
+        asked = answers.Asked(self._given)
         output = self._answer(words, self._given, asked.most_of_programs)
         return answers.read_programs(output, asked)
 
@@ -307,12 +309,6 @@ def point_of(program: Program, solver: str, seconds: float | None) -> str:
     except NotSolved as failed:
         text = f"group {program.group} ({joined(program.names)} left out): {failed.text}"
         raise NotSolved(text, failed.status, program.group) from None
-
-
-def workers_of(workers: int) -> list[str]:
-    """The words for that many workers."""
-    number = records.whole(workers, "workers")
-    return [] if number == 1 else [f"--workers={number}"]
 
 
 def solution_texts(solutions: Iterable[Any]) -> list[Text]:
