@@ -1,13 +1,19 @@
-"""A program as the search sees it: blocks of columns of which at most one is 1, and the rows that blocks share.
+"""A program as the search sees it: blocks of columns of which at most one is 1, and the rows that blocks share; and what is
+exact: the nodes of the tree, bounds from prices of the shared rows, and the lines that show them.
 
 In an auction's program the blocks are the bidders, and the shared rows are those of categories and pools. A row makes a
 block if it says 'at most 1' with coefficients 1, of columns that have no block yet. A column outside of all such rows
 is a block of its own, without a row. Columns that are fixed are in no block; what those at 1 take is taken from the
 right sides. All shared rows are at most their right sides: one that is at least its own is turned round, and an equation
 is there both ways.
+
+Given prices, the best multiplier of each block follows: the least of its priced costs. So a bound needs only prices,
+however they were found, and is exact in whole numbers.
 """
-from collections.abc import Sequence
-from typing import Any
+from collections import Counter
+from dataclasses import dataclass, field
+from itertools import chain
+from typing import Any, NamedTuple
 
 import numpy as np
 from numpy.typing import NDArray
@@ -22,15 +28,16 @@ Array = NDArray[Any]
 SIGNS = {AT_MOST: (1,), AT_LEAST: (-1,), EQUAL: (1, -1)}
 LARGEST_TABLE = 2 * 10**8
 EXACT_IN_64_BITS = 2**59
-# above every number that fits; for the columns that don't count
-NEVER = 2**62
-NEVER_AT_ANY_SIZE = 10**60
+# above every number of 64 bits, and of any size that fits; for the columns that don't count
+NEVER, NEVER_AT_ANY_SIZE = 2**62, 10**60
+MOST = 10**18
+WIDEST = 2**126
 
 
 class Layout:
     """`members` has the columns of each block, `block_rows` their rows (or None), `shared` the place of each shared row, with -1
     if it is turned round. `split_row` is the place of a row for a split that is open above the root, or None. `loads` has what
-    each column takes of each shared row, and `rows` the same as a matrix, after a row 'at most 1' for each block.
+    each column takes of each shared row, and `rows` with `sides` the same as a matrix, after a row 'at most 1' for each block.
     """
 
     def __init__(self, program: ZeroOne, split_row: int | None = None) -> None:
@@ -64,6 +71,7 @@ class Layout:
         ones, shape = np.ones(len(self.order)), (len(sizes), self.count)
         of_blocks = csr_matrix((ones, (self.block_of[self.order], self.order)), shape)
         self.rows = vstack([of_blocks, shared], "csr")
+        self.sides: Array = np.array([1] * len(sizes) + self.right_sides, float)
         self.largest_cost = max((abs(column.cost) for column in columns), default=0)
         self.largest_loads = [int(abs(loads).max(initial=0)) for loads in self.loads.T]
         self.names: Array = np.array([f"{column.name} 1" for column in columns], object)
@@ -71,23 +79,10 @@ class Layout:
         moved = sum(abs(number) for number in self.right_sides)
         self.rounding = (moved + len(sizes) * sum(self.largest_loads)) // 2 + 1
 
-    def priced(self, scale: int, prices: Sequence[int]) -> Array:
-        """The scaled costs with what prices of the shared rows add; exact."""
-        size = scale * self.largest_cost
-        size += sum(abs(price) * load for price, load in zip(prices, self.largest_loads))
-        dtype: Any = np.int64 if size < EXACT_IN_64_BITS else object
-        priced: Array = scale * self.costs.astype(dtype)
-        priced += self.loads.astype(dtype) @ np.array(prices, dtype)
-        return priced
-
-    def lowest_in_blocks(self, numbers: Array, allowed: Array) -> list[int]:
-        """The least of the numbers in each block, among the allowed columns; 1 if it has none."""
-        if not self.members:
-            return []
-        never = NEVER if numbers.dtype != object else NEVER_AT_ANY_SIZE
-        counted = np.where(allowed, numbers, never)[self.order]
-        lowest = np.minimum.reduceat(counted, self.starts)
-        return [1 if number >= never else int(number) for number in lowest]
+    def by_column(self, of_blocks: list[int], dtype: Any) -> Array:
+        """For each column the number of its block, or 0."""
+        numbers: Array = np.array([*of_blocks, 0], dtype)
+        return numbers[self.block_of]
 
 
 def blocks_of(
@@ -107,3 +102,137 @@ def blocks_of(
             rows.append(place)
     alone = np.flatnonzero(is_free)
     return [*members, *alone[:, None]], [*rows, *([None] * len(alone))]
+
+
+class Cut(NamedTuple):
+    """None of these columns is 1, or on the other side one of them at least."""
+
+    places: Array
+    is_high: bool
+
+
+@dataclass(frozen=True, eq=False)
+class Node:
+    """The cuts on the way to a node, and what they leave: `allowed` says which columns may still be 1; `forced` gives
+    the place of the cut by which a block has to win."""
+
+    allowed: Array
+    path: tuple[Cut, ...] = ()
+    forced: dict[int, int] = field(default_factory=dict)
+
+    def without(self, places: Array) -> "Node":
+        allowed = self.allowed.copy()
+        allowed[places] = False
+        return Node(allowed, self.path + (Cut(places, False),), self.forced)
+
+    def within(self, places: Array, block: int, members: Array) -> "Node":
+        """The side on which one of these columns is 1; they are of one block, which has these members."""
+        allowed = self.allowed.copy()
+        allowed[members] = False
+        allowed[places] = self.allowed[places]
+        forced = {**self.forced, block: len(self.path)}
+        return Node(allowed, self.path + (Cut(places, True),), forced)
+
+    def beyond(self, places: Array) -> "Node":
+        """The side on which one of these columns is 1, whatever their blocks."""
+        return Node(self.allowed, self.path + (Cut(places, True),), self.forced)
+
+
+class Bound:
+    """What prices at a scale show for the points of a node: no point's scaled objective is below `value`."""
+
+    def __init__(self, layout: Layout, node: Node, scale: int, prices: list[int]) -> None:
+        self.layout, self.node, self.scale, self.prices = layout, node, scale, prices
+        # the scaled costs with what prices of the shared rows add; exact
+        size = scale * layout.largest_cost
+        size += sum(abs(price) * load for price, load in zip(prices, layout.largest_loads))
+        dtype, never = (np.int64, NEVER) if size < EXACT_IN_64_BITS else (object, NEVER_AT_ANY_SIZE)
+        self.priced: Array = scale * layout.costs.astype(dtype)
+        self.priced += layout.loads.astype(dtype) @ np.array(prices, dtype)
+        # what each block adds; any number is right for one that has to win and has no column left
+        counted = np.where(node.allowed, self.priced, never)[layout.order]
+        lowest: Any = np.minimum.reduceat(counted, layout.starts) if layout.members else ()
+        least = enumerate(1 if number >= never else int(number) for number in lowest)
+        self.parts = [number if at in node.forced else min(0, number) for at, number in least]
+        right = sum(price * number for price, number in zip(prices, layout.right_sides))
+        self.value = scale * layout.constant + sum(self.parts) - right
+
+    def is_above(self, least: int) -> bool:
+        """Whether it shows that no objective is below `least`."""
+        return self.value > self.scale * (least - 1)
+
+    def reduced(self) -> Array:
+        """How much more the bound would be with a column at 1; for the allowed columns."""
+        return np.subtract(self.priced, self.layout.by_column(self.parts, self.priced.dtype))
+
+    def worth_fixing(self, least: int) -> tuple[Array, int]:
+        """The allowed columns at 1 in no point below `least`, and the least of their reduced costs."""
+        reduced = self.reduced()
+        is_beyond = reduced > self.scale * (least - 1) - self.value
+        places = np.flatnonzero(self.node.allowed & is_beyond)
+        return places, int(reduced[places].min()) if len(places) else 0
+
+
+class Leaf:
+    """The multipliers by which a bound is shown. `last` is an extra one for the last cut of the node, which adds as much to it."""
+
+    def __init__(self, bound: Bound, node: Node | None = None, last: int = 0) -> None:
+        self.bound, self.node, self.layout = bound, node or bound.node, bound.layout
+        self.cuts = [0] * len(self.node.path)
+        of_blocks = zip(bound.parts, self.layout.block_rows)
+        self.blocks = [0 if row is None else -min(0, part) for part, row in of_blocks]
+        self.reduced: Array = bound.priced + self.layout.by_column(self.blocks, bound.priced.dtype)
+        for block, at in self.node.forced.items():
+            self.force(block, at)
+        if last:
+            self.add_cut(len(self.cuts) - 1, last)
+        for at, cut in enumerate(self.node.path):
+            if not cut.is_high and len(cut.places):
+                self.add_cut(at, max(0, -int(self.reduced[cut.places].min())))
+
+    def force(self, block: int, at: int) -> None:
+        """The columns within the cut pay for it, and the block's row for those outside."""
+        members, part = self.layout.members[block], self.bound.parts[block]
+        outside = np.setdiff1d(members, self.node.path[at].places)
+        row = 0
+        if self.layout.block_rows[block] is not None:
+            row = max(0, -part, -int(self.bound.priced[outside].min(initial=0)))
+        self.reduced[members] += row - self.blocks[block]
+        self.blocks[block] = row
+        self.add_cut(at, max(0, part + row))
+
+    def add_cut(self, at: int, multiplier: int) -> None:
+        cut = self.node.path[at]
+        self.cuts[at] += multiplier
+        self.reduced[cut.places] += -multiplier if cut.is_high else multiplier
+
+    def rows(self) -> dict[int, int]:
+        """The multipliers of the rows that have one, in the order of the program."""
+        of_blocks = zip(self.layout.block_rows, self.blocks)
+        multipliers = Counter({row: number for row, number in of_blocks if row is not None})
+        for (row, sign), price in zip(self.layout.shared, self.bound.prices):
+            multipliers[row] += sign * price
+        return {place: multipliers[place] for place in sorted(multipliers) if multipliers[place]}
+
+    def fits(self) -> bool:
+        """Whether each number is at most 10^18, and the size of the leaf (docs/REFERENCE.md) is below 2^126."""
+        rows, scale, layout = self.rows(), self.bound.scale, self.layout
+        if max([scale, *self.cuts, *(abs(number) for number in rows.values())]) > MOST:
+            return False
+        widest = {row: load for (row, _), load in zip(layout.shared, layout.largest_loads)}
+        # the bound is as large as all costs, and one more
+        column = 2 * scale * (layout.largest_cost + 1)
+        column += sum(abs(number) * widest.get(row, 1) for row, number in rows.items())
+        column += sum(number * len(cut.places) for number, cut in zip(self.cuts, self.node.path))
+        right = 2 * sum(self.cuts)
+        right += sum(abs(n * layout.program.rows[row].right_side) for row, n in rows.items())
+        # the checker counts each column of a split's form, and one more on its right side
+        above = 0 if layout.split_row is None else rows.get(layout.split_row, 0)
+        return (column + above * layout.count) * (layout.count + 1) + right + 2 * above < WIDEST
+
+    def line(self) -> str:
+        """The line of a certificate. The multiplier of a split above the root comes first."""
+        rows = self.rows()
+        above = [] if self.layout.split_row is None else [rows.pop(self.layout.split_row, 0)]
+        named = ((self.layout.program.rows[row].name, number) for row, number in rows.items())
+        return " ".join(map(str, ["bound", self.bound.scale, *above, *self.cuts, *chain(*named)]))

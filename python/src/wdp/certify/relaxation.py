@@ -1,37 +1,44 @@
-"""Linear relaxations, solved by GLPK's dual simplex from the basis of the solve before.
+"""Linear relaxations, solved by GLPK's dual simplex from the basis of the solve before, and by them where to split a node.
 
 Costs are exact reduced costs at whole root prices, in units of a thousandth of the gap. So floating point has digits where
 they matter, though the amounts are large and nearly tied. Each shared row may be overstepped at a price of 20 gaps, so every
 node has a solution; for the same reason no cost needs to be above 20 gaps.
+
+A node is split at what a bidder wins, not at single columns. A split asks whether a block wins anything, or at least or at
+most so much of a shared row. Such sets part many columns at once, and lead to far smaller trees than single columns do. Of
+the most even ones a few are tried by some steps of the dual simplex, and the one is taken that raises the bounds of both
+sides most.
 """
-from typing import Any
+from typing import Any, NamedTuple
 
 import numpy as np
 import swiglpk as glpk
 from scipy.optimize import linprog
 from scipy.sparse import eye, hstack
 
-from wdp.certify.layout import Array, Layout
-from wdp.certify.leaf import Bound, Node
+from wdp.certify.layout import Array, Bound, Layout, Node
 
 UNITS_IN_GAP = 1000
 CAP_IN_GAPS = 20
 MOST_STEPS = MOST_MILLISECONDS = 2**31 - 1
+POSITIVE = 1e-6
+UNDECIDED = 1e-5
+CANDIDATES, STEPS = 8, 40  # splits that are tried, and steps of the dual simplex for each side
 
 
 class Relaxation:
-    """The columns `core`, a slack for each row, and what oversteps each shared row, in this order. The problem is made once;
-    later only bounds change."""
+    """The columns that are allowed at first, as `core`, a slack for each row, and what oversteps each shared row, in this order.
+    The problem is made once; later only bounds change."""
 
-    def __init__(self, layout: Layout, bound: Bound, core: Array, gap: int) -> None:
-        self.layout, self.core, self.count, self.gap = layout, core, len(core), gap
+    def __init__(self, bound: Bound, gap: int) -> None:
+        layout, core = bound.layout, np.flatnonzero(bound.node.allowed)
+        self.core, self.count, self.gap = core, len(core), gap
         self.unit = max(gap, 1) / UNITS_IN_GAP
         self.root_prices, self.base = bound.prices, bound.value
         self.blocks, self.height = len(layout.members), layout.rows.shape[0]
         rows = layout.rows[:, core]
-        right_sides = np.array([1] * self.blocks + layout.right_sides, float)
         # no slack is above what the row could be short of at all: boxed columns are never dual infeasible
-        reach = (abs(right_sides) + abs(rows).sum(axis=1).A1)[self.blocks :]
+        reach = (abs(layout.sides) + abs(rows).sum(axis=1).A1)[self.blocks :]
         self.upper: Array = np.concatenate([np.ones(self.count + self.blocks), reach, reach])
         cap = float(CAP_IN_GAPS * UNITS_IN_GAP)
         reduced = bound.reduced()[core].astype(object)
@@ -39,7 +46,7 @@ class Relaxation:
         in_units = [min(cap, float(cost / self.unit)) for cost in costs]
         self.problem = glpk.glp_create_prob()
         over = -eye(self.height, len(layout.shared), -self.blocks)
-        self.load(hstack([rows, eye(self.height), over], "csc"), right_sides)
+        self.load(hstack([rows, eye(self.height), over], "csc"), layout.sides)
         for column, cost in enumerate(in_units + [cap] * len(layout.shared)):
             glpk.glp_set_obj_coef(self.problem, column + 1, cost)
             self.set_bound(column)
@@ -143,14 +150,108 @@ def root_prices(layout: Layout, seconds: float) -> list[int]:
     """Whole prices of the shared rows, which HiGHS finds from nothing the fastest; 0 if it fails, since any prices are right."""
     if not layout.shared or not layout.members:
         return [0] * len(layout.shared)
-    unit, blocks = max(1, layout.largest_cost) / 1000, len(layout.members)
-    right_sides = np.array([1] * blocks + layout.right_sides, float)
+    unit = max(1, layout.largest_cost) / 1000
     bounds = [(0, int(is_open)) for is_open in layout.is_open]
-    limit = {"time_limit": max(1.0, seconds)}
-    costs = (layout.costs / unit).astype(float)
-    found = linprog(
-        costs, layout.rows, right_sides, bounds=bounds, method="highs-ds", options=limit
-    )
+    how = {"method": "highs-ds", "options": {"time_limit": max(1.0, seconds)}}
+    found = linprog(layout.costs / unit, layout.rows, layout.sides, bounds=bounds, **how)
     if found.status != 0:
         return [0] * len(layout.shared)
-    return [max(0, round(-float(dual) * unit)) for dual in found.ineqlin.marginals[blocks:]]
+    duals = found.ineqlin.marginals[len(layout.members) :]
+    return [max(0, round(-float(dual) * unit)) for dual in duals]
+
+
+class Visit(NamedTuple):
+    """A subtree that is to come, with a relaxation that has its columns and the basis to start from."""
+
+    node: Node
+    relaxation: Relaxation
+    basis: list[int] | None
+
+
+class Split(NamedTuple):
+    """Columns of one block, of which a fractional solution takes `part` in all."""
+
+    block: int
+    places: Array
+    part: float
+
+
+def candidates(layout: Layout, node: Node, places: Array, values: Array) -> list[Split]:
+    """The splits at which the values of these columns are undecided, the most even first."""
+    found: list[Split] = []
+    blocks = layout.block_of[places]
+    for block in np.unique(blocks):
+        held = blocks == block
+        found += block_candidates(layout, node, int(block), places[held], values[held])
+    return sorted(found, key=lambda split: (-min(split.part, 1 - split.part), len(split.places)))
+
+
+def block_candidates(
+    layout: Layout, node: Node, block: int, places: Array, values: Array
+) -> list[Split]:
+    if len(places) == 1 and values[0] > 1 - POSITIVE:
+        return []
+    members = layout.members[block]
+    members = members[node.allowed[members]]
+    is_forced = block in node.forced
+    found: dict[bytes, Split] = {}
+
+    def offer(is_held: Array, is_member: Array) -> None:
+        part, chosen = float(values[is_held].sum()), members[is_member]
+        is_whole = is_forced and len(chosen) == len(members)
+        if UNDECIDED < part < 1 - UNDECIDED and not is_whole:
+            found.setdefault(chosen.tobytes(), Split(block, chosen, part))
+
+    if not is_forced:
+        offer(np.ones(len(places), bool), np.ones(len(members), bool))
+    for held, all_loads in zip(layout.loads[places].T, layout.loads[members].T):
+        for load in np.unique(held):
+            if load != 0:
+                offer(held >= load, all_loads >= load)
+            if not is_forced:
+                offer(held <= load, all_loads <= load)
+    return list(found.values())
+
+
+def halving(layout: Layout, node: Node) -> Split | None:
+    """A split of the block that is least settled, whatever a solution says; None if each block is settled."""
+
+    def unsettled(block: int) -> int:
+        return int(node.allowed[layout.members[block]].sum()) - (block in node.forced)
+
+    block = max(range(len(layout.members)), key=unsettled, default=-1)
+    if block < 0 or unsettled(block) <= 0:
+        return None
+    members = layout.members[block]
+    members = members[node.allowed[members]]
+    return Split(block, members[: len(members) // 2] if block in node.forced else members, 0.5)
+
+
+def sides(layout: Layout, node: Node, split: Split) -> tuple[Node, Node]:
+    """The sides of a split, that without its columns first."""
+    high = node.within(split.places, split.block, layout.members[split.block])
+    return node.without(split.places), high
+
+
+def strongest(
+    layout: Layout, task: Visit, splits: list[Split], reached: float, limit: float
+) -> Split:
+    """The split whose sides have the greatest product of gains, at a node whose relaxation has reached an objective."""
+    node, relaxation, basis = task
+
+    def gain(side: Node) -> float:
+        """By how much some steps of the dual simplex raise the objective, up to the limit at which the side is shown."""
+        relaxation.enter(side)
+        relaxation.restore(basis)
+        raised = relaxation.solve(limit=limit, steps=STEPS)
+        best = reached if raised is None else min(limit, raised)
+        return max(1e-9, best - reached)
+
+    best, best_score = splits[0], -1.0
+    for split in splits[:CANDIDATES]:
+        gains = [gain(side) for side in sides(layout, node, split)]
+        if gains[0] * gains[1] > best_score:
+            best, best_score = split, gains[0] * gains[1]
+        if min(gains) >= (limit - reached) * 0.9999:
+            break
+    return best

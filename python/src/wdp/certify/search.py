@@ -8,15 +8,14 @@ import math
 import time
 from collections.abc import Callable
 from dataclasses import replace
-from typing import NamedTuple, NoReturn
+from typing import NoReturn
 
 import numpy as np
 
 from wdp.certify import Say
-from wdp.certify.branching import POSITIVE, Split, Visit, candidates, halving, sides, strongest
-from wdp.certify.layout import Layout
-from wdp.certify.leaf import Bound, Leaf, Node
-from wdp.certify.relaxation import Relaxation, root_prices
+from wdp.certify.layout import Bound, Layout, Leaf, Node
+from wdp.certify.relaxation import POSITIVE, Relaxation, Split, Visit, candidates, halving
+from wdp.certify.relaxation import root_prices, sides, strongest
 from wdp.texts.refusals import Refused
 from wdp.texts.zero_one import AT_MOST, Row, ZeroOne
 
@@ -31,7 +30,6 @@ ROUNDS = 8  # at the root
 # so many columns of each block, and lines of a certificate, when a good point is looked for
 PROMISING, PROMISING_LINES = 40, 400
 SECONDS_BETWEEN_MESSAGES = 10
-NO_LIMIT = 1e6
 
 
 class LimitReached(Refused):
@@ -86,7 +84,7 @@ class Search:
         return time.monotonic() - self.begun
 
     def seconds_left(self) -> float:
-        return max(0.1, min(NO_LIMIT, self.seconds - self.elapsed()))
+        return max(0.1, self.seconds - self.elapsed())
 
     def check_limits(self) -> None:
         """Ends the search at a limit, and says now and then how far it is."""
@@ -104,7 +102,7 @@ class Search:
         return f"the least objective is between {self.root_value} and {self.least}"
 
     def write(self, leaf: Leaf) -> bool:
-        """Writes a leaf whose bound is above the limit, if its numbers fit."""
+        """Writes a leaf if its numbers fit; whether they do."""
         if not leaf.fits():
             return False
         self.lines.append(leaf.line())
@@ -137,9 +135,8 @@ class Search:
                 return
             node = self.fix(bound, ROOT_PART if turn else 0)
             gap = self.least - 1 - bound.value
-            core = np.flatnonzero(node.allowed)
-            relaxation = Relaxation(layout, Bound(layout, node, 1, prices), core, gap)
-            columns = f"{len(core)} of {layout.count} columns left, {self.elapsed():.1f} s"
+            relaxation = Relaxation(Bound(layout, node, 1, prices), gap)
+            columns = f"{relaxation.count} of {layout.count} columns left, {self.elapsed():.1f} s"
             self.say(f"to show {self.least}, root bound {bound.value}, {columns}")
             relaxation.enter(node)
             basis = None
@@ -226,11 +223,11 @@ class Search:
         layout, fixed, basis = self.layout, node, relaxation.basis()
         if relaxation.overstep() < 1e-7:
             fixed = self.fix(Bound(layout, node, 1, relaxation.prices(1)), NODE_PART)
-        core = np.flatnonzero(fixed.allowed)
-        is_smaller = len(core) < SHRINKS_AT * relaxation.count and relaxation.count > SMALL
+        is_less = fixed.allowed.sum() < SHRINKS_AT * relaxation.count
+        is_smaller = is_less and relaxation.count > SMALL
         if is_smaller:
             bound = Bound(layout, Node(fixed.allowed), 1, relaxation.root_prices)
-            relaxation, basis = Relaxation(layout, bound, core, relaxation.gap), None
+            relaxation, basis = Relaxation(bound, relaxation.gap), None
         if is_again := is_smaller or fixed is not node:
             self.tasks.append(Visit(fixed, relaxation, basis))
         return is_again
