@@ -16,6 +16,11 @@ SPECIAL = re.compile(r'[,"\r\n]|^[=+\-@%\t]')
 MOST_BOUND = 4  # groups that are named as binding a price
 CATEGORIES = "Category,Supply,Sold,Unsold,Reserve of a lot,Value of an unsold lot,Value left"
 POOLS = "Pool,Load,Cap,Left"
+# headings of columns of amounts, and words in the place of a figure that there isn't
+AMOUNTS = (
+    "Amount,Price,Opportunity cost,Cost alone,Reserve,Total,Paid," + CATEGORIES.split(",", 4)[4]
+)
+BLANKS = NOT_ASKED_FOR, NONE_WON, NO_BIDS = "not asked for", "none won", "no bids"
 
 Figures = dict[str, Any]  # of the whole, or of a bidder, a group and so on
 
@@ -85,28 +90,13 @@ def groups_of(report: Report, auction: Accepted) -> list[Figures]:
     ]
 
 
-class Blank(str):
-    """What stands for a figure that there isn't."""
-
-
-class Column(NamedTuple):
-    """A column of a table: its heading, its cells, what stands below them, and whether they are amounts."""
-
-    heading: str
-    cells: Sequence[Cell]
-    total: Cell = ""
-    is_money: bool = False
-
-
 class Table(NamedTuple):
-    """A table for people; `sums` stand below its rows, if it has any."""
+    """A table for people; below its rows are `sums`, if it has any."""
 
     name: str
-    title: str
-    caption: str
-    headings: list[str]
-    rows: list[Sequence[Cell]]
-    sums: list[Cell]
+    headings: Sequence[str]
+    rows: Sequence[Sequence[Cell]]
+    sums: Sequence[Cell] = ()
 
     def text(self) -> str:
         lines = aligned([self.headings, *self.rows, *([self.sums] if self.sums else [])])
@@ -118,31 +108,12 @@ def values(all_of: Sequence[Figures], key: str) -> list[Cell]:
 
 
 def costs_of(all_of: Sequence[Figures]) -> list[Cell]:
-    return [Blank("not asked for") if cost is None else cost for cost in values(all_of, "cost")]
+    return [NOT_ASKED_FOR if cost is None else cost for cost in values(all_of, "cost")]
 
 
 def cell_text(cell: Cell) -> str:
     """A field of CSV, in quotes wherever a reader might take it for more than its text; nothing where it isn't known."""
     return field_text(cell, SPECIAL) if isinstance(cell, str) else "" if cell is None else str(cell)
-
-
-def shown(cell: int | str) -> str:
-    return f"{cell:,}" if isinstance(cell, int) else cell
-
-
-def part_of(number: int, greatest: int) -> str:
-    """How long a bar is, in percent of the longest one; a cost out of range is shown by its figure alone."""
-    return f"{100 * min(max(number / greatest, 0), 1):.4g}" if greatest else "0"
-
-
-def input_command(audit: Figures) -> str:
-    """What prints the SHA-256 of the input: of the end of the audit, but for the groups that were added."""
-    rest = audit["input_bytes"] - audit["bytes_before"]
-    command = f"tail -c {audit['input_bytes'] + audit['added_bytes']} audit.txt"
-    if audit["added_bytes"]:
-        command += f" | head -c {audit['bytes_before']}"
-        command = f"({command}; tail -c {rest} audit.txt)" if rest else command
-    return f"{command} | sha256sum"
 
 
 class Results(Figures):
@@ -154,27 +125,41 @@ class Results(Figures):
     def called(self, name: str) -> str:
         return f"{name} ({self['names'][name]})" if name in self["names"] else name
 
+    def names_of(self, all_of: Sequence[Figures]) -> list[str]:
+        return [self.called(each["name"]) for each in all_of]
+
+    def money(self, amount: int) -> str:
+        return f"{amount:,} {self['currency'] or ''}".rstrip()
+
     def lots_text(self, lots: Iterable[int]) -> str:
         """Lots in words: `2 of A, 1 of B`."""
         pairs = zip(lots, self["categories"])
         return ", ".join(f"{quantity:,} of {each['name']}" for quantity, each in pairs if quantity)
 
     def sums_words(self) -> str:
-        unit = f" {self['currency']}" if self["currency"] else ""
         words = f"{len(self.winners()):,} of {len(self['bidders']):,} bidders win. "
-        words += f"Their bids add up to {self['amounts']:,}{unit}"
+        words += f"Their bids add up to {self.money(self['amounts'])}"
         if self["value_left"]:
-            words += f", and the unsold lots have a value of {self['value_left']:,}{unit}"
-            words += f", in all {self['total']:,}{unit}"
+            words += f", and the unsold lots have a value of {self.money(self['value_left'])}"
+            words += f", in all {self.money(self['total'])}"
         return words + "."
 
     def proved_of_prices(self) -> str:
-        unit = f" {self['currency']}" if self["currency"] else ""
         words = "no group of bidders, listed or not, pays less than its opportunity cost, and nobody less than the reserve; "
-        words += f"the prices come to {self['prices']['total']:,}{unit}, and "
+        words += f"the prices come to {self.money(self['prices']['total'])}, and "
         if self["prices"]["is_least"]:
             return words + "no whole prices of which that is true come to less"
         return words + "whether others come to less isn't shown"
+
+    def price_words(self) -> str:
+        if not self["prices"]:
+            return ""
+        words = f"Proved: {self.proved_of_prices()}. "
+        words += (
+            "Not proved: that of such prices these are the nearest to what each winner costs alone."
+        )
+        other = " They belong to the winners of this page; by the other award there are others."
+        return words + (other if self["tied_award"] else "")
 
     def proof_words(self) -> str:
         if self["proof"] == "only":
@@ -187,32 +172,22 @@ class Results(Figures):
         return f"{shown} Which one holds, as by lot, is for the auction's rules to say."
 
     def sentences(self) -> dict[str, str]:
-        """What is to be said in sentences, by the places of the page: `certified`, `sums`, `prices` if there are any, `proof`."""
+        """What is to be said in sentences, by the places of the page; `prices` is empty if there are none."""
         certified = "Not certified: that these totals are the greatest ones is a solver's word, and no certificate shows it."
         if self["certified"]:
             certified = f"Certified: each of the {len(self['groups']):,} totals is shown to be the greatest one."
-        prices = ""
-        if self["prices"]:
-            prices = f"Proved: {self.proved_of_prices()}. "
-            prices += "Not proved: that of such prices these are the nearest to what each winner costs alone."
-        if prices and self["tied_award"]:
-            prices += (
-                " They belong to the winners of this page; by the other award there are others."
-            )
-        said = certified, self.sums_words(), prices, self.proof_words()
-        return dict(zip(("certified", "sums", "prices", "proof"), said))
+        said = {"certified": certified, "sums": self.sums_words()}
+        return {**said, "prices": self.price_words(), "proof": self.proof_words()}
 
-    def table(self, name: str, title: str, caption: str, columns: Sequence[Column]) -> Table:
-        """A table, without the columns of which nothing is known."""
-        known = [each for each in columns if any(cell is not None for cell in each.cells)]
+    def table(
+        self, name: str, columns: dict[str, Sequence[Cell]], sums: Sequence[Cell] = ()
+    ) -> Table:
+        """A table of columns by their headings, without those of which nothing is known."""
         unit = f", {self['currency']}" if self["currency"] else ""
-        headings = [each.heading + (unit if each.is_money else "") for each in known]
-        sums = [each.total for each in known]
-        rows: list[Sequence[Cell]] = list(zip(*(each.cells for each in known)))
-        return Table(name, title, caption, headings, rows, sums if any(sums) else [])
-
-    def names_of(self, all_of: Sequence[Figures]) -> list[str]:
-        return [self.called(each["name"]) for each in all_of]
+        known = {it: cells for it, cells in columns.items() if set(cells) != {None} and cells}
+        headings = [it + (unit if it in AMOUNTS else "") for it in known]
+        totals = [total for it, total in zip(columns, sums) if it in known]
+        return Table(name, headings, list(zip(*known.values())), totals)
 
     def paid(self) -> Cell:
         return self["prices"]["total"] if self["prices"] else None
@@ -220,19 +195,19 @@ class Results(Figures):
     def bidders_table(self) -> Table:
         all_of = self["bidders"]
         sold = self.lots_text([each["sold"] for each in self["categories"]])
+        blanks = [NONE_WON if each["bids"] else NO_BIDS for each in all_of]
+        columns: dict[str, Sequence[Cell]] = {
+            "Bidder": self.names_of(all_of),
+            "Amount": values(all_of, "amount"),
+            "Price": values(all_of, "price"),
+            "Opportunity cost": costs_of(all_of),
+            "Reserve": values(all_of, "reserve"),
+            "Bid": [bid or blank for bid, blank in zip(values(all_of, "bid"), blanks)],
+            "Lots": [self.lots_text(each["lots"]) for each in all_of],
+        }
         reserve = sum(each["reserve"] for each in all_of)
-        blanks = [Blank("none won" if each["bids"] else "no bids") for each in all_of]
-        columns = [
-            Column("Bidder", self.names_of(all_of), "All"),
-            Column("Amount", values(all_of, "amount"), self["amounts"], True),
-            Column("Price", values(all_of, "price"), self.paid(), True),
-            Column("Opportunity cost", costs_of(all_of), "", True),
-            Column("Reserve", values(all_of, "reserve"), reserve, True),
-            Column("Bid", [bid or blank for bid, blank in zip(values(all_of, "bid"), blanks)]),
-            Column("Lots", [self.lots_text(each["lots"]) for each in all_of], sold),
-        ]
-        caption = "Amount and number of each winning bid, and the lots that it wins. The opportunity cost is that of leaving the bidder alone out."
-        return self.table("bidders", "Bidders", caption, columns)
+        sums = "All", self["amounts"], self.paid(), "", reserve, "", sold
+        return self.table("bidders", columns, sums)
 
     def bound_by(self, name: str) -> str:
         """What binds a winner's price: the groups that pay exactly their cost, and the reserve."""
@@ -244,53 +219,38 @@ class Results(Figures):
 
     def prices_table(self) -> Table:
         winners = self.winners() if self["prices"] else []
+        columns: dict[str, Sequence[Cell]] = {
+            "Winner": self.names_of(winners),
+            "Cost alone": costs_of(winners),
+            "Price": values(winners, "price"),
+            "Amount": values(winners, "amount"),
+            "Bound by": [self.bound_by(each["name"]) for each in winners],
+        }
         costs = sum(each["cost"] or 0 for each in winners)
-        columns = [
-            Column("Winner", self.names_of(winners), "All"),
-            Column("Cost alone", costs_of(winners), costs, True),
-            Column("Price", values(winners, "price"), self.paid(), True),
-            Column("Amount", values(winners, "amount"), self["amounts"], True),
-            Column("Bound by", [self.bound_by(each["name"]) for each in winners]),
-        ]
-        caption = "What each winner costs the others alone, what it pays, and its bid. A group that is named "
-        caption += (
-            "pays just its opportunity cost, and `reserve` says that the price is the reserve."
-        )
-        return self.table("prices", "Prices", caption, columns)
+        return self.table("prices", columns, ("All", costs, self.paid(), self["amounts"], ""))
 
     def categories_table(self) -> Table:
         _, *cells = zip(*(each.values() for each in self["categories"]))
-        totals: list[Cell] = ["All", *map(sum, cells[:3]), "", "", self["value_left"]]
-        names = self.names_of(self["categories"])
-        given = zip(CATEGORIES.split(","), [names, *cells], totals, [False] * 4 + [True] * 3)
-        caption = "Lots of each category: how many there are, are sold and stay unsold, and the value of the unsold ones."
-        columns = [Column(*each) for each in given]
-        return self.table("categories", "Categories", caption, columns)
+        columns = dict(zip(CATEGORIES.split(","), [self.names_of(self["categories"]), *cells]))
+        sums = "All", *map(sum, cells[:3]), "", "", self["value_left"]
+        return self.table("categories", columns, sums)
 
     def pools_table(self) -> Table:
-        cells = zip(*(each.values() for each in self["pools"]))
-        columns = [Column(*each) for each in zip(POOLS.split(","), cells)]
-        caption = "What the sold lots load each pool with, and its cap."
-        return self.table("pools", "Pools", caption, columns)
+        rows = [[*pool.values()] for pool in self["pools"]]
+        return Table("pools", POOLS.split(","), rows)
 
     def groups_table(self) -> Table:
         all_of = self["groups"]
         winners = [[won["name"] for won in each["winners"]] for each in all_of]
-        columns = [
-            Column(
-                "Group", [f"{x['number']:,}{' (added)' if x['is_added'] else ''}" for x in all_of]
-            ),
-            Column("Left out", [", ".join(each["left_out"]) or "nobody" for each in all_of]),
-            Column("Total", values(all_of, "total"), is_money=True),
-            Column("Opportunity cost", values(all_of, "cost"), is_money=True),
-            Column("Paid", values(all_of, "paid"), is_money=True),
-            Column("Winners", [", ".join(names) or "nobody" for names in winners]),
-        ]
-        caption = "Who wins where the bidders of a group are left out, the total then, which counts the value of "
-        caption += "unsold lots, and the group's opportunity cost"
-        paid = ", and what its bidders pay. Some were added to show the prices."
-        caption += paid if self["prices"] else "."
-        return self.table("groups", "Groups", caption, columns)
+        columns: dict[str, Sequence[Cell]] = {
+            "Group": [f"{x['number']:,}{' (added)' if x['is_added'] else ''}" for x in all_of],
+            "Left out": [", ".join(each["left_out"]) or "nobody" for each in all_of],
+            "Total": values(all_of, "total"),
+            "Opportunity cost": values(all_of, "cost"),
+            "Paid": values(all_of, "paid"),
+            "Winners": [", ".join(names) or "nobody" for names in winners],
+        }
+        return self.table("groups", columns)
 
     def ties_table(self) -> Table:
         """What differs between the award of the page and the other one: a row for each bidder who doesn't win the same in both,
@@ -310,16 +270,11 @@ class Results(Figures):
             for group, cost in zip(self["groups"], other["costs"]):
                 if group["cost"] != cost:
                     rows.append([f"Cost of {', '.join(group['left_out'])}", group["cost"], cost])
-        caption = "What isn't the same in both awards: what bidders win, with the number of the winning bid, and the opportunity costs."
-        headings = "Bidder, cost", "Award of this page", "Other award"
-        columns = [Column(*each) for each in zip(headings, zip(*rows))]
-        return self.table("ties", "Tie", caption, columns)
+        return Table("ties", ["Bidder, cost", "Award of this page", "Other award"], rows)
 
     def left_out_table(self) -> Table:
-        names = [self.called(each["bidder"]) for each in self["left_out"]]
-        columns = [Column("Bidder", names), Column("Bid", values(self["left_out"], "why"))]
-        caption = "These bids couldn't change any total, whoever is left out."
-        return self.table("left_out", "Bids that are in no program", caption, columns)
+        rows = [[self.called(each["bidder"]), each["why"]] for each in self["left_out"]]
+        return Table("left_out", ["Bidder", "Bid"], rows)
 
     def tables(self) -> list[Table]:
         """All tables that have a row, in the order of the page."""
@@ -334,7 +289,7 @@ class Results(Figures):
         return said + "".join("\n" + table.text() for table in self.tables())
 
     def csv(self, headings: str, rows: Sequence[Sequence[Cell]]) -> bytes:
-        """A CSV text. Its first field says where the totals aren't certified. Names that an office gave stand beside the codes."""
+        """A CSV text. Its first field says where the totals aren't certified. Names that an office gave are beside the codes."""
         kind, *more = headings.split(",")
         first = kind if self["certified"] else f"{kind} (results not certified)"
         lines: list[Sequence[Cell]] = [[first, *more], *rows]
@@ -356,36 +311,24 @@ class Results(Figures):
             flags = ["yes" if flag else "no" for flag in (each["is_added"], self["certified"])]
             figures = [each[key] for key in ("total", "cost", "paid")]
             group_rows.append([each["number"], *names, *figures, *flags])
-        of_categories, of_pools = (
-            [[*x.values()] for x in self[k]] for k in ("categories", "pools")
-        )
+        category_rows = [[*category.values()] for category in self["categories"]]
         return {
             "bidders.csv": self.csv(of_bidders, bidder_rows),
-            "categories.csv": self.csv(CATEGORIES.lower(), of_categories),
-            "pools.csv": self.csv(POOLS.lower(), of_pools),
+            "categories.csv": self.csv(CATEGORIES.lower(), category_rows),
+            "pools.csv": self.csv(POOLS.lower(), self.pools_table().rows),
             "groups.csv": self.csv(of_groups, group_rows),
             "results.json": (json.dumps(self, indent=1) + "\n").encode(),
         }
 
     def page(self) -> bytes:
         need("the page", "jinja2")
-        import jinja2
+        from jinja2 import Environment, FileSystemLoader, StrictUndefined
 
-        how: Any = dict(
-            autoescape=True, trim_blocks=True, lstrip_blocks=True, keep_trailing_newline=True
-        )
-        loader = jinja2.FileSystemLoader(Path(__file__).parent)
-        environment = jinja2.Environment(loader=loader, undefined=jinja2.StrictUndefined, **how)
-        filters = {"shown": shown, "part_of": part_of, "called": self.called}
-        environment.filters.update(filters, input_command=input_command)
-        environment.tests["blank"] = lambda cell: isinstance(cell, Blank)
-        environment.tests["figure"] = lambda cell: isinstance(cell, (int, Blank))
-        amounts = [max(bidder["amount"], bidder["cost"] or 0) for bidder in self["bidders"]]
-        supplies = [category["supply"] for category in self["categories"]]
-        greatest = {"amount": max(amounts), "supply": max(supplies)}
+        how: Any = dict(trim_blocks=True, lstrip_blocks=True, keep_trailing_newline=True)
+        how.update(loader=FileSystemLoader(Path(__file__).parent), undefined=StrictUndefined)
+        page = Environment(autoescape=True, **how).get_template("page.html.jinja")
         about = dict(said=self.sentences(), winners=self.winners(), tables=self.tables())
-        page = environment.get_template("page.html.jinja")
-        rendered: str = page.render(self, **about, greatest=greatest)
+        rendered: str = page.render(self, **about, called=self.called, blanks=BLANKS)
         return rendered.encode()
 
 
