@@ -13,7 +13,7 @@ import sys
 import tempfile
 import time
 from collections.abc import Callable, Mapping, Sequence
-from dataclasses import dataclass
+from dataclasses import dataclass, replace
 from functools import partial
 from itertools import groupby
 from pathlib import Path
@@ -250,15 +250,14 @@ class Run(Folder):
 
     def publish(self, data: bytes, report: bytes, audit: bytes | None) -> None:
         """Has the program judge what was found, and makes the tables and the page."""
-        page: dict[str, Any] = self.page or {}
-        title, names = page.get("title") or publishing.TITLE, self.path("names.csv")
-        heading: dict[str, Any] = {"title": title, "currency": page.get("currency"), "names": {}}
+        page, names = self.page or {}, self.path("names.csv")
+        title, currency = page.get("title") or publishing.TITLE, page.get("currency")
+        given = publishing.Given(self.program, data, report, audit, title=title, currency=currency)
         if self.page is not None and names.exists():
-            rules = accepted.read(data, INPUT).rules
-            heading["names"] = publishing.read_names(str(names), rules, regular=True)
-        results, shown = publishing.results_from(self.program, data, report, audit, heading)
+            given = replace(given, names=str(names), is_kept=True)
+        results = publishing.results_from(given)
         if self.page is not None:
-            publishing.publish(results, shown, str(self.path(RESULTS)))
+            publishing.publish(results, str(self.path(RESULTS)))
         if results["prices"]:
             for line in results.prices_table().text().splitlines():
                 self.shows(line)
@@ -352,16 +351,14 @@ class Run(Folder):
 
     def keep_page(self) -> None:
         """Title and currency stay as they were if nothing is said of them."""
-        path, before = str(self.path(PAGE)), dict[str, str | None]()
-        there: Any = None
+        path, there, page = str(self.path(PAGE)), None, self.page or {}
         with contextlib.suppress(OSError, ValueError, RecursionError):
             there = json.loads(files.read(path, 100_000, regular=True))
         for name, longest in publishing.LONGEST.items():
-            with contextlib.suppress(AttributeError, LookupError, TypeError, ValueError):
-                before[name] = publishing.line(longest)(there[name])
-        self.page = {name: value or before.get(name) for name, value in (self.page or {}).items()}
-        if self.page != there:
-            files.write_all({path: (json.dumps(self.page) + "\n").encode()})
+            kept = there.get(name) if isinstance(there, dict) else None
+            page[name] = page[name] or (kept if publishing.is_line(kept, longest) else None)
+        if page != there:
+            files.write_all({path: (json.dumps(page) + "\n").encode()})
 
     def one_step(self, name: str) -> int:
         """A step that Snakemake runs; any number of them have the folder at once."""
@@ -435,7 +432,7 @@ def add_shared_words(parser: argparse.ArgumentParser) -> None:
 
 def add_words(parser: argparse.ArgumentParser) -> None:
     parser.epilog = EPILOG
-    add, line = parser.add_argument, publishing.line
+    add = parser.add_argument
     streams = "the input comes from standard input, and the report goes to standard output"
     folder = f"the folder that keeps what is done; without it {streams}"
     add("folder", metavar="DIR", nargs="?", type=Path, help=folder)
@@ -447,10 +444,9 @@ def add_words(parser: argparse.ArgumentParser) -> None:
     add("--no-prices", action="store_true", help="don't look for what the winners pay")
     says = "report what the solver says, without certificates and prices"
     add("--no-certify", action="store_true", help=f"{says}: DIR/{UNCERTIFIED}")
-    longest = publishing.LONGEST
-    add("--title", type=line(longest["title"]), help="the page's heading")
-    unit = line(longest["currency"])
-    add("--currency", type=unit, metavar="UNIT", help="what amounts are in, as GBP")
+    add("--title", type=publishing.line("title"), help="the page's heading")
+    unit = "what amounts are in, as GBP"
+    add("--currency", type=publishing.line("currency"), metavar="UNIT", help=unit)
     step = "one step alone, as Snakemake runs them: programs, a group's number, prices or report"
     add("--step", metavar="STEP", help=step)
 

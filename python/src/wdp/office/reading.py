@@ -14,8 +14,8 @@ from wdp.files import Unreadable, at, read
 from wdp.office.faults import Fault, counted, nearest, quoted
 from wdp.office.judge import Finding, explained
 from wdp.office.places import MOST_OF_AN_INPUT, Source, faults_of, first_of, hint, of_parts
-from wdp.office.sheets import MOST_OF_A_FILE, OF_FORMS, File, fault_of_pair, lines_of, pairs_of
-from wdp.office.sheets import table_of
+from wdp.office.sheets import MOST_OF_A_FILE, OF_FORMS, File, Pairs, lines_of
+from wdp.office.sheets import read_pairs, table_of
 from wdp.office.versions import Undecided, last_of
 from wdp.office.workbook import NOT_STORED, workbook_of
 from wdp.texts.accepted import Rules, rules_of
@@ -264,40 +264,30 @@ class Auction:
             elif word != "--allow-missing" and name not in {*forms, *self.unread}:
                 self.fault(word, f"there is no form of {name}")
 
-    def read_counts(self, path: str) -> dict[str, tuple[int, str]]:
-        """How many bids are expected of each bidder, by a file with a row `bidder,bids` for each, and the place that says so."""
-        bidders = self.rules.bidders
-        expected: dict[str, tuple[int, str]] = {}
-        with self.reading():
-            file = pairs_of(path, ["bidder", "bids"], len(bidders))
-            self.faults += file.faults
-            for row in file.rows:
-                wanted = "a bidder and a number of bids"
-                at, why = 0, fault_of_pair(row, wanted, bidders, expected, "bidder")
-                if not why and not COUNT.fullmatch(row.values[1]):
-                    at = 1
-                    why = f"{quoted(row.values[1])} isn't a number of bids{hint(row.values[1])}"
-                if why:
-                    self.fault(f"{path}:{row.place(at)}", why)
-                else:
-                    expected[row.values[0]] = int(row.values[1]), f"{path}:{row.place(1)}"
-        return expected
+    def check_counts(self, path: str) -> None:
+        """Adds a fault for each form that hasn't the bids that are expected, by a file with a row `bidder,bids` for each."""
 
-    def compare(self, path: str) -> None:
-        """Adds a fault for each form that hasn't the bids that are expected."""
-        before = len(self.faults)
-        expected = self.read_counts(path)
-        if len(self.faults) > before:
-            return
+        def fault_of(name: str, count: str, before: Pairs) -> str:
+            is_count = COUNT.fullmatch(count)
+            return "" if is_count else f"{quoted(count)} isn't a number of bids{hint(count)}"
+
+        known, wanted = (self.rules.bidders, "bidder"), "a bidder and a number of bids"
+        with self.reading():
+            expected, faults = read_pairs(path, ("bidder", "bids"), wanted, known, fault_of, 1)
+            self.faults += faults
+            if not faults:
+                self.compare(path, expected)
+
+    def compare(self, path: str, expected: Pairs) -> None:
         for name in self.rules.bidders:
             form = self.forms.get(name)
-            count, place = expected.get(name, (0, path))
-            wanted = f"{counted(count, 'bid')} of {name} expected"
+            count, place = expected.get(name, ("0", path))
+            wanted = f"{counted(int(count), 'bid')} of {name} expected"
             if form and name not in expected:
                 self.fault(path, f"there is no row for {name}, which has a form")
-            elif not form and count and name not in self.unread:
+            elif not form and int(count) and name not in self.unread:
                 self.fault(place, f"{wanted}; there is no form")
-            elif form and form.bids is not None and form.bids != count:
+            elif form and form.bids is not None and form.bids != int(count):
                 self.fault(place, f"{wanted}; {form.path} has {form.bids}")
 
     def read_all(
@@ -326,7 +316,7 @@ class Auction:
             hint = f"say --allow-missing {name} if it doesn't bid"
             self.fault(folder, f"there is no form of {name}; {hint}")
         if self.choices.expect:
-            self.compare(self.choices.expect)
+            self.check_counts(self.choices.expect)
         path = "".join(group_words[-1:])
         source = Source(path, self.groups, self.rules.bidders)
         self.faults += of_groups + first_of(faults_of(of_part["groups", None], source), path)

@@ -4,7 +4,7 @@ No value is guessed: only the encoding, the delimiter, line ends, and empty cell
 """
 import codecs
 import re
-from collections.abc import Collection, Iterable
+from collections.abc import Callable, Collection, Iterable
 from dataclasses import dataclass, field
 
 from wdp.files import Unreadable, read
@@ -30,6 +30,7 @@ OTHERS = (
 )  # fmt: skip
 CSV, OF_FORMS = "CSV", ".xlsx or CSV"
 NO_TEXT = re.compile("[\udc80-\udcff]")  # bytes that are no UTF-8, as they are decoded
+Pairs = dict[str, tuple[str, str]]  # values by their names, each with its place
 HEAD = "in this field a line begins with %, as the heads of parts do"
 
 
@@ -158,21 +159,37 @@ def lines_of(path: str, data: bytes) -> File:
     return file
 
 
-def pairs_of(path: str, heading: list[str], most: int, regular: bool = False) -> File:
-    """A file of pairs, at most so many with one that is too many, without a first row that is the heading."""
-    file = table_of(path, read(path, MOST_OF_A_FILE, regular), most + 2, len(heading))
-    if file.rows and [value.lower() for value in file.rows[0].values] == heading:
+def read_pairs(
+    path: str,
+    heading: tuple[str, str],
+    wanted: str,
+    known: tuple[Collection[str], str],
+    fault_of: Callable[[str, str, Pairs], str],
+    value_at: int = 0,
+    regular: bool = False,
+) -> tuple[Pairs, list[Fault]]:
+    """The values in a file of pairs by their names, each with its place, and what is wrong with the file. The first row may be the
+    heading. A name is one of the known ones, which a message calls so; `fault_of` says what is wrong with its value, which is
+    a fault of the row's field `value_at`.
+    """
+    names, who = known
+    file = table_of(path, read(path, MOST_OF_A_FILE, regular), len(names) + 2, 2)
+    pairs: Pairs = {}
+    if file.rows and tuple(value.lower() for value in file.rows[0].values) == heading:
         del file.rows[0]
-    return file
-
-
-def fault_of_pair(
-    row: Row, wanted: str, known: Collection[str], before: Collection[str], who: str
-) -> str:
-    """What is wrong with a pair, whose first value has to be a known name that no row before has; nothing if that is right."""
-    name = row.values[0]
-    if len(row.values) != 2:
-        return f"the row has {counted(len(row.values), 'field')}; it is to have {wanted}"
-    if name not in known:
-        return f"{quoted(name)} is no {who} of the rules{nearest(name, known)}"
-    return f"an earlier row is of {quoted(name)}" if name in before else ""
+    for row in file.rows:
+        name, value = row.values[0], row.values[-1].strip()
+        why = ""
+        if len(row.values) != 2:
+            why = f"the row has {counted(len(row.values), 'field')}; it is to have {wanted}"
+        elif name not in names:
+            why = f"{quoted(name)} is no {who} of the rules{nearest(name, names)}"
+        elif name in pairs:
+            why = f"an earlier row is of {quoted(name)}"
+        if why:
+            file.fault(row.place(), why)
+        elif why := fault_of(name, value, pairs):
+            file.fault(row.place(value_at), why)
+        else:
+            pairs[name] = value, f"{path}:{row.place(1)}"
+    return pairs, file.faults

@@ -14,15 +14,17 @@ Exit status: 0 the files are written; 1 a text is refused or a package is missin
 import argparse
 import re
 from collections.abc import Callable
+from dataclasses import dataclass
+from typing import NamedTuple
 
 from wdp.files import put, read, tell, write_folder
 from wdp.office import choices
 from wdp.office.faults import quoted
 from wdp.office.judge import explained
 from wdp.office.places import MOST_OF_AN_INPUT
-from wdp.office.sheets import fault_of_pair, pairs_of
+from wdp.office.sheets import Pairs, read_pairs
 from wdp.program import Limits, answer, found_program
-from wdp.publish.results import Figures, Results, results_of
+from wdp.publish.results import Results, figures_of
 from wdp.results import Report, Tie
 from wdp.texts import accepted
 from wdp.texts.accepted import Accepted, Rules
@@ -36,18 +38,44 @@ MOST_OF_AN_AUDIT = 2**31
 LONGEST, LONGEST_NAME = {"title": 200, "currency": 20}, 100
 TITLE = "Results of the auction"
 PAGE, AUDIT = "results.html", "audit.txt"
-FILES = ("bidders.csv", "categories.csv", "pools.csv", "groups.csv", "results.json", PAGE, AUDIT)
-SOURCES = ("the input", "the report", "the audit")
 
 
-def line(longest: int) -> Callable[[str], str]:
-    """Reads a word as a text for the page: printable UTF-8."""
+@dataclass(frozen=True)
+class Given:
+    """What results are made of: the input, its report and perhaps an audit, what messages call these, and the page's heading.
+    `names` is the file of what the office calls bidders and categories, a regular one if `is_kept` says so.
+    """
 
-    def is_right(text: str) -> bool:
-        return bool(text.encode()) and len(text) <= longest and text.isprintable()
+    program: str
+    data: bytes
+    report: bytes
+    audit: bytes | None = None
+    is_drawn: bool = False
+    sources: tuple[str, str, str] = ("the input", "the report", "the audit")
+    title: str = TITLE
+    currency: str | None = None
+    names: str | None = None
+    is_kept: bool = False
 
+
+class Award(NamedTuple):
+    """An award, with the audit that has it first, and what the program prints of that."""
+
+    audit: bytes | None
+    printed: bytes
+    report: Report
+
+
+def is_line(text: object, longest: int) -> bool:
+    """Whether this is a text for the page: 1 to so many printable characters."""
+    return isinstance(text, str) and 0 < len(text) <= longest and text.isprintable()
+
+
+def line(name: str) -> Callable[[str], str]:
+    """Reads a word as the title or currency of the page."""
+    longest = LONGEST[name]
     what = f"text of 1 to {longest} printable characters in UTF-8"
-    return choices.checked(what, lambda word: word.strip(" "), is_right)
+    return choices.checked(what, lambda word: word.strip(" "), lambda it: is_line(it, longest))
 
 
 def add_words(parser: argparse.ArgumentParser) -> None:
@@ -58,9 +86,9 @@ def add_words(parser: argparse.ArgumentParser) -> None:
     add("--output", metavar="DIR", type=choices.path, help=folder)
     text = "print the tables, aligned and with thousands separated"
     add("--text", action="store_true", help=text)
-    add("--title", type=line(LONGEST["title"]), default=TITLE, help="the page's heading")
+    add("--title", type=line("title"), default=TITLE, help="the page's heading")
     unit = "what amounts are in, as GBP"
-    add("--currency", type=line(LONGEST["currency"]), metavar="UNIT", help=unit)
+    add("--currency", type=line("currency"), metavar="UNIT", help=unit)
     names = "what bidders and categories are called: rows `code,name`"
     add("--names", metavar="FILE", type=choices.path, help=names)
     audit = "the input with solutions and certificates, as `wdp verify` reads it"
@@ -69,27 +97,25 @@ def add_words(parser: argparse.ArgumentParser) -> None:
     add("--drawn", action="store_true", help=drawn)
 
 
-def read_names(path: str, rules: Rules, regular: bool = False) -> dict[str, str]:
+def read_names(path: str, rules: Rules, regular: bool) -> dict[str, str]:
     """What an office calls bidders and categories, by their codes; Refused at the first row that isn't `code,name`."""
     codes = {*rules.bidders, *(category.name for category in rules.categories)}
-    names: dict[str, str] = {}
-    file = pairs_of(path, ["code", "name"], len(codes), regular)
-    if file.faults:
-        raise Refused(str(file.faults[0]))
-    for row in file.rows:
-        code, name = row.values[0], row.values[-1].strip()
-        wanted, who = "a code and a name", "bidder and no category"
-        why = fault_of_pair(row, wanted, codes, names, who)
-        if not why and not (name and name.isprintable() and len(name) <= LONGEST_NAME):
-            why = f"{quoted(name)} isn't 1 to {LONGEST_NAME} printable characters"
-        if not why and name in codes - {code}:
-            why = f"{quoted(name)} is the code of another"
-        if not why and name in names.values():
-            why = f"an earlier row has the name {quoted(name)}, too"
-        if why:
-            raise Refused(f"{path}:{row.place()}: {why}")
-        names[code] = name
-    return names
+
+    def fault_of(code: str, name: str, before: Pairs) -> str:
+        if not is_line(name, LONGEST_NAME):
+            return f"{quoted(name)} isn't 1 to {LONGEST_NAME} printable characters"
+        if name in codes - {code}:
+            return f"{quoted(name)} is the code of another"
+        is_there = name in (each for each, _ in before.values())
+        return f"an earlier row has the name {quoted(name)}, too" if is_there else ""
+
+    known = codes, "bidder and no category"
+    names, faults = read_pairs(
+        path, ("code", "name"), "a code and a name", known, fault_of, regular=regular
+    )
+    if faults:
+        raise Refused(str(faults[0]))
+    return {code: name for code, (name, _) in names.items()}
 
 
 def solutions_of(report: Report, auction: Accepted) -> bytes:
@@ -119,11 +145,12 @@ def judged(program: str, command: str, text: bytes) -> tuple[bytes, Report]:
     return output, read_report(output, asked, command == "verify")
 
 
-def of_report(program: str, data: bytes, auction: Accepted, text: bytes, source: str) -> Report:
-    """What a report without an audit says, once the program prints it again of its winners."""
+def of_report(given: Given, auction: Accepted) -> Award:
+    """The award of a report without an audit, once the program prints it again of its winners."""
+    text, source = given.report, given.sources[1]
     try:
-        report = read_report(text, Asked(data), False)
-        again, _ = judged(program, "report", solutions_of(report, auction) + data)
+        report = read_report(text, Asked(given.data), False)
+        again, _ = judged(given.program, "report", solutions_of(report, auction) + given.data)
     except Unclear as error:
         raise Refused(f"{source}: it isn't a report of this input: {error.text}") from None
     except Refused as error:
@@ -132,10 +159,9 @@ def of_report(program: str, data: bytes, auction: Accepted, text: bytes, source:
         if pair[0] != pair[1]:
             printed = f"of its winners wdp prints '{pair[1].decode()}' here"
             raise Refused(f"{source}: line {number}: {printed}")
-    fault = disproved(report)
-    if fault:
+    if fault := disproved(report):
         raise Refused(f"{source}: {fault}; nothing is published")
-    return report
+    return Award(None, text, report)
 
 
 def with_tie_first(audit: bytes) -> bytes:
@@ -147,99 +173,91 @@ def with_tie_first(audit: bytes) -> bytes:
     return b"".join(part.head + text for part, text in zip(parts, texts))
 
 
-def added_groups(audit: bytes, data: bytes, source: str) -> list[str]:
-    """The groups that an audit adds to those of its input; Refused where it isn't an audit of this input."""
-    added = groups_in(audit)[len(groups_in(data)) :]
-    kinds, given = ([each.kind for each in parts_of(text)] for text in (audit, data))
-    is_same = [kind for kind in kinds if kind in accepted.KINDS] == given
-    if not is_same or not audit.endswith(b"\n" + with_groups(data, added)):
-        raise Refused(f"{source}: it doesn't end with the input, behind solutions and certificates")
-    return added
-
-
-def awards_in(
-    program: str, report: bytes, audit: bytes, count: int, is_drawn: bool, source: str
-) -> list[tuple[bytes, bytes, Report]]:
-    """The awards that an audit shows, the published one first: of each the audit that has it first, and what the program
-    prints of that. Either award of a tie may be the first of an audit; REPORT is that of the one that wasn't drawn.
-    """
+def awards_in(given: Given, audit: bytes, count: int) -> list[Award]:
+    """The awards that an audit shows, the published one first. Either award of a tie may be the first of an audit; the report is
+    that of the one that wasn't drawn."""
+    source = given.sources[2]
     try:
-        awards = [(audit, *judged(program, "verify", audit))]
-        if isinstance(awards[0][2].uniqueness, Tie):
+        awards = [Award(audit, *judged(given.program, "verify", audit))]
+        if isinstance(awards[0].report.uniqueness, Tie):
             tied = with_tie_first(audit)
-            awards.append((tied, *judged(program, "verify", tied)))
+            awards.append(Award(tied, *judged(given.program, "verify", tied)))
     except Refused as error:
         raise Refused(f"{source}: wdp verify refuses it: {error.text}") from None
-    if is_drawn and len(awards) == 1:
+    if given.is_drawn and len(awards) == 1:
         raise WrongWords(f"--drawn: {source} shows no tie, so that nothing was drawn")
-    reports = [report_in(output, count) for _, output, _ in awards]
-    if is_drawn and reports[0] == report:
+    reports = [report_in(award.printed, count) for award in awards]
+    if given.is_drawn and reports[0] == given.report:
         awards, reports = awards[::-1], reports[::-1]
-    if reports[-1 if is_drawn else 0] != report:
+    if reports[-1 if given.is_drawn else 0] != given.report:
         raise Refused(f"{source}: what wdp verify prints of it isn't the report")
     return awards
 
 
 def report_in(output: bytes, count: int) -> bytes:
+    """What is printed of the input's own groups, without what is proved of prices and of the winners."""
     return re.split(rb"(?m)^(?:group %d .*|prices|unique|tie)$" % (count + 1), output, 1)[0]
 
 
-def results_from(
-    program: str,
-    data: bytes,
-    report: bytes,
-    audit: bytes | None,
-    heading: Figures,
-    is_drawn: bool = False,
-    sources: tuple[str, str, str] = SOURCES,
-) -> tuple[Results, bytes | None]:
-    """The figures of an input and its report, and the audit that is published with them. `heading` has the page's title and
-    currency, and the names that the office gives by their codes."""
-    if is_drawn and audit is None:
+def with_added(given: Given, audit: bytes) -> bytes:
+    """The input with the groups that the audit adds to it; Refused if it isn't an audit of this input."""
+    grown = with_groups(given.data, groups_in(audit)[len(groups_in(given.data)) :])
+    before = {part.kind for part in parts_of(audit.removesuffix(b"\n" + grown))}
+    if not audit.endswith(b"\n" + grown) or before.intersection(accepted.KINDS):
+        why = "it doesn't end with the input, after solutions and certificates"
+        raise Refused(f"{given.sources[2]}: {why}")
+    return grown
+
+
+def results_from(given: Given) -> Results:
+    """The figures of an input and its report, with the audit that is published with them."""
+    if given.is_drawn and given.audit is None:
         raise WrongWords("--drawn needs --audit, whose tie was drawn")
-    found = explained(program, data, True)
+    found, source = explained(given.program, given.data, True), given.sources[0]
     if found.findings:
-        hint = f"wdp-office explain {sources[0]} says where"
-        raise Refused(f"{sources[0]}: {found.findings[0].refused.text}; {hint}")
-    auction = accepted.read(data, sources[0])
+        hint = f"wdp-office explain {source} says where"
+        raise Refused(f"{source}: {found.findings[0].refused.text}; {hint}")
+    auction = accepted.read(given.data, source)
     if not auction.groups or auction.groups[0]:
-        raise Refused(f"{sources[0]}: its first group isn't the empty one, -")
-    shows = None
-    if audit is None:
-        reports = [of_report(program, data, auction, report, sources[1])]
+        raise Refused(f"{source}: its first group isn't the empty one, -")
+    names = read_names(given.names, auction.rules, given.is_kept) if given.names else {}
+    count, grown = len(auction.groups), b""
+    if given.audit is None:
+        awards = [of_report(given, auction)]
     else:
-        grown = with_groups(data, added_groups(audit, data, sources[2]))
-        count = len(auction.groups)
-        awards = awards_in(program, report, audit, count, is_drawn, sources[2])
-        reports = [each for _, _, each in awards]
-        audit, output, _ = awards[0]
-        report = report_in(output, count)
-        shows = {
+        grown = with_added(given, given.audit)
+        awards = awards_in(given, given.audit, count)
+    audit, printed, report = awards[0]
+    other = awards[1].report if awards[1:] else None
+    figures = {
+        "certified": report.is_certified,
+        "title": given.title,
+        "currency": given.currency,
+        **figures_of(auction, report, other, given.is_drawn),
+        "left_out": [{"bidder": bidder, "why": why} for bidder, why in found.left_out],
+        "names": names,
+        "input_sha256": digest_of(given.data),
+        "report_sha256": digest_of(report_in(printed, count)),
+        "audit": audit
+        and {
             "sha256": digest_of(audit),
-            "input_sha256": digest_of(data),
-            "report_sha256": digest_of(output),
-            "input_bytes": len(data),
-            "bytes_before": end_of_groups(data),
-            "added_bytes": len(grown) - len(data),
-        }
-    about = {
-        "is_drawn": is_drawn,
-        "left_out": found.left_out,
-        "input_sha256": digest_of(data),
-        "report_sha256": digest_of(report),
-        "audit": shows,
-        "wdp": answer(program, ["--version"], b"", Limits(1_000)).decode().strip(),
+            "input_sha256": digest_of(given.data),
+            "report_sha256": digest_of(printed),
+            "input_bytes": len(given.data),
+            "bytes_before": end_of_groups(given.data),
+            "added_bytes": len(grown) - len(given.data),
+        },
+        "wdp": answer(given.program, ["--version"], b"", Limits(1_000)).decode().strip(),
     }
-    other = reports[1] if reports[1:] else None
-    return results_of(auction, reports[0], other, heading, about), audit
+    return Results(figures, audit)
 
 
-def publish(results: Results, audit: bytes | None, folder: str) -> dict[str, bytes]:
+def publish(results: Results, folder: str) -> int:
+    """Writes the files into a folder, in the place of an older one of these files alone; how many they are."""
     files = {**results.files(), PAGE: results.page()}
-    if audit is not None:
-        files[AUDIT] = audit
-    write_folder(folder, files, FILES)
-    return files
+    more = {} if results.audit is None else {AUDIT: results.audit}
+    write_folder(folder, {**files, **more}, [*files, AUDIT])
+    return len(files) + len(more)
 
 
 def run(given: argparse.Namespace) -> int:
@@ -247,14 +265,11 @@ def run(given: argparse.Namespace) -> int:
         raise WrongWords("one of these words is needed: --output DIR, --text")
     data, report = read(given.input, MOST_OF_AN_INPUT), read(given.report, MOST_OF_AN_INPUT)
     audit = read(given.audit, MOST_OF_AN_AUDIT) if given.audit else None
-    names = read_names(given.names, accepted.read(data, given.input).rules) if given.names else {}
-    heading = {"title": given.title, "currency": given.currency, "names": names}
     sources = given.input, given.report, given.audit or ""
-    program = found_program(given.program)
-    results, audit = results_from(program, data, report, audit, heading, given.drawn, sources)
+    about = given.drawn, sources, given.title, given.currency, given.names
+    results = results_from(Given(found_program(given.program), data, report, audit, *about))
     if given.output is not None:
-        files = publish(results, audit, given.output)
-        tell(f"results: {len(files)} files in {given.output}\n")
+        tell(f"results: {publish(results, given.output)} files in {given.output}\n")
     if given.text:
         put(results.plain_text().encode())
     elif not results["certified"]:

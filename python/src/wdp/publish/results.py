@@ -119,6 +119,10 @@ def cell_text(cell: Cell) -> str:
 class Results(Figures):
     """What is published: figures as docs/results.schema.json has them, and what is said of them in sentences, tables and a page."""
 
+    def __init__(self, figures: Figures, audit: bytes | None) -> None:
+        super().__init__(figures)
+        self.audit = audit
+
     def winners(self) -> list[Figures]:
         return [bidder for bidder in self["bidders"] if bidder["bid"]]
 
@@ -332,11 +336,9 @@ class Results(Figures):
         return rendered.encode()
 
 
-def results_of(
-    auction: Accepted, report: Report, other: Report | None, heading: Figures, sources: Figures
-) -> Results:
-    """The figures of an auction from its input and its report. If the audit shows a tie, `other` is the report by the other
-    award; `sources` says what these are from, and whether one of two awards was drawn."""
+def figures_of(auction: Accepted, report: Report, other: Report | None, is_drawn: bool) -> Figures:
+    """The figures of an auction from its input and its report. `other` is the report by the other award of a tie, if one is shown,
+    and `is_drawn` whether a draw decided between the two."""
     groups, prices = groups_of(report, auction), report.prices
     won = groups[0]["winners"]
     bidders = bidders_of(won, report, auction)
@@ -347,10 +349,7 @@ def results_of(
     reserves = [x["name"] for x in bidders if x["bid"] and x["price"] == x["reserve"]]
     shown: Figures = {"groups": bound, "reserves": reserves}
     costs = [group.cost for group in other.groups] if other else []
-    figures = {
-        "certified": report.is_certified,
-        "title": heading["title"],
-        "currency": heading["currency"],
+    return {
         "total": report.groups[0].total,
         "amounts": sum(each["amount"] for each in won),
         "value_left": sum(each["value_left"] for each in categories),
@@ -363,10 +362,6 @@ def results_of(
         "groups": groups,
         "prices": prices and {"total": prices.total, "is_least": prices.is_least, **shown},
         "proof": "tie" if other else "only" if report.uniqueness == "only" else "none",
-        "is_drawn": sources["is_drawn"],
+        "is_drawn": is_drawn,
         "tied_award": other and {"winners": won_in(other.groups[0], auction), "costs": costs},
-        "left_out": [{"bidder": bidder, "why": why} for bidder, why in sources["left_out"]],
-        "names": heading["names"],
-        **{name: sources[name] for name in ("input_sha256", "report_sha256", "audit", "wdp")},
     }
-    return Results(figures)
