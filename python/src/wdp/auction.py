@@ -134,12 +134,6 @@ class Run(Folder):
             return
         text = with_groups(self.read(INPUT), added)
         limits, names = Limits(answers.Asked(text).most_of_programs), list[str]()
-
-        def number_of(line: bytes) -> int:
-            if line.startswith(b"* program "):
-                names.append(line.split()[3].decode("ascii"))
-            return len(names)
-
         with tempfile.TemporaryFile(dir=self.where) as printed:
             words = ["compile", f"--workers={min(self.jobs, 64)}"]
             try:
@@ -153,10 +147,11 @@ class Run(Folder):
                 why = "since costs are told against the winners among all bidders"
                 raise Refused(f"group 1 is not empty: {first}, {why}")
             printed.seek(0)
-            for group, lines in groupby(printed, number_of):
-                _, *program = lines
-                if not self.has(of_group("program", group)):
-                    self.leave(of_group("program", group), b"".join(program))
+            for is_head, lines in groupby(printed, lambda line: line.startswith(b"* program ")):
+                if is_head:
+                    names += [line.split()[3].decode("ascii") for line in lines]
+                elif not self.has(program := of_group("program", len(names))):
+                    self.leave(program, b"".join(lines))
         if not added:
             self.leave(NAMES, "".join(name + "\n" for name in names).encode())
 
@@ -399,9 +394,6 @@ class Run(Folder):
         finally:
             shutil.rmtree(self.where, ignore_errors=True)
 
-    def take_standard_input(self) -> None:
-        self.take_input(files.read("-", MOST_OF_INPUT))
-
     def take_audit(self, audit: bytes) -> None:
         """Puts what an audit has into the folder, as if steps had left it."""
         parts = list(parts_of(audit))
@@ -478,7 +470,8 @@ def run(given: argparse.Namespace) -> int:
         if given.step or given.input not in (None, "-") or given.title or given.currency:
             raise WrongWords("--input FILE, --title, --currency and --step go with DIR")
         name = REPORT if own.is_certified else UNCERTIFIED
-        return own.without_folder(own.take_standard_input, name, files.put)
+        take = lambda: own.take_input(files.read("-", MOST_OF_INPUT))  # noqa: E731
+        return own.without_folder(take, name, files.put)
     data = files.read(given.input, MOST_OF_INPUT) if given.input else None
     if data is not None:
         given.folder.mkdir(parents=True, exist_ok=True)

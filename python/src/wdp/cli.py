@@ -69,7 +69,7 @@ def tree(only: str | None = None) -> Parser:
 def parsed(words: list[str]) -> argparse.Namespace:
     """What the words ask for; a SystemExit if they are wrong, or ask for help."""
     if words[:1] == ["help"]:
-        words = [*words[1:2], "--help"] if words[1:2] != ["help"] else ["--help"]
+        words = [*(name for name in words[1:2] if name != "help"), "--help"]
     first = words[0] if words else ""
     if words and not first.startswith("-") and first not in COMMANDS:
         near = difflib.get_close_matches(first[:LONGEST].lower(), COMMANDS, 1, 0)[0]

@@ -39,8 +39,9 @@ def left_out(counts: dict[str, int], bids: Sequence[tuple[str, str]]) -> list[st
     return lines
 
 
-def of_input(path: str, with_bids: bool, program: str) -> tuple[list[Fault], bool, list[str]]:
+def of_input(given: argparse.Namespace, program: str) -> tuple[list[Fault], bool, list[str]]:
     """The faults of one input, whether its rules are right, and a line for each form and bid if nothing is wrong."""
+    path = given.paths[0]
     source = "input" if path == "-" else path
     try:
         data = read(path, MOST_OF_AN_INPUT)
@@ -48,9 +49,9 @@ def of_input(path: str, with_bids: bool, program: str) -> tuple[list[Fault], boo
         if "more than" in error.why:
             return [Fault(source, error.why, "input: too large")], False, []
         raise Refused(f"{source}: {error.why}") from None
-    found = explained(program, data, with_bids)
+    found = explained(program, data, given.bids)
     faults = faults_of_input(found, data, source)
-    if faults or not with_bids:
+    if faults or not given.bids:
         return faults, bool(faults) and found.findings[0].refused.part in ("form", "groups"), []
     counts = {name: len(bids) for name, bids in accepted.read(data, source).bids.items()}
     return [], True, left_out(counts, found.left_out)
@@ -65,20 +66,14 @@ def of_files(given: argparse.Namespace, program: str) -> tuple[list[Fault], bool
 
 
 def run(given: argparse.Namespace) -> int:
-    is_input = len(given.paths) == 1
+    is_one, program = len(given.paths) == 1, found_program(given.program)
     if len(given.paths) > 3:
         raise WrongWords("give INPUT, or RULES FORMS_DIR [GROUPS]")
-    if is_input and choices.is_any(given):
+    if is_one and choices.is_any(given):
         raise WrongWords("one input has no files to choose from")
-    program = found_program(given.program)
-    found = of_input(given.paths[0], given.bids, program) if is_input else of_files(given, program)
-    faults, has_rules, lines = found
+    faults, has_rules, lines = (of_input if is_one else of_files)(given, program)
     if faults:
-        lines = []
-        for each in faults:
-            lines.append(
-                f"{each} (wdp: {each.refusal})" if is_input and each.refusal else str(each)
-            )
+        lines = [f"{it} (wdp: {it.refusal})" if is_one and it.refusal else str(it) for it in faults]
         lines += [*([] if has_rules else [THEN]), all_counted(faults)]
     put(printed(lines if faults or given.bids else ["nothing is wrong"]).encode())
     return 1 if faults else 0

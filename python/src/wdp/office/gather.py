@@ -21,10 +21,6 @@ from wdp.office.receipt import receipt
 from wdp.program import found_program
 
 
-def output_path(text: str) -> str:
-    return "" if text == "-" else choices.path(text)
-
-
 def add_words(parser: argparse.ArgumentParser) -> None:
     add = parser.add_argument
     add("rules", metavar="RULES", help="the file of the rules")
@@ -35,7 +31,8 @@ def add_words(parser: argparse.ArgumentParser) -> None:
     rule = f"in place of GROUPS: {each}, or winners FILE (nobody, and {winners})"
     add("--groups", nargs="+", metavar="RULE", default=[], help=rule)
     output = "write the input to this file, completely or not at all"
-    add("--output", metavar="FILE", type=output_path, help=output)
+    path = lambda text: "" if text == "-" else choices.path(text)  # noqa: E731
+    add("--output", metavar="FILE", type=path, help=output)
     also = "write the receipt to this file too"
     add("--receipt", metavar="FILE", type=choices.path, help=also)
     choices.add_words(parser)

@@ -26,7 +26,9 @@ from wdp.texts.tables import Row, decoded, encoded
 WORKBOOK = ".xlsx"
 FORMS = (".csv", ".tsv", ".txt", WORKBOOK)
 OTHER_WORKBOOKS = (".xlsm", ".xlsb", ".xls", ".ods", ".numbers")
-LOCK = "~$"
+LOCK, LOCKED = "~$", " (a spreadsheet's lock: the workbook is open, or was)"
+OTHER_WORKBOOK = "it is a workbook {}, which isn't read; save it as .xlsx or CSV"
+NO_FORM = f"its name doesn't end in {', '.join(FORMS)}; remove it if it is no form"
 # records of rules and of a form, and lines of groups, with one that is too many: what follows is a fault whatever it says
 MOST_OF_RULES, MOST_OF_A_FORM = 1 + 32 + 256 + 16 + 16 * 32 + 1, 1 + 4_000 + 1
 MOST_OF_GROUPS = 1_024 + 1
@@ -98,11 +100,9 @@ class Auction:
     def read_rules(self, path: str) -> bool:
         """Reads the rules; whether nothing is wrong with them."""
         with self.reading():
-            data = read(path, MOST_OF_A_FILE)
-            first = [row.values for row in table_of(path, data, 1).rows]
-            version = first[0][1] if first and first[0][1:] else ""
-            width = WIDTHS.get(version, len(first[0]) if first else 0)
-            file = self.rules_file = table_of(path, data, MOST_OF_RULES, width)
+            file = self.rules_file = table_of(path, read(path, MOST_OF_A_FILE), MOST_OF_RULES)
+            first = file.rows[0].values if file.rows else []
+            file.trim(WIDTHS.get("".join(first[1:2]), len(first)))
             self.faults += file.faults
             if not file.faults:
                 found = explained(self.program, b"%rules\n" + file.text)
@@ -120,19 +120,13 @@ class Auction:
         paths = []
         for name in names:
             path, ending = os.path.join(folder, name), PurePath(name).suffix.lower()
-            if name.startswith(LOCK):
-                locked = f"{name} (a spreadsheet's lock: the workbook is open, or was)"
-                self.passed_over.append(locked)
-            elif name.startswith(".") or name.endswith("~"):
-                self.passed_over.append(name)
+            if name.startswith((".", LOCK)) or name.endswith("~"):
+                self.passed_over.append(name + (LOCKED if name.startswith(LOCK) else ""))
             elif ending in FORMS:
                 paths.append(path)
-            elif ending in OTHER_WORKBOOKS:
-                why = f"it is a workbook {ending}, which isn't read; save it as .xlsx or CSV"
-                self.fault(path, why)
             else:
-                why = f"its name doesn't end in {', '.join(FORMS)}; remove it if it is no form"
-                self.fault(path, why)
+                is_book = ending in OTHER_WORKBOOKS
+                self.fault(path, OTHER_WORKBOOK.format(ending) if is_book else NO_FORM)
         # all together have at most what an input may have, as UTF-16
         sizes = [os.path.getsize(path) for path in paths if os.path.isfile(path)]
         size, most = sum(min(each, MOST_OF_A_FILE) for each in sizes), 2 * MOST_OF_AN_INPUT
@@ -142,13 +136,12 @@ class Auction:
 
     def read_form(self, path: str) -> File:
         """The form of a file, whose name has to name the bidder of its first row, and no other; Unreadable if there is none."""
-        width = len(self.rules.categories) + 1
         data = read(path, MOST_OF_A_FILE, regular=True)
         if path.lower().endswith(WORKBOOK):
-            form = workbook_of(path, data, MOST_OF_A_FORM, width, self.choices.sheet)
+            form = workbook_of(path, data, MOST_OF_A_FORM, self.choices.sheet)
         else:
-            form = table_of(path, data, MOST_OF_A_FORM, width, OF_FORMS)
-        own, bidders = form.bidder, self.rules.bidders
+            form = table_of(path, data, MOST_OF_A_FORM, OF_FORMS)
+        own, bidders = form.trim(len(self.rules.categories) + 1).bidder, self.rules.bidders
         named = named_in(form.path, bidders)
         others = " and ".join(name for name in bidders if name in named - {own})
         whose = f"{own}, whose form its first row says it is"
@@ -251,11 +244,14 @@ class Auction:
     def check_words(self) -> None:
         """Adds a fault for each name in the words that is no bidder's, and for each word that isn't needed."""
         choices, forms, bidders = self.choices, self.forms, self.rules.bidders
-        unended = [name for name in choices.allow_unended if name not in ("rules", "groups")]
-        named = [("--allow-missing", name) for name in choices.allow_missing]
-        named += [("--allow-empty", name) for name in choices.allow_empty]
-        named += [("--allow-unended", name) for name in unended]
-        for word, name in named:
+        words = {
+            it: getattr(choices, it) for it in ("allow_missing", "allow_empty", "allow_unended")
+        }
+        for word, name in (
+            (f"--{it}".replace("_", "-"), name) for it in words for name in words[it]
+        ):
+            if word == "--allow-unended" and name in ("rules", "groups"):
+                continue
             if name not in bidders:
                 near = nearest(name, bidders)
                 self.fault(word, f"{quoted(name)} is no bidder of the rules{near}")

@@ -2,6 +2,8 @@
 
 No value is guessed: only the encoding, the delimiter, line ends, and empty cells are looked at.
 """
+from __future__ import annotations
+
 import codecs
 import re
 from collections.abc import Callable, Collection, Iterable
@@ -44,12 +46,10 @@ class File:
     rows: list[Row] = field(default_factory=list)
     changes: list[str] = field(default_factory=list)
     faults: list[Fault] = field(default_factory=list)
-    is_ended: bool = (
-        True  # whether the last row ends as a row does, and not perhaps in the middle of a value
-    )
-    unclosed: int | None = (
-        None  # the number of the row whose quote isn't closed, so that it holds all that follows
-    )
+    # whether the last row ends as a row does, and not perhaps in the middle of a value
+    is_ended: bool = True
+    # the number of the row whose quote isn't closed, so that it holds all that follows
+    unclosed: int | None = None
     bids: int | None = None
 
     @property
@@ -64,10 +64,9 @@ class File:
     def fault(self, place: str, words: str) -> None:
         self.faults.append(Fault(f"{self.path}:{place}", words))
 
-    def fill(self, rows: Iterable[Row], most: int, width: int | None) -> None:
-        """Takes at most so many rows with a value. A row with a field that would head a part is a fault, and isn't taken.
-        Drops the empty fields beyond those that each row has to have, or the first one has."""
-        empty = changed = 0
+    def fill(self, rows: Iterable[Row], most: int) -> None:
+        """Takes at most so many rows with a value. A row with a field that would head a part is a fault, and isn't taken."""
+        empty = 0
         for row in rows:
             heads = [at for at, value in enumerate(row.values) if "\n%" in value]
             for at in heads:
@@ -76,13 +75,16 @@ class File:
             self.rows += [row] if any(row.values) and not heads else []
             if len(self.rows) == most:
                 break
-        width = width or len(self.rows[0].values if self.rows else ())
-        for row in self.rows:
-            if len(row.values) > width and not any(row.values[width:]):
-                del row.values[width:]
-                changed += 1
-        counts = {"empty rows": empty, "empty fields at the end of rows": changed}
-        self.changes += [f"{what} dropped: {count}" for what, count in counts.items() if count]
+        self.changes += [f"empty rows dropped: {empty}"] if empty else []
+
+    def trim(self, width: int) -> File:
+        """Drops the empty fields beyond those that each row has to have."""
+        beyond = slice(width, None)
+        long = [row for row in self.rows if row.values[beyond] and not any(row.values[beyond])]
+        for row in long:
+            del row.values[beyond]
+        self.changes += [f"empty fields at the end of rows dropped: {len(long)}"] if long else []
+        return self
 
 
 def text_of(file: File, kinds: str = CSV) -> str:
@@ -133,13 +135,13 @@ def delimiter_of(text: str, file: File) -> tuple[str, int]:
     return delimiter, begin
 
 
-def table_of(path: str, data: bytes, most: int, width: int | None = None, kinds: str = CSV) -> File:
-    """The records of a file's bytes, at most so many, each of so many fields or of as many as the first one."""
+def table_of(path: str, data: bytes, most: int, kinds: str = CSV) -> File:
+    """The records of a file's bytes, at most so many."""
     file = File(path, data)
     text = text_of(file, kinds)
     delimiter, begin = delimiter_of(text, file)
     records = Records(text[begin:], delimiter, line=2 if begin else 1)
-    file.fill(records, most, width)
+    file.fill(records, most)
     if records.unclosed:
         file.fault(records.unclosed, "the field's quote isn't closed")
         file.unclosed = len(file.rows)
@@ -173,7 +175,7 @@ def read_pairs(
     a fault of the row's field `value_at`.
     """
     names, who = known
-    file = table_of(path, read(path, MOST_OF_A_FILE, regular), len(names) + 2, 2)
+    file = table_of(path, read(path, MOST_OF_A_FILE, regular), len(names) + 2).trim(2)
     pairs: Pairs = {}
     if file.rows and tuple(value.lower() for value in file.rows[0].values) == heading:
         del file.rows[0]

@@ -3,7 +3,6 @@ import datetime
 import io
 import zipfile
 from collections.abc import Iterator
-from contextlib import contextmanager
 from functools import partial
 from itertools import zip_longest
 from typing import Any
@@ -20,18 +19,6 @@ MOST_CELLS = 1_000  # of a row
 MOST_EXACT = 2**53  # floating point has each whole number below this one
 
 
-@contextmanager
-def readable(path: str) -> Iterator[None]:
-    """Whatever the library raises for a file that is no workbook is Unreadable."""
-    try:
-        yield
-    except Unreadable:
-        raise
-    except Exception as error:
-        why = f"it is no workbook that can be read: {type(error).__name__}"
-        raise Unreadable(path, NEEDED if isinstance(error, ImportError) else why) from None
-
-
 def field_of(value: Any) -> str:
     """A cell's value as a field; what is no whole number stays what it is, for the program to refuse."""
     if value is None:
@@ -43,13 +30,13 @@ def field_of(value: Any) -> str:
     return str(value)
 
 
-def cells_of(values: Any, formulas: Any, file: File, taken: list[str]) -> Iterator[Row]:
-    """The rows of a sheet. A formula counts by its stored value, and its cell is added to `taken`; below the first row a text
-    isn't taken for a number."""
+def cells_of(sheets: list[Any], file: File, taken: list[str]) -> Iterator[Row]:
+    """The rows of a sheet, which is there with values and with formulas. A formula counts by its stored value, and its cell is
+    added to `taken`; below the first row a text isn't taken for a number."""
     from openpyxl.utils import get_column_letter
 
     is_first = True
-    pairs = zip(values.iter_rows(values_only=True), formulas.iter_rows(values_only=True))
+    pairs = zip(*(sheet.iter_rows(values_only=True) for sheet in sheets))
     for number, (row, made) in enumerate(pairs, 1):
         both = enumerate(zip_longest(row, made), 1)
         width = max((at for at, pair in both if pair != (None, None)), default=0)
@@ -57,7 +44,7 @@ def cells_of(values: Any, formulas: Any, file: File, taken: list[str]) -> Iterat
             why = f"in row {number} it has a cell beyond the first {MOST_CELLS:,}"
             raise Unreadable(file.path, why)
         cells = [f"{get_column_letter(at + 1)}{number}" for at in range(width)]
-        places = [f"{values.title}!{cell}" for cell in cells]
+        places = [f"{sheets[0].title}!{cell}" for cell in cells]
         for value, formula, cell, place in zip(row, made, cells, places):
             if isinstance(formula, str) and formula.startswith("="):
                 taken.append(cell)
@@ -69,27 +56,37 @@ def cells_of(values: Any, formulas: Any, file: File, taken: list[str]) -> Iterat
         is_first = is_first and not width
 
 
-def workbook_of(path: str, data: bytes, most: int, width: int, name: str | None) -> File:
-    """The rows of a workbook's sheet, the one of this name or the first, as of a file of CSV."""
-    file, taken = File(path, data), list[str]()
-    with readable(path):
-        import openpyxl
+def workbook_of(path: str, data: bytes, most: int, name: str | None) -> File:
+    """The rows of a workbook's sheet, as of a file of CSV. Whatever the library raises if it is no workbook is Unreadable."""
+    try:
+        return read_sheet(File(path, data), most, name)
+    except Unreadable:
+        raise
+    except Exception as error:
+        why = f"it is no workbook that can be read: {type(error).__name__}"
+        raise Unreadable(path, NEEDED if isinstance(error, ImportError) else why) from None
 
-        entries = zipfile.ZipFile(io.BytesIO(data)).infolist()
-        if sum(entry.file_size for entry in entries) > MOST_UNPACKED:
-            why = f"it is a workbook of more than {MOST_UNPACKED:,} bytes, unpacked"
-            raise Unreadable(path, why)
-        load = partial(openpyxl.load_workbook, read_only=True)
-        books = [load(io.BytesIO(data), data_only=is_stored) for is_stored in (True, False)]
-        titles = [sheet.title for sheet in books[0].worksheets]
-        title = name or "".join(titles[:1])
-        if title not in titles:
-            there = ", ".join(map(quoted, titles[:9]))
-            raise Unreadable(path, f"it has no sheet {quoted(title)}, but {there}")
-        values, formulas = (book[title] for book in books)
-        values.reset_dimensions()
-        formulas.reset_dimensions()
-        file.fill(cells_of(values, formulas, file, taken), most, width)
+
+def read_sheet(file: File, most: int, name: str | None) -> File:
+    """Fills a file with the rows of the sheet of this name, or of the first one."""
+    import openpyxl
+
+    data, taken = io.BytesIO(file.data), list[str]()
+    entries = zipfile.ZipFile(data).infolist()
+    if sum(entry.file_size for entry in entries) > MOST_UNPACKED:
+        why = f"it is a workbook of more than {MOST_UNPACKED:,} bytes, unpacked"
+        raise Unreadable(file.path, why)
+    load = partial(openpyxl.load_workbook, read_only=True)
+    books = [load(data, data_only=is_stored) for is_stored in (True, False)]
+    titles = [sheet.title for sheet in books[0].worksheets]
+    title = name or "".join(titles[:1])
+    if title not in titles:
+        there = ", ".join(map(quoted, titles[:9]))
+        raise Unreadable(file.path, f"it has no sheet {quoted(title)}, but {there}")
+    sheets = [book[title] for book in books]
+    for sheet in sheets:
+        sheet.reset_dimensions()
+    file.fill(cells_of(sheets, file, taken), most)
     others = f", of {len(titles)} sheets" if len(titles) > 1 else ""
     stored = f"taken by their stored values: {', '.join(taken[:20])}"
     formulas_taken = [f"{counted(len(taken), 'formula')} {stored}"] if taken else []

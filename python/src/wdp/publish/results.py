@@ -1,7 +1,7 @@
 """The result of an auction: figures, as docs/results.schema.json describes them, and sentences, tables and a page of them."""
 import json
 import re
-from collections.abc import Iterable, Sequence
+from collections.abc import Iterable, Iterator, Sequence
 from pathlib import Path
 from typing import Any, NamedTuple
 
@@ -33,17 +33,16 @@ def won_in(group: Group, auction: Accepted) -> list[Figures]:
     ]
 
 
-def bidders_of(won: list[Figures], report: Report, auction: Accepted) -> list[Figures]:
+def bidders_of(won: list[Figures], report: Report, auction: Accepted) -> Iterator[Figures]:
     """A bidder that won nothing has the bid None; what isn't known is None too."""
     categories, prices = auction.rules.categories, report.prices
     by_name = {each["name"]: each for each in won}
     nothing = {"bid": None, "amount": 0, "lots": [0] * len(categories)}
     # (of a group that is listed twice the first one counts)
     alone = {each.names: each for each in reversed(report.groups)}
-    bidders = []
     for name in auction.rules.bidders:
         own, group = by_name.get(name, nothing), alone.get((name,))
-        figures = {
+        yield {
             "name": name,
             "lots": own["lots"],
             "bids": len(auction.bids.get(name, ())),
@@ -54,8 +53,6 @@ def bidders_of(won: list[Figures], report: Report, auction: Accepted) -> list[Fi
             "cost": group.cost if group else None,
             "cost_group": group.number if group else None,
         }
-        bidders.append(figures)
-    return bidders
 
 
 def categories_of(sold: list[int], auction: Accepted) -> list[Figures]:
@@ -341,7 +338,7 @@ def figures_of(auction: Accepted, report: Report, other: Report | None, is_drawn
     and `is_drawn` whether a draw decided between the two."""
     groups, prices = groups_of(report, auction), report.prices
     won = groups[0]["winners"]
-    bidders = bidders_of(won, report, auction)
+    bidders = list(bidders_of(won, report, auction))
     sold = [sum(lots) for lots in zip(*(each["lots"] for each in bidders))]
     categories = categories_of(sold, auction)
     loads = [(pool, auction.rules.load(pool, sold)) for pool in auction.rules.pools]
