@@ -69,7 +69,7 @@ def test_without_a_folder(auction, tmp_path):
     temporary = tmp_path / "temporary"
     temporary.mkdir()
     refused = auction.run(folder=False, data=b"", TMPDIR=str(temporary))
-    assert refused.err.endswith("wdp-office explain - tells what is wrong\n")
+    assert refused.err.endswith("wdp-office explain - prints what is wrong\n")
     seen = auction.run(folder=False, data=WORKED, TMPDIR=str(temporary))
     assert totals(seen.out.encode()) == TOTALS and "each total is certified" in seen.err
     assert list(temporary.iterdir()) == []
@@ -168,7 +168,7 @@ def test_a_folder_belongs_to_one_input(auction, tmp_path):
     assert "input.txt isn't what was left there" in auction.said(status=1)
     auction.put("input.txt", WORKED)
     (auction.where / "sums/input.txt.sha256").unlink()
-    assert "which says of which input" in auction.said(status=1)
+    assert "it says which input" in auction.said(status=1)
     assert auction.outcome() == before
 
 

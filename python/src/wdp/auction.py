@@ -1,6 +1,6 @@
-"""The one way through an auction: compile, solve, certify, price and verify, with a folder that keeps what is done, or without.
+"""Takes an auction from its input to winners, opportunity costs, prices and a page; a folder keeps what is done.
 
-The certificate is the judge: `certify` finds out by itself that a solver's answer isn't the best one, and has the better one.
+The certificates decide: if a solver's answer isn't the best one, the search for its certificate finds a better one.
 """
 import argparse
 import contextlib
@@ -36,10 +36,9 @@ REPORT, AUDIT, UNIQUE, PRICES = "report.txt", "audit.txt", "unique.txt", "prices
 UNCERTIFIED, PAGE, RESULTS = "report.uncertified.txt", "page.json", "results"
 MOST_OF_INPUT = 128 * 1024 * 1024  # bytes
 WRONG = 3  # the status if an answer can't be the best one
-TOLD_EVERY = {True: 0.5, False: 30.0}  # seconds, at a terminal and elsewhere
-EPILOG = "Exit status: 0 everything is there; 1 refused, or something is missing, which the next run goes on with; "
-EPILOG += "2 the words are wrong; 3 without certificates, figures that can't all be of the greatest totals."
-
+PRINTED_EVERY = {True: 0.5, False: 30.0}  # seconds, at a terminal and elsewhere
+EPILOG = """Exit status: 0 everything is there; 1 something is refused or missing, and the next run goes on from there;
+2 the options are wrong; 3 without certificates, figures that contradict each other."""
 
 tool = "auction"  # which one messages are of; or `prices`
 
@@ -49,7 +48,7 @@ def is_at_terminal() -> bool:
 
 
 def say(text: str) -> None:
-    """A line on standard error; at a terminal in the place of the line that tells how far the work is."""
+    """A line on standard error; at a terminal in the place of the line of progress."""
     files.tell("\r\x1b[K" if is_at_terminal() else "")
     files.say(tool, text)
 
@@ -76,15 +75,15 @@ def in_processes(
 
 
 def progress(count: int, left: int) -> steps.Watch:
-    """Tells how far a run is: one line that is renewed at a terminal, few lines elsewhere."""
-    told = time.monotonic()
+    """Prints how far a run is: one line that is renewed at a terminal, few lines elsewhere."""
+    printed = time.monotonic()
 
-    def tell(ended: int, at_work: list[str]) -> None:
-        nonlocal told
+    def watch(ended: int, at_work: list[str]) -> None:
+        nonlocal printed
         is_terminal = is_at_terminal()
-        if time.monotonic() - told < TOLD_EVERY[is_terminal]:
+        if time.monotonic() - printed < PRINTED_EVERY[is_terminal]:
             return
-        told = time.monotonic()
+        printed = time.monotonic()
         text = f"{count - left + ended} of {counted(count, 'group')} done"
         text += f"; at work: {', '.join(at_work[:8])}" if at_work else ""
         if is_terminal:
@@ -92,7 +91,7 @@ def progress(count: int, left: int) -> steps.Watch:
         else:
             say(text)
 
-    return tell
+    return watch
 
 
 @dataclass
@@ -139,12 +138,12 @@ class Run(Folder):
             try:
                 answer(self.program, words, text, limits, printed)
             except Refused as refused:
-                told = "-" if self.page is None else shlex.quote(str(self.path(INPUT)))
-                what = f"wdp-office explain {told} tells what is wrong"
-                raise Refused(f"{refused}; {what}") from None
+                path = "-" if self.page is None else shlex.quote(str(self.path(INPUT)))
+                hint = f"wdp-office explain {path} prints what is wrong"
+                raise Refused(f"{refused}; {hint}") from None
             if groups_in(text)[:1] != ["-"]:
                 first = "the first line of %groups has to be `-`"
-                why = "since costs are told against the winners among all bidders"
+                why = "since costs are measured against the winners among all bidders"
                 raise Refused(f"group 1 is not empty: {first}, {why}")
             printed.seek(0)
             for is_head, lines in groupby(printed, lambda line: line.startswith(b"* program ")):
@@ -298,7 +297,7 @@ class Run(Folder):
             if self.has(PRICES):
                 return 0
             if in_processes({"prices": self.price}):
-                say("no prices; the next run looks for them again, and --no-prices goes without")
+                say("no prices; the next run looks for them again, and --no-prices leaves them out")
                 return 1
 
     def through(self) -> int:
@@ -416,10 +415,14 @@ def add_shared_words(parser: argparse.ArgumentParser) -> None:
     solve.add_solver_words(parser)
     jobs = checked("number of jobs, 1 to 1000,", int, lambda n: 1 <= n <= 1000)
     add = parser.add_argument
-    how = "so many groups at a time; as many as there are processors where it is left out"
+    how = "how many groups are done at a time; by default one per processor"
     processors = len(os.sched_getaffinity(0))
     add("--jobs", type=jobs, default=processors, metavar="N", help=how)
-    add("--quiet", action="store_true", help="tell what fails and how it ends, not how far it is")
+    add(
+        "--quiet",
+        action="store_true",
+        help="print what fails and how the run ends, but no progress",
+    )
 
 
 def add_words(parser: argparse.ArgumentParser) -> None:
@@ -431,20 +434,20 @@ def add_words(parser: argparse.ArgumentParser) -> None:
     given = "the input, which is copied to DIR/input.txt; `-` is standard input"
     add("--input", metavar="FILE", help=given)
     add_shared_words(parser)
-    ties = "prove that the winners of group 1 are the only ones of its total, or show others"
+    ties = "prove that nobody else can win with the total of group 1, or find others who can"
     add("--ties", action="store_true", help=ties)
-    add("--no-prices", action="store_true", help="don't look for what the winners pay")
+    add("--no-prices", action="store_true", help="leave out what the winners pay")
     says = "report what the solver says, without certificates and prices"
     add("--no-certify", action="store_true", help=f"{says}: DIR/{UNCERTIFIED}")
     add("--title", type=publishing.line("title"), help="the page's heading")
-    unit = "what amounts are in, as GBP"
+    unit = "the unit of all amounts, such as GBP"
     add("--currency", type=publishing.line("currency"), metavar="UNIT", help=unit)
     step = "one step alone, as Snakemake runs them: programs, a group's number, prices or report"
     add("--step", metavar="STEP", help=step)
 
 
 def run_of(given: argparse.Namespace, folder: Path | None, **more: Any) -> Run:
-    """What the words ask for, in a folder or a temporary one; what is missing is told before the work begins."""
+    """What the words ask for, in a folder or a temporary one; Refused before the work begins if something is missing."""
     program, solver = found_program(given.program), solve.checked_solver(given.solver)
     if more.get("is_certified", True):
         need("a certificate", *certify.LIBRARIES)
@@ -456,7 +459,7 @@ def run(given: argparse.Namespace) -> int:
     global tool
     tool = "auction"
     if given.ties and given.no_certify:
-        raise WrongWords("--ties needs certificates, and --no-certify goes without")
+        raise WrongWords("--ties needs certificates, and --no-certify makes none")
     own = run_of(
         given,
         given.folder,

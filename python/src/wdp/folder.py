@@ -43,7 +43,7 @@ class Folder:
         return data
 
     def leave(self, name: str, data: bytes) -> None:
-        """Writes what a step leaves. Its sum goes first: what was ended between them is done again."""
+        """Writes what a step leaves. Its sum comes first: a step that is ended between them is done again."""
         for path, text in ((self.sum_path(name), sum_line(name, data)), (self.path(name), data)):
             with files.at(str(path.parent)):
                 path.parent.mkdir(parents=True, exist_ok=True)
@@ -62,8 +62,8 @@ class Folder:
         if self.has(INPUT) and others:
             self.read(INPUT)
         elif not self.sum_path(INPUT).exists() and others:
-            why = f"isn't there, which says of which input {self.where} is"
-            raise Refused(f"{self.sum_path(INPUT)} {why}")
+            why = f"it says which input {self.where} belongs to"
+            raise Refused(f"{self.sum_path(INPUT)} isn't there; {why}")
         else:
             self.leave(INPUT, data)
 

@@ -93,7 +93,7 @@ def forked(step: Step) -> int:
 
 
 def run(steps: Mapping[str, Step], jobs: int = 1, watch: Watch | None = None) -> dict[str, int]:
-    """The statuses of steps by their names, below 0 if a signal ended one. At most `jobs` run at a time; `watch` is told now
+    """The statuses of steps by their names, below 0 if a signal ended one. At most `jobs` run at a time; `watch` gets now
     and then how many have ended, and which are at work. What ends this ends them all, and whatever they started.
     """
     waiting = list(steps)[::-1]
@@ -106,8 +106,8 @@ def run(steps: Mapping[str, Step], jobs: int = 1, watch: Watch | None = None) ->
             while waiting and len(at_work) < jobs:
                 name = waiting.pop()
                 at_work[forked(steps[name])] = name
-            told = signal.sigtimedwait(ENDINGS | {signal.SIGCHLD}, LOOK_EVERY)
-            if told and told.si_signo != signal.SIGCHLD:
+            came = signal.sigtimedwait(ENDINGS | {signal.SIGCHLD}, LOOK_EVERY)
+            if came and came.si_signo != signal.SIGCHLD:
                 raise KeyboardInterrupt
             for process, status in (guard.reaped() or {}).items():
                 if process in at_work:

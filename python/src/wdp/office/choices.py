@@ -1,4 +1,4 @@
-"""What an office says of its files beside their paths; the same words for gather and explain."""
+"""What an office says of its files beside their paths: the options that gather and explain share."""
 import argparse
 from collections.abc import Callable
 from functools import partial
@@ -26,7 +26,7 @@ def names(text: str) -> list[str]:
     """The names in a word like Wren,Teal."""
     found = [name.strip() for name in text.split(",")]
     if not all(found):
-        raise argparse.ArgumentTypeError("names of bidders are parted by commas: Wren,Teal")
+        raise argparse.ArgumentTypeError("names of bidders are separated by commas: Wren,Teal")
     return found
 
 
@@ -39,16 +39,16 @@ def path(text: str) -> str:
 
 def add_words(parser: argparse.ArgumentParser) -> None:
     add = parser.add_argument
-    by = "by the numbers at the ends of their names, or by time of change"
-    last = f"of several files of a bidder the last one counts: {by}"
+    by = "by the number at the end of its name or by its time of change"
+    last = f"if a bidder has several files, the last one counts, {by}"
     add("--last-wins", choices=("name", "time"), help=last)
     add("--any-file-name", action="store_true", help="a file's name needn't name a bidder")
     allow = partial(add, metavar="NAMES", type=names, action="extend", default=[])
-    allow("--allow-missing", help="these bidders have no form; names parted by commas")
-    allow("--allow-empty", help="these bidders' forms have no bid; names parted by commas")
-    ends = "the last lines of these bidders' forms, of `rules` or of `groups` lack their ends"
-    allow("--allow-unended", help=f"{ends}, and are complete; names parted by commas")
-    rows = "a file with a row `bidder,bids` for each form"
+    allow("--allow-missing", help="these bidders have no form; separate names by commas")
+    allow("--allow-empty", help="these bidders' forms have no bid; separate names by commas")
+    ends = "the forms of these bidders, `rules` or `groups` are complete without a last line end"
+    allow("--allow-unended", help=f"{ends}; separate names by commas")
+    rows = "a file with a row `bidder,bids` for each form: how many bids it must have"
     add("--expect", metavar="COUNTS", type=path, help=rows)
     sheet = "the sheet of each workbook, by default the first"
     add("--sheet", metavar="NAME", type=path, help=sheet)

@@ -1,10 +1,10 @@
 """Prints everything that is wrong with an auction's input, in words, with file, line and column.
 
-`wdp explain` finds it. With INPUT, one input as wdp reads it (`-` is standard input), each fault ends with the line by which
-wdp refuses it; wdp refuses the first one. With RULES FORMS_DIR [GROUPS], the files that gather joins, and its words. With
---bids, if nothing is wrong, which bids of each form can't be part of any program, and why.
+INPUT is one input as wdp reads it, or `-` for standard input; each fault then ends with the line by which wdp refuses it.
+RULES FORMS_DIR [GROUPS] are the files that gather joins, with the same options. If nothing is wrong, --bids prints which bids
+of each form can't be in any program, and why.
 
-Exit status: 0 nothing is wrong; 1 something is; 2 the words are wrong.
+Exit status: 0 nothing is wrong; 1 something is; 2 the options are wrong.
 """
 import argparse
 from collections.abc import Sequence

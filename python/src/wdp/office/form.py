@@ -1,7 +1,7 @@
 """Writes a blank form for each bidder of the rules: the first row, with the bidder's name and the categories.
 
-A bid is a row below it: the amount in whole pounds, and how many lots of each category.
-Exit status: 0 the forms are written; 1 something is wrong; 2 the words are wrong.
+Each bid is a row below it: the amount in whole pounds, and how many lots of each category.
+Exit status: 0 the forms are written; 1 something is wrong; 2 the options are wrong.
 """
 import argparse
 import io
@@ -18,7 +18,7 @@ from wdp.texts.tables import encoded, written
 
 def add_words(parser: argparse.ArgumentParser) -> None:
     parser.add_argument("rules", metavar="RULES", help="the file of the rules")
-    made = "the folder of the forms, which it makes"
+    made = "the folder for the forms, which must be empty or new"
     parser.add_argument("--output", metavar="DIR", type=choices.path, required=True, help=made)
     books = "write workbooks, .xlsx, in place of CSV"
     parser.add_argument("--workbooks", action="store_true", help=books)

@@ -1,13 +1,13 @@
-"""Joins an auction's files into one input of wdp, and says what went into it.
+"""Joins an auction's files into one input of wdp, and prints a receipt of what went into it.
 
-The folder has one file for each bidder, .csv, .tsv, .txt or .xlsx; its name has the bidder's name as a word, as in Heron.csv
-or form-heron-2.xlsx. Byte order marks, UTF-16, CR LF and CR, semicolons or tabs, empty rows, and empty fields at the end of
-rows are turned into the format, and the receipt says so. No value is changed: a number with a comma or a space in it is a
-fault. All faults of all files are printed in one run, and then nothing is written.
+The folder has a .csv, .tsv, .txt or .xlsx file for each bidder. A word of its name is the bidder's name, as in Heron.csv or
+form-heron-2.xlsx. UTF-16, line ends, semicolons and tabs are converted; byte order marks, empty rows, and empty fields at the
+ends of rows are dropped. No value is changed: a number with a comma or a space in it is a fault. One run prints all faults of
+all files, and then writes nothing.
 
-The receipt, on standard error and with --receipt as a file, has for each bidder its file, bids and the file's SHA-256, the
-rules as they are understood, the bids that are in no program, and a table that is made to be read aloud to each bidder.
-Exit status: 0 the input is written; 1 something is wrong; 2 the words are wrong.
+The receipt, on standard error and in the file of --receipt, has each bidder's file with its bids and SHA-256, the rules as
+they are understood, the bids that are in no program, and a table of which each bidder's row is to be read to the bidder.
+Exit status: 0 the input is written; 1 something is wrong; 2 the options are wrong.
 """
 import argparse
 import os

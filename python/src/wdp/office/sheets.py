@@ -124,9 +124,9 @@ def delimiter_of(text: str, file: File) -> tuple[str, int]:
     first = FIRST_LINE.search(text, begin)
     there = [delimiter for delimiter in DELIMITERS if first and delimiter in first[0]]
     delimiter = named[1] if named else (there or [","])[0]
-    line, parted = f"its first line is sep={quoted(delimiter)}", "a comma, a semicolon or a tab"
+    line, signs = f"its first line is sep={quoted(delimiter)}", "a comma, a semicolon or a tab"
     if delimiter not in DELIMITERS:
-        raise Unreadable(file.path, f"{line}; fields are parted by {parted}")
+        raise Unreadable(file.path, f"{line}; fields are separated by {signs}")
     if there and delimiter not in there:
         has = f"the row below it has {DELIMITERS[there[0]]} between its fields"
         raise Unreadable(file.path, f"{line}, and {has}")

@@ -1,15 +1,15 @@
-"""Makes what can be published of an auction: tables as CSV and JSON, and one HTML page that stands alone.
+"""Makes what can be published of an auction: tables as CSV and JSON, and an HTML page that loads nothing.
 
-INPUT is the input of the auction, as `wdp report` took it without the solutions, and REPORT what it printed; wdp has to print
-REPORT again of its winners. DIR gets bidders.csv, categories.csv, pools.csv, groups.csv, results.json and results.html, all
-or none of them. --text prints the same tables for people, with or without these files.
+INPUT is the auction's input, without solutions, and REPORT is what `wdp report` printed; wdp has to print it again from the
+winners in it. DIR gets bidders.csv, categories.csv, pools.csv, groups.csv, results.json and results.html, all or none of
+them. --text prints the same tables for people, with or without these files.
 
---audit takes what `wdp verify` reads, which has to end with INPUT, and of which wdp has to print REPORT: then each total is
-certified, and DIR gets audit.txt, with which the page says how the audit is repeated. What is printed behind REPORT, that the
-winners are the only ones or that others reach the same total, is proved. Nothing else certifies a result.
+--audit takes what `wdp verify` reads. It must end with INPUT, and wdp must print REPORT from it. Then each total is certified,
+what wdp prints after REPORT of prices and of other winners is proved, and DIR also gets audit.txt, with which anyone can
+repeat the audit. Nothing else certifies a result.
 
---drawn publishes the other award of a tie, where the lot fell on that one: its audit has it in the first one's place.
-Exit status: 0 the files are written; 1 a text is refused or a package is missing; 2 the words are wrong.
+--drawn publishes the other award of a tie, if the lot fell on it, with an audit in which it comes first.
+Exit status: 0 the files are written; 1 a text is refused or a package is missing; 2 the options are wrong.
 """
 import argparse
 import re
@@ -67,7 +67,7 @@ class Award(NamedTuple):
 
 
 def is_line(text: object, longest: int) -> bool:
-    """Whether this is a text for the page: 1 to so many printable characters."""
+    """Whether this is a text for the page: of at least one and at most that many characters, all printable."""
     return isinstance(text, str) and 0 < len(text) <= longest and text.isprintable()
 
 
@@ -82,18 +82,18 @@ def add_words(parser: argparse.ArgumentParser) -> None:
     add = parser.add_argument
     add("input", metavar="INPUT")
     add("report", metavar="REPORT")
-    folder = "the folder of the files, in the place of an older one of these files alone"
+    folder = "the folder for the files; it may have older ones of these files, and no others"
     add("--output", metavar="DIR", type=choices.path, help=folder)
-    text = "print the tables, aligned and with thousands separated"
+    text = "print the tables, with aligned columns"
     add("--text", action="store_true", help=text)
     add("--title", type=line("title"), default=TITLE, help="the page's heading")
-    unit = "what amounts are in, as GBP"
+    unit = "the unit of all amounts, such as GBP"
     add("--currency", type=line("currency"), metavar="UNIT", help=unit)
-    names = "what bidders and categories are called: rows `code,name`"
+    names = "a file with a row `code,name` for each bidder or category that has another name"
     add("--names", metavar="FILE", type=choices.path, help=names)
     audit = "the input with solutions and certificates, as `wdp verify` reads it"
     add("--audit", metavar="FILE", help=audit)
-    drawn = "publish the tied award of the audit: the lot fell on it"
+    drawn = "publish the tied award of the audit, because the lot fell on it"
     add("--drawn", action="store_true", help=drawn)
 
 

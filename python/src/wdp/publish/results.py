@@ -109,7 +109,7 @@ def costs_of(all_of: Sequence[Figures]) -> list[Cell]:
 
 
 def cell_text(cell: Cell) -> str:
-    """A field of CSV, in quotes wherever a reader might take it for more than its text; nothing where it isn't known."""
+    """A field of CSV, in quotes wherever a reader might take it for more than its text; empty if it isn't known."""
     return field_text(cell, SPECIAL) if isinstance(cell, str) else "" if cell is None else str(cell)
 
 
@@ -290,7 +290,7 @@ class Results(Figures):
         return said + "".join("\n" + table.text() for table in self.tables())
 
     def csv(self, headings: str, rows: Sequence[Sequence[Cell]]) -> bytes:
-        """A CSV text. Its first field says where the totals aren't certified. Names that an office gave are beside the codes."""
+        """A CSV text. Its first field says so if the totals aren't certified. Names that an office gave are beside the codes."""
         kind, *more = headings.split(",")
         first = kind if self["certified"] else f"{kind} (results not certified)"
         lines: list[Sequence[Cell]] = [[first, *more], *rows]
