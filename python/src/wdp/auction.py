@@ -17,7 +17,6 @@ from dataclasses import dataclass, replace
 from functools import partial
 from itertools import groupby
 from pathlib import Path
-from typing import Any
 
 from wdp import certify, files, prices, solve, steps
 from wdp.folder import INPUT, Folder
@@ -104,11 +103,11 @@ class Run(Folder):
     seconds: int | None
     jobs: int
     quiet: bool
-    is_certified: bool = True
-    is_only: bool = False
-    is_priced: bool = True
-    page: dict[str, str | None] | None = None
-    shows: Callable[[str], None] = lambda line: None
+    is_certified: bool
+    is_only: bool
+    is_priced: bool
+    page: dict[str, str | None] | None
+    shows: Callable[[str], None]
 
     def names(self) -> dict[int, str]:
         """The names that each group of the input leaves out, by the groups' numbers."""
@@ -411,18 +410,15 @@ class Run(Folder):
 
 
 def add_shared_words(parser: argparse.ArgumentParser) -> None:
-    """The words that `auction` and `prices` have in common."""
+    """The words that `auction` and `prices` have in common, and what `prices` takes for the others."""
     solve.add_solver_words(parser)
     jobs = checked("number of jobs, 1 to 1000,", int, lambda n: 1 <= n <= 1000)
-    add = parser.add_argument
+    add, processors = parser.add_argument, len(os.sched_getaffinity(0))
     how = "how many groups are done at a time; by default one per processor"
-    processors = len(os.sched_getaffinity(0))
     add("--jobs", type=jobs, default=processors, metavar="N", help=how)
-    add(
-        "--quiet",
-        action="store_true",
-        help="print what fails and how the run ends, but no progress",
-    )
+    quiet = "print what fails and how the run ends, but no progress"
+    add("--quiet", action="store_true", help=quiet)
+    parser.set_defaults(is_only=False, is_priced=True, is_certified=True, title=None, currency=None)
 
 
 def add_words(parser: argparse.ArgumentParser) -> None:
@@ -435,10 +431,11 @@ def add_words(parser: argparse.ArgumentParser) -> None:
     add("--input", metavar="FILE", help=given)
     add_shared_words(parser)
     ties = "prove that nobody else can win with the total of group 1, or find others who can"
-    add("--ties", action="store_true", help=ties)
-    add("--no-prices", action="store_true", help="leave out what the winners pay")
-    says = "report what the solver says, without certificates and prices"
-    add("--no-certify", action="store_true", help=f"{says}: DIR/{UNCERTIFIED}")
+    add("--ties", dest="is_only", action="store_true", help=ties)
+    without = partial(add, action="store_false")
+    without("--no-prices", dest="is_priced", help="leave out what the winners pay")
+    says = f"report what the solver says, without certificates and prices: DIR/{UNCERTIFIED}"
+    without("--no-certify", dest="is_certified", help=says)
     add("--title", type=publishing.line("title"), help="the page's heading")
     unit = "the unit of all amounts, such as GBP"
     add("--currency", type=publishing.line("currency"), metavar="UNIT", help=unit)
@@ -446,29 +443,24 @@ def add_words(parser: argparse.ArgumentParser) -> None:
     add("--step", metavar="STEP", help=step)
 
 
-def run_of(given: argparse.Namespace, folder: Path | None, **more: Any) -> Run:
+def run_of(given: argparse.Namespace, folder: Path | None, shows: Callable[[str], None]) -> Run:
     """What the words ask for, in a folder or a temporary one; Refused before the work begins if something is missing."""
+    global tool
+    tool = given.command
     program, solver = found_program(given.program), solve.checked_solver(given.solver)
-    if more.get("is_certified", True):
+    if given.is_certified:
         need("a certificate", *certify.LIBRARIES)
     where = folder or Path(tempfile.gettempdir(), "auction." + secrets.token_hex(8))
-    return Run(where, program, solver, given.time_limit, given.jobs, given.quiet, **more)
+    page = {"title": given.title, "currency": given.currency} if folder else None
+    how = given.time_limit, given.jobs, given.quiet, given.is_certified, given.is_only
+    is_priced = given.is_certified and given.is_priced
+    return Run(where, program, solver, *how, is_priced, page, shows)
 
 
 def run(given: argparse.Namespace) -> int:
-    global tool
-    tool = "auction"
-    if given.ties and given.no_certify:
+    if given.is_only and not given.is_certified:
         raise WrongWords("--ties needs certificates, and --no-certify makes none")
-    own = run_of(
-        given,
-        given.folder,
-        is_certified=not given.no_certify,
-        is_only=given.ties,
-        is_priced=not (given.no_certify or given.no_prices),
-        page={"title": given.title, "currency": given.currency} if given.folder else None,
-        **({} if given.quiet else {"shows": say}),
-    )
+    own = run_of(given, given.folder, (lambda line: None) if given.quiet else say)
     if not given.folder:
         if given.step or given.input not in (None, "-") or given.title or given.currency:
             raise WrongWords("--input FILE, --title, --currency and --step go with DIR")
@@ -482,11 +474,8 @@ def run(given: argparse.Namespace) -> int:
 
 
 def run_prices(given: argparse.Namespace) -> int:
-    global tool
-    tool = "prices"
     folder = given.award if given.award.is_dir() else None
-    page = {"title": None, "currency": None} if folder else None
-    own = run_of(given, folder, page=page, shows=lambda line: files.put(f"{line}\n".encode()))
+    own = run_of(given, folder, lambda line: files.put(f"{line}\n".encode()))
     if folder:
         if given.output:
             raise WrongWords("--output goes with an audit; a folder keeps its own")

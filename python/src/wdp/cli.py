@@ -9,7 +9,7 @@ from typing import NoReturn
 
 from wdp import files
 from wdp.steps import INTERRUPTED, reported
-from wdp.texts.refusals import escaped
+from wdp.texts.refusals import escaped, shortened
 
 NAME = "wdp-office"
 FAULTS = "prints all that is wrong with an input, by file, line and column"
@@ -73,7 +73,7 @@ def parsed(words: list[str]) -> argparse.Namespace:
     first = words[0] if words else ""
     if words and not first.startswith("-") and first not in COMMANDS:
         near = difflib.get_close_matches(first[:LONGEST].lower(), COMMANDS, 1, 0)[0]
-        shown = first if len(first) <= LONGEST else first[:LONGEST] + ".."
+        shown = shortened(first, LONGEST)
         files.say(NAME, f"there is no command '{shown}'; the nearest one is {near}")
         raise SystemExit(WRONG_WORDS)
     parser = tree(first if first in COMMANDS else "")

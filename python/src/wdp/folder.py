@@ -4,7 +4,6 @@ import fcntl
 import hashlib
 import os
 import shutil
-import stat
 import time
 from collections.abc import Iterator
 from dataclasses import dataclass
@@ -91,10 +90,10 @@ class Folder:
         """Takes away what a run that was killed didn't finish. What is temporary then goes into the folder."""
         where = self.path(".running")
         for path in (where, *self.where.rglob(files.WRITING + "*")):
-            # (what isn't a folder isn't opened, as a pipe would be)
-            with contextlib.suppress(FileNotFoundError):
-                is_folder = stat.S_ISDIR(path.lstat().st_mode)
-                shutil.rmtree(path, ignore_errors=path == where) if is_folder else path.unlink()
+            if path.is_dir() and not path.is_symlink():
+                shutil.rmtree(path, ignore_errors=path == where)
+            else:
+                path.unlink(missing_ok=True)
         where.mkdir(exist_ok=True)
         os.environ["TMPDIR"] = str(where)
         try:

@@ -1,11 +1,12 @@
-"""What is wrong with an input or a file: each fault with its place, in words, and the program's own line for it."""
+"""Faults of an input or a file, each with its place, in words, and the program's own line for it; and how words are printed."""
 import re
-from collections.abc import Iterable
+from collections.abc import Iterable, Sequence
 from dataclasses import dataclass
 from difflib import get_close_matches
 
 from wdp.texts.refusals import one_line, shortened
 
+Cell = int | str | None  # of a table
 # bytes beyond ASCII as the program shows them, and a backslash that it leaves as it is
 BYTES = re.compile(r"\\\\|(?:\\x[89a-f][0-9a-f])+")
 
@@ -61,3 +62,13 @@ def nearest(value: str, names: Iterable[str]) -> str:
     by_letters = {name.lower(): name for name in names}
     near = get_close_matches(value.strip().lower(), by_letters, 1, 0.5)
     return f"; the nearest name is {by_letters[near[0]]}" if near else ""
+
+
+def aligned(rows: Sequence[Sequence[Cell]]) -> list[str]:
+    """Rows, the first of them headings, as lines; a column that has a number is aligned at its right."""
+    columns = []
+    for column in zip(*rows):
+        texts = [f"{cell:,}" if isinstance(cell, int) else cell or "" for cell in column]
+        width, is_number = max(map(len, texts)), any(isinstance(cell, int) for cell in column)
+        columns.append([text.rjust(width) if is_number else text.ljust(width) for text in texts])
+    return ["  ".join(cells).rstrip() for cells in zip(*columns)]

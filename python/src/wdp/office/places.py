@@ -99,23 +99,20 @@ def faults_of(found: Sequence[Finding], source: Source) -> list[Fault]:
     rows: dict[object, Row] = {number: row for number, row in numbered if number in wanted}
     width = len(rows[1].values) if rows else 0
     faults: dict[object, Fault] = {}
-    of_rows: defaultdict[tuple[str, str], dict[int, None]] = defaultdict(dict)
+    of_rows: defaultdict[tuple[str, str], set[int]] = defaultdict(set)
     for number, each in enumerate(found):
         row = rows.get(each.refused.at)
         alike = alike_words(each, row, width)
         if alike and row:
-            of_rows[alike][row.line] = None
+            of_rows[alike].add(row.line)
         if alike not in faults:
             is_whole = row is None or each.refused.kind in ("NoCategory", "NoBidder")
             at = ":" + row.place((each.field or 1) - 1) if row and not is_whole else source.head
             said = words_of(each, row, source.bidders)
             faults[alike or number] = Fault(source.file + at, said, each.refusal)
     for (one, many), lines in of_rows.items():
-        at_lines = list(lines)
-        rows_of = (
-            f"{counted(len(lines), 'row')} from line {at_lines[0]} to line {at_lines[-1]} {many}"
-        )
-        said = f"the row {one}" if len(lines) == 1 else rows_of
+        rows_of = f"{counted(len(lines), 'row')} from line {min(lines)} to line {max(lines)}"
+        said = f"the row {one}" if len(lines) == 1 else f"{rows_of} {many}"
         faults[one, many] = replace(faults[one, many], words=said)
     return list(faults.values())
 

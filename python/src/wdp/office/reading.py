@@ -14,7 +14,7 @@ from wdp.files import Unreadable, at, read
 from wdp.office.faults import Fault, counted, nearest, quoted
 from wdp.office.judge import Finding, explained
 from wdp.office.places import MOST_OF_AN_INPUT, Source, faults_of, first_of, hint, of_parts
-from wdp.office.sheets import MOST_OF_A_FILE, OF_FORMS, File, Pairs, lines_of
+from wdp.office.sheets import AS_HEADS, MOST_OF_A_FILE, OF_FORMS, File, Pairs, lines_of
 from wdp.office.sheets import read_pairs, table_of
 from wdp.office.versions import Undecided, last_of
 from wdp.office.workbook import NOT_STORED, workbook_of
@@ -212,8 +212,7 @@ class Auction:
                 self.fault(path + ":1", NOBODY_FIRST)
             for row in rows[:MOST_OF_GROUPS]:
                 if row.values[0].startswith("%"):
-                    why = "the line begins with %, as the heads of parts do"
-                    self.fault(f"{path}:{row.line}", why)
+                    self.fault(f"{path}:{row.line}", f"the line {AS_HEADS}")
                 else:
                     self.groups.append(row)
 
@@ -244,14 +243,11 @@ class Auction:
     def check_words(self) -> None:
         """Adds a fault for each name in the words that is no bidder's, and for each word that isn't needed."""
         choices, forms, bidders = self.choices, self.forms, self.rules.bidders
-        words = {
-            it: getattr(choices, it) for it in ("allow_missing", "allow_empty", "allow_unended")
-        }
-        for word, name in (
-            (f"--{it}".replace("_", "-"), name) for it in words for name in words[it]
-        ):
-            if word == "--allow-unended" and name in ("rules", "groups"):
-                continue
+        unended = [name for name in choices.allow_unended if name not in ("rules", "groups")]
+        named = [("--allow-missing", name) for name in choices.allow_missing]
+        named += [("--allow-empty", name) for name in choices.allow_empty]
+        named += [("--allow-unended", name) for name in unended]
+        for word, name in named:
             if name not in bidders:
                 near = nearest(name, bidders)
                 self.fault(word, f"{quoted(name)} is no bidder of the rules{near}")
@@ -293,11 +289,10 @@ class Auction:
         if not self.read_rules(rules):
             return
         assert self.rules_file
-        self.read_forms(folder)
-        of_folder, self.faults = self.faults, []
         if group_words:
             self.read_groups(group_words)
-        of_groups, self.faults = self.faults, of_folder
+        of_groups, self.faults = self.faults, []
+        self.read_forms(folder)
         self.text = b"%rules\n" + self.rules_file.text
         self.text += b"".join(b"%form\n" + form.text for form in self.counting)
         lines = ["+".join(row.values) + "\n" for row in self.groups]

@@ -33,7 +33,7 @@ OTHERS = (
 CSV, OF_FORMS = "CSV", ".xlsx or CSV"
 NO_TEXT = re.compile("[\udc80-\udcff]")  # bytes that are no UTF-8, as they are decoded
 Pairs = dict[str, tuple[str, str]]  # values by their names, each with its place
-HEAD = "in this field a line begins with %, as the heads of parts do"
+AS_HEADS = "begins with %, as the heads of parts do"
 
 
 @dataclass
@@ -70,7 +70,7 @@ class File:
         for row in rows:
             heads = [at for at, value in enumerate(row.values) if "\n%" in value]
             for at in heads:
-                self.fault(row.place(at), HEAD)
+                self.fault(row.place(at), f"in this field a line {AS_HEADS}")
             empty += not any(row.values)
             self.rows += [row] if any(row.values) and not heads else []
             if len(self.rows) == most:

@@ -33,7 +33,7 @@ def by_name(paths: Sequence[str]) -> list[list[int]]:
     return [[int(number) for number in reversed(end)] for end in ends]
 
 
-def words_of(key: Any) -> str:
+def words_of(key: list[int] | int) -> str:
     """The numbers of a name in words, or a time of change, in nanoseconds."""
     if isinstance(key, list):
         return "-".join(map(str, key)) or "none"

@@ -5,7 +5,7 @@ from collections.abc import Iterable, Iterator, Sequence
 from pathlib import Path
 from typing import Any, NamedTuple
 
-from wdp.office.receipt import Cell, aligned
+from wdp.office.faults import Cell, aligned
 from wdp.results import Group, Report
 from wdp.texts.accepted import Accepted
 from wdp.texts.refusals import need
@@ -137,14 +137,6 @@ class Results(Figures):
         pairs = zip(lots, self["categories"])
         return ", ".join(f"{quantity:,} of {each['name']}" for quantity, each in pairs if quantity)
 
-    def sums_words(self) -> str:
-        words = f"{len(self.winners()):,} of {len(self['bidders']):,} bidders win. "
-        words += f"Their bids add up to {self.money(self['amounts'])}"
-        if self["value_left"]:
-            words += f", and the unsold lots have a value of {self.money(self['value_left'])}"
-            words += f", in all {self.money(self['total'])}"
-        return words + "."
-
     def proved_of_prices(self) -> str:
         words = "no group of bidders, listed or not, pays less than its opportunity cost, and nobody less than the reserve; "
         words += f"the prices come to {self.money(self['prices']['total'])}, and "
@@ -152,33 +144,32 @@ class Results(Figures):
             return words + "no whole prices of which that is true come to less"
         return words + "whether others come to less isn't shown"
 
-    def price_words(self) -> str:
-        if not self["prices"]:
-            return ""
-        words = f"Proved: {self.proved_of_prices()}. "
-        words += (
-            "Not proved: that of such prices these are the nearest to what each winner costs alone."
-        )
-        other = " They belong to the winners of this page; by the other award there are others."
-        return words + (other if self["tied_award"] else "")
-
-    def proof_words(self) -> str:
-        if self["proof"] == "only":
-            return "Proved: these are the only winners. No other combination of bids reaches the same total. The audit shows it."
-        if self["proof"] == "none":
-            return "Whether others reach the same total isn't shown."
-        shown = "Proved: another award reaches the same total, and none reaches more. The audit shows it."
-        if self["is_drawn"]:
-            return f"{shown} Which of the two holds was drawn by lot, and the lot fell on the award of this page."
-        return f"{shown} Which one holds, as by lot, is for the auction's rules to say."
-
     def sentences(self) -> dict[str, str]:
         """What is to be said in sentences, by the places of the page; `prices` is empty if there are none."""
         certified = "Not certified: that these totals are the greatest ones is a solver's word, and no certificate shows it."
         if self["certified"]:
             certified = f"Certified: each of the {len(self['groups']):,} totals is shown to be the greatest one."
-        said = {"certified": certified, "sums": self.sums_words()}
-        return {**said, "prices": self.price_words(), "proof": self.proof_words()}
+        sums = f"{len(self.winners()):,} of {len(self['bidders']):,} bidders win. "
+        sums += f"Their bids add up to {self.money(self['amounts'])}"
+        if self["value_left"]:
+            sums += f", and the unsold lots have a value of {self.money(self['value_left'])}"
+            sums += f", in all {self.money(self['total'])}"
+        prices = f"Proved: {self.proved_of_prices()}. " if self["prices"] else ""
+        if prices:
+            prices += "Not proved: that of such prices these are the nearest to what each winner costs alone."
+        if prices and self["tied_award"]:
+            prices += " They belong to the winners of this page; "
+            prices += "by the other award there are others."
+        proof = "Proved: another award reaches the same total, and none reaches more. The audit shows it."
+        if self["proof"] == "only":
+            proof = "Proved: these are the only winners. No other combination of bids reaches the same total. The audit shows it."
+        elif self["proof"] == "none":
+            proof = "Whether others reach the same total isn't shown."
+        elif self["is_drawn"]:
+            proof += " Which of the two holds was drawn by lot, and the lot fell on the award of this page."
+        else:
+            proof += " Which one holds, as by lot, is for the auction's rules to say."
+        return {"certified": certified, "sums": sums + ".", "prices": prices, "proof": proof}
 
     def table(
         self, name: str, columns: dict[str, Sequence[Cell]], sums: Sequence[Cell] = ()
@@ -189,9 +180,6 @@ class Results(Figures):
         headings = [it + (unit if it in AMOUNTS else "") for it in known]
         totals = [total for it, total in zip(columns, sums) if it in known]
         return Table(name, headings, list(zip(*known.values())), totals)
-
-    def paid(self) -> Cell:
-        return self["prices"]["total"] if self["prices"] else None
 
     def bidders_table(self) -> Table:
         all_of = self["bidders"]
@@ -207,7 +195,8 @@ class Results(Figures):
             "Lots": [self.lots_text(each["lots"]) for each in all_of],
         }
         reserve = sum(each["reserve"] for each in all_of)
-        sums = "All", self["amounts"], self.paid(), "", reserve, "", sold
+        paid = (self["prices"] or {}).get("total")
+        sums = "All", self["amounts"], paid, "", reserve, "", sold
         return self.table("bidders", columns, sums)
 
     def bound_by(self, name: str) -> str:
@@ -219,7 +208,8 @@ class Results(Figures):
         return ", ".join([*bound[:MOST_BOUND], *more])
 
     def prices_table(self) -> Table:
-        winners = self.winners() if self["prices"] else []
+        """What each winner pays, if there are prices."""
+        winners, paid = self.winners(), self["prices"]["total"]
         columns: dict[str, Sequence[Cell]] = {
             "Winner": self.names_of(winners),
             "Cost alone": costs_of(winners),
@@ -228,17 +218,13 @@ class Results(Figures):
             "Bound by": [self.bound_by(each["name"]) for each in winners],
         }
         costs = sum(each["cost"] or 0 for each in winners)
-        return self.table("prices", columns, ("All", costs, self.paid(), self["amounts"], ""))
+        return self.table("prices", columns, ("All", costs, paid, self["amounts"], ""))
 
     def categories_table(self) -> Table:
         _, *cells = zip(*(each.values() for each in self["categories"]))
         columns = dict(zip(CATEGORIES.split(","), [self.names_of(self["categories"]), *cells]))
         sums = "All", *map(sum, cells[:3]), "", "", self["value_left"]
         return self.table("categories", columns, sums)
-
-    def pools_table(self) -> Table:
-        rows = [[*pool.values()] for pool in self["pools"]]
-        return Table("pools", POOLS.split(","), rows)
 
     def groups_table(self) -> Table:
         all_of = self["groups"]
@@ -273,16 +259,14 @@ class Results(Figures):
                     rows.append([f"Cost of {', '.join(group['left_out'])}", group["cost"], cost])
         return Table("ties", ["Bidder, cost", "Award of this page", "Other award"], rows)
 
-    def left_out_table(self) -> Table:
-        rows = [[self.called(each["bidder"]), each["why"]] for each in self["left_out"]]
-        return Table("left_out", ["Bidder", "Bid"], rows)
-
     def tables(self) -> list[Table]:
         """All tables that have a row, in the order of the page."""
-        of_award = [self.ties_table(), self.bidders_table(), self.prices_table()]
-        of_lots = [self.categories_table(), self.pools_table()]
-        made = [*of_award, *of_lots, self.groups_table(), self.left_out_table()]
-        return [table for table in made if table.rows]
+        prices = [self.prices_table()] if self["prices"] else []
+        pools = Table("pools", POOLS.split(","), [[*pool.values()] for pool in self["pools"]])
+        bids = [[self.called(each["bidder"]), each["why"]] for each in self["left_out"]]
+        left_out = Table("left_out", ["Bidder", "Bid"], bids)
+        made = [self.ties_table(), self.bidders_table(), *prices, self.categories_table(), pools]
+        return [table for table in [*made, self.groups_table(), left_out] if table.rows]
 
     def plain_text(self) -> str:
         """What is to be said in sentences, and the tables, aligned."""
@@ -312,11 +296,11 @@ class Results(Figures):
             flags = ["yes" if flag else "no" for flag in (each["is_added"], self["certified"])]
             figures = [each[key] for key in ("total", "cost", "paid")]
             group_rows.append([each["number"], *names, *figures, *flags])
-        category_rows = [[*category.values()] for category in self["categories"]]
+        lots = [[[*each.values()] for each in self[kind]] for kind in ("categories", "pools")]
         return {
             "bidders.csv": self.csv(of_bidders, bidder_rows),
-            "categories.csv": self.csv(CATEGORIES.lower(), category_rows),
-            "pools.csv": self.csv(POOLS.lower(), self.pools_table().rows),
+            "categories.csv": self.csv(CATEGORIES.lower(), lots[0]),
+            "pools.csv": self.csv(POOLS.lower(), lots[1]),
             "groups.csv": self.csv(of_groups, group_rows),
             "results.json": (json.dumps(self, indent=1) + "\n").encode(),
         }
