@@ -180,8 +180,7 @@ def read_pairs(
     if file.rows and tuple(value.lower() for value in file.rows[0].values) == heading:
         del file.rows[0]
     for row in file.rows:
-        name, value = row.values[0], row.values[-1].strip()
-        why = ""
+        name, value, why = row.values[0], row.values[-1], ""
         if len(row.values) != 2:
             why = f"the row has {counted(len(row.values), 'field')}; it is to have {wanted}"
         elif name not in names:

@@ -101,12 +101,13 @@ def read_names(path: str, rules: Rules, regular: bool) -> dict[str, str]:
     """What an office calls bidders and categories, by their codes; Refused at the first row that isn't `code,name`."""
     codes = {*rules.bidders, *(category.name for category in rules.categories)}
 
-    def fault_of(code: str, name: str, before: Pairs) -> str:
+    def fault_of(code: str, value: str, before: Pairs) -> str:
+        name = value.strip()
         if not is_line(name, LONGEST_NAME):
             return f"{quoted(name)} isn't 1 to {LONGEST_NAME} printable characters"
         if name in codes - {code}:
             return f"{quoted(name)} is the code of another"
-        is_there = name in (each for each, _ in before.values())
+        is_there = name in (each.strip() for each, _ in before.values())
         return f"an earlier row has the name {quoted(name)}, too" if is_there else ""
 
     known = codes, "bidder and no category"
@@ -115,7 +116,7 @@ def read_names(path: str, rules: Rules, regular: bool) -> dict[str, str]:
     )
     if faults:
         raise Refused(str(faults[0]))
-    return {code: name for code, (name, _) in names.items()}
+    return {code: name.strip() for code, (name, _) in names.items()}
 
 
 def solutions_of(report: Report, auction: Accepted) -> bytes:
