@@ -465,7 +465,7 @@ def run(given: argparse.Namespace) -> int:
         if given.step or given.input not in (None, "-") or given.title or given.currency:
             raise WrongWords("--input FILE, --title, --currency and --step go with DIR")
         name = REPORT if own.is_certified else UNCERTIFIED
-        take = lambda: own.take_input(files.read("-", MOST_OF_INPUT))  # noqa: E731
+        take: Callable[[], None] = lambda: own.take_input(files.read("-", MOST_OF_INPUT))
         return own.without_folder(take, name, files.put)
     data = files.read(given.input, MOST_OF_INPUT) if given.input else None
     if data is not None:

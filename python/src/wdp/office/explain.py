@@ -66,12 +66,13 @@ def of_files(given: argparse.Namespace, program: str) -> tuple[list[Fault], bool
 
 
 def run(given: argparse.Namespace) -> int:
-    is_one, program = len(given.paths) == 1, found_program(given.program)
+    is_one = len(given.paths) == 1
     if len(given.paths) > 3:
         raise WrongWords("give INPUT, or RULES FORMS_DIR [GROUPS]")
     if is_one and choices.is_any(given):
         raise WrongWords("one input has no files to choose from")
-    faults, has_rules, lines = (of_input if is_one else of_files)(given, program)
+    read_faults = of_input if is_one else of_files
+    faults, has_rules, lines = read_faults(given, found_program(given.program))
     if faults:
         lines = [f"{it} (wdp: {it.refusal})" if is_one and it.refusal else str(it) for it in faults]
         lines += [*([] if has_rules else [THEN]), all_counted(faults)]

@@ -38,8 +38,7 @@ def add_words(parser: argparse.ArgumentParser) -> None:
     rule = f"in place of GROUPS: {each}, or winners FILE (nobody, and {winners})"
     add("--groups", nargs="+", metavar="RULE", default=[], help=rule)
     output = "write the input to this file, completely or not at all"
-    path = lambda text: "" if text == "-" else choices.path(text)  # noqa: E731
-    add("--output", metavar="FILE", type=path, help=output)
+    add("--output", metavar="FILE", type=choices.path, help=output)
     also = "write the receipt to this file too"
     add("--receipt", metavar="FILE", type=choices.path, help=also)
     choices.add_words(parser)
@@ -136,6 +135,7 @@ def receipt(auction: Auction) -> str:
 
 
 def run(given: argparse.Namespace) -> int:
+    given.output = None if given.output == "-" else given.output
     check_words(given)
     auction = Auction(found_program(given.program), given)
     auction.read_all(given.rules, given.forms, given.groups or [given.groups_file])
