@@ -3,7 +3,7 @@ import json
 import re
 from collections.abc import Iterable, Iterator, Sequence
 from pathlib import Path
-from typing import Any, NamedTuple
+from typing import Any, NamedTuple, cast
 
 from wdp.office.faults import Cell, aligned
 from wdp.results import Group, Report
@@ -14,12 +14,24 @@ from wdp.texts.tables import field_text
 # what parts fields, and the first signs by which spreadsheets know a formula
 SPECIAL = re.compile(r'[,"\r\n]|^[=+\-@%\t]')
 MOST_BOUND = 4  # groups that are named as binding a price
-CATEGORIES = "Category,Supply,Sold,Unsold,Reserve of a lot,Value of an unsold lot,Value left"
-POOLS = "Pool,Load,Cap,Left"
+# the figures of each table below their headings; those of CSV files are the same or, of groups, in another order
+BIDDERS = {"Bidder": "name", "Amount": "amount", "Price": "price", "Opportunity cost": "cost"}
+BIDDERS |= {"Group": "cost_group", "Reserve": "reserve", "Bid": "bid", "Lots": "lots"}
+PRICES = {"Winner": "name", "Cost alone": "cost", "Price": "price", "Amount": "amount"}
+PRICES |= {"Bound by": "bound"}
+CATEGORIES = {"Category": "name", "Supply": "supply", "Sold": "sold", "Unsold": "unsold"}
+CATEGORIES |= {"Reserve of a lot": "reserve", "Value of an unsold lot": "value"}
+CATEGORIES |= {"Value left": "value_left"}
+POOLS = {"Pool": "name", "Load": "load", "Cap": "cap", "Left": "left"}
+GROUPS = {"Group": "number", "Left out": "left_out", "Total": "total", "Opportunity cost": "cost"}
+GROUPS |= {"Paid": "paid", "Winners": "winners"}
+GROUPS_CSV = {it: GROUPS[it] for it in ("Group", "Left out", "Winners", "Total")}
+GROUPS_CSV |= {"Opportunity cost": "cost", "Paid": "paid", "Added": "is_added"}
+LEFT_OUT = {"Bidder": "bidder", "Bid": "why"}
+SUMS = "Supply", "Sold", "Unsold", "Value left"  # of categories
 # headings of columns of amounts, and words in the place of a figure that there isn't
-AMOUNTS = (
-    "Amount,Price,Opportunity cost,Cost alone,Reserve,Total,Paid," + CATEGORIES.split(",", 4)[4]
-)
+AMOUNTS = {"Amount", "Price", "Opportunity cost", "Cost alone", "Reserve", "Total", "Paid"}
+AMOUNTS |= {"Reserve of a lot", "Value of an unsold lot", "Value left"}
 BLANKS = NOT_ASKED_FOR, NONE_WON, NO_BIDS = "not asked for", "none won", "no bids"
 
 Figures = dict[str, Any]  # of the whole, or of a bidder, a group and so on
@@ -100,17 +112,22 @@ class Table(NamedTuple):
         return "".join(line + "\n" for line in lines)
 
 
-def values(all_of: Sequence[Figures], key: str) -> list[Cell]:
-    return [each[key] for each in all_of]
+def names_in(value: list[Any]) -> list[str]:
+    """The names in a list of names or of winners."""
+    return [each if isinstance(each, str) else each["name"] for each in value]
 
 
-def costs_of(all_of: Sequence[Figures]) -> list[Cell]:
-    return [NOT_ASKED_FOR if cost is None else cost for cost in values(all_of, "cost")]
-
-
-def cell_text(cell: Cell) -> str:
-    """A field of CSV, in quotes wherever a reader might take it for more than its text; empty if it isn't known."""
-    return field_text(cell, SPECIAL) if isinstance(cell, str) else "" if cell is None else str(cell)
+def cell_text(value: Any) -> str:
+    """A figure as a field of CSV, in quotes wherever a reader might take it for more than its text; empty if it isn't known."""
+    if isinstance(value, bool):
+        value = "yes" if value else "no"
+    if isinstance(value, list):
+        value = "+".join(names_in(value)) or "-"
+    return (
+        field_text(value, SPECIAL)
+        if isinstance(value, str)
+        else str("" if value is None else value)
+    )
 
 
 class Results(Figures):
@@ -125,9 +142,6 @@ class Results(Figures):
 
     def called(self, name: str) -> str:
         return f"{name} ({self['names'][name]})" if name in self["names"] else name
-
-    def names_of(self, all_of: Sequence[Figures]) -> list[str]:
-        return [self.called(each["name"]) for each in all_of]
 
     def money(self, amount: int) -> str:
         return f"{amount:,} {self['currency'] or ''}".rstrip()
@@ -171,33 +185,31 @@ class Results(Figures):
             proof += " Which one holds, as by lot, is for the auction's rules to say."
         return {"certified": certified, "sums": sums + ".", "prices": prices, "proof": proof}
 
-    def table(
-        self, name: str, columns: dict[str, Sequence[Cell]], sums: Sequence[Cell] = ()
-    ) -> Table:
-        """A table of columns by their headings, without those of which nothing is known."""
-        unit = f", {self['currency']}" if self["currency"] else ""
-        known = {it: cells for it, cells in columns.items() if set(cells) != {None} and cells}
-        headings = [it + (unit if it in AMOUNTS else "") for it in known]
-        totals = [total for it, total in zip(columns, sums) if it in known]
-        return Table(name, headings, list(zip(*known.values())), totals)
+    def cell(self, key: str, of: Figures) -> Cell:
+        """A figure as tables for people have it."""
+        value: Any = of[key]
+        if key in ("name", "bidder"):
+            return self.called(value)
+        if key == "number":
+            return f"{value:,} (added)" if of["is_added"] else f"{value:,}"
+        if key == "lots":
+            return self.lots_text(value)
+        if key in ("left_out", "winners"):
+            return ", ".join(names_in(value)) or "nobody"
+        if key == "bid" and not value:
+            return NONE_WON if of["bids"] else NO_BIDS
+        return NOT_ASKED_FOR if key == "cost" and value is None else cast(Cell, value)
 
-    def bidders_table(self) -> Table:
-        all_of = self["bidders"]
-        sold = self.lots_text([each["sold"] for each in self["categories"]])
-        blanks = [NONE_WON if each["bids"] else NO_BIDS for each in all_of]
-        columns: dict[str, Sequence[Cell]] = {
-            "Bidder": self.names_of(all_of),
-            "Amount": values(all_of, "amount"),
-            "Price": values(all_of, "price"),
-            "Opportunity cost": costs_of(all_of),
-            "Reserve": values(all_of, "reserve"),
-            "Bid": [bid or blank for bid, blank in zip(values(all_of, "bid"), blanks)],
-            "Lots": [self.lots_text(each["lots"]) for each in all_of],
-        }
-        reserve = sum(each["reserve"] for each in all_of)
-        paid = (self["prices"] or {}).get("total")
-        sums = "All", self["amounts"], paid, "", reserve, "", sold
-        return self.table("bidders", columns, sums)
+    def table(
+        self, name: str, of: dict[str, str], rows: Sequence[Figures], sums: Figures | None = None
+    ) -> Table:
+        """A table of figures below their headings, without the columns of which nothing is known."""
+        columns = {it: [self.cell(key, row) for row in rows] for it, key in of.items()}
+        known = {it: cells for it, cells in columns.items() if set(cells) - {None}}
+        unit = f", {self['currency']}" if self["currency"] else ""
+        headings = [it + (unit if it in AMOUNTS else "") for it in known]
+        totals = [sums.get(it, "") for it in known] if sums else []
+        return Table(name, headings, list(zip(*known.values())), totals)
 
     def bound_by(self, name: str) -> str:
         """What binds a winner's price: the groups that pay exactly their cost, and the reserve."""
@@ -209,35 +221,10 @@ class Results(Figures):
 
     def prices_table(self) -> Table:
         """What each winner pays, if there are prices."""
-        winners, paid = self.winners(), self["prices"]["total"]
-        columns: dict[str, Sequence[Cell]] = {
-            "Winner": self.names_of(winners),
-            "Cost alone": costs_of(winners),
-            "Price": values(winners, "price"),
-            "Amount": values(winners, "amount"),
-            "Bound by": [self.bound_by(each["name"]) for each in winners],
-        }
-        costs = sum(each["cost"] or 0 for each in winners)
-        return self.table("prices", columns, ("All", costs, paid, self["amounts"], ""))
-
-    def categories_table(self) -> Table:
-        _, *cells = zip(*(each.values() for each in self["categories"]))
-        columns = dict(zip(CATEGORIES.split(","), [self.names_of(self["categories"]), *cells]))
-        sums = "All", *map(sum, cells[:3]), "", "", self["value_left"]
-        return self.table("categories", columns, sums)
-
-    def groups_table(self) -> Table:
-        all_of = self["groups"]
-        winners = [[won["name"] for won in each["winners"]] for each in all_of]
-        columns: dict[str, Sequence[Cell]] = {
-            "Group": [f"{x['number']:,}{' (added)' if x['is_added'] else ''}" for x in all_of],
-            "Left out": [", ".join(each["left_out"]) or "nobody" for each in all_of],
-            "Total": values(all_of, "total"),
-            "Opportunity cost": values(all_of, "cost"),
-            "Paid": values(all_of, "paid"),
-            "Winners": [", ".join(names) or "nobody" for names in winners],
-        }
-        return self.table("groups", columns)
+        winners = [{**each, "bound": self.bound_by(each["name"])} for each in self.winners()]
+        sums: Figures = {"Winner": "All", "Cost alone": sum(each["cost"] or 0 for each in winners)}
+        sums |= {"Price": self["prices"]["total"], "Amount": self["amounts"]}
+        return self.table("prices", PRICES, winners, sums)
 
     def ties_table(self) -> Table:
         """What differs between the award of the page and the other one: a row for each bidder who doesn't win the same in both,
@@ -261,47 +248,48 @@ class Results(Figures):
 
     def tables(self) -> list[Table]:
         """All tables that have a row, in the order of the page."""
-        prices = [self.prices_table()] if self["prices"] else []
-        pools = Table("pools", POOLS.split(","), [[*pool.values()] for pool in self["pools"]])
-        bids = [[self.called(each["bidder"]), each["why"]] for each in self["left_out"]]
-        left_out = Table("left_out", ["Bidder", "Bid"], bids)
-        made = [self.ties_table(), self.bidders_table(), *prices, self.categories_table(), pools]
-        return [table for table in [*made, self.groups_table(), left_out] if table.rows]
+        categories, bidders, prices = self["categories"], self["bidders"], self["prices"]
+        sums = {"Bidder": "All", "Amount": self["amounts"], "Price": prices and prices["total"]}
+        sums["Reserve"] = sum(each["reserve"] for each in bidders)
+        sums["Lots"] = self.lots_text([each["sold"] for each in categories])
+        of_bidders = {it: key for it, key in BIDDERS.items() if it != "Group"}
+        made = [self.ties_table(), self.table("bidders", of_bidders, bidders, sums)]
+        made += [self.prices_table()] if prices else []
+        sums = {it: sum(each[CATEGORIES[it]] for each in categories) for it in SUMS}
+        made.append(self.table("categories", CATEGORIES, categories, {"Category": "All", **sums}))
+        made.append(self.table("pools", POOLS, self["pools"]))
+        made.append(self.table("groups", GROUPS, self["groups"]))
+        made.append(self.table("left_out", LEFT_OUT, self["left_out"]))
+        return [table for table in made if table.rows]
 
     def plain_text(self) -> str:
         """What is to be said in sentences, and the tables, aligned."""
         said = "\n".join(filter(None, [self["title"], *self.sentences().values()])) + "\n"
         return said + "".join("\n" + table.text() for table in self.tables())
 
-    def csv(self, headings: str, rows: Sequence[Sequence[Cell]]) -> bytes:
+    def csv(self, columns: dict[str, str], rows: list[Figures]) -> bytes:
         """A CSV text. Its first field says so if the totals aren't certified. Names that an office gave are beside the codes."""
-        kind, *more = headings.split(",")
+        kind, *more = columns
         first = kind if self["certified"] else f"{kind} (results not certified)"
-        lines: list[Sequence[Cell]] = [[first, *more], *rows]
+        lines = [[first, *more], *([row[key] for key in columns.values()] for row in rows)]
         if self["names"] and kind in ("bidder", "category"):
-            beside = ["name", *(self["names"].get(str(row[0]), "") for row in rows)]
-            lines = [[row[0], name, *row[1:]] for row, name in zip(lines, beside)]
+            beside = ["name", *(self["names"].get(row["name"], "") for row in rows)]
+            lines = [[line[0], name, *line[1:]] for line, name in zip(lines, beside)]
         return "".join(",".join(map(cell_text, line)) + "\n" for line in lines).encode()
 
     def files(self) -> dict[str, bytes]:
-        of_bidders = "bidder,amount,price,opportunity cost,group,reserve,bid"
-        keys = ("name", "amount", "price", "cost", "cost_group", "reserve", "bid")
-        of_bidders += "".join(f",lots of {each['name']}" for each in self["categories"])
-        bidder_rows = [[*(each[key] for key in keys), *each["lots"]] for each in self["bidders"]]
-        of_groups = "group,left out,winners,total,opportunity cost,paid,added,certified"
-        group_rows = []
-        for each in self["groups"]:
-            winners = [won["name"] for won in each["winners"]]
-            names = ["+".join(names) or "-" for names in (each["left_out"], winners)]
-            flags = ["yes" if flag else "no" for flag in (each["is_added"], self["certified"])]
-            figures = [each[key] for key in ("total", "cost", "paid")]
-            group_rows.append([each["number"], *names, *figures, *flags])
-        lots = [[[*each.values()] for each in self[kind]] for kind in ("categories", "pools")]
+        def small(columns: dict[str, str]) -> dict[str, str]:
+            return {heading.lower(): key for heading, key in columns.items() if key != "lots"}
+
+        lots = [f"lots of {each['name']}" for each in self["categories"]]
+        bidders = [{**each, **dict(zip(lots, each["lots"]))} for each in self["bidders"]]
+        groups = [{**each, "certified": self["certified"]} for each in self["groups"]]
+        of_groups = {**small(GROUPS_CSV), "certified": "certified"}
         return {
-            "bidders.csv": self.csv(of_bidders, bidder_rows),
-            "categories.csv": self.csv(CATEGORIES.lower(), lots[0]),
-            "pools.csv": self.csv(POOLS.lower(), lots[1]),
-            "groups.csv": self.csv(of_groups, group_rows),
+            "bidders.csv": self.csv({**small(BIDDERS), **dict(zip(lots, lots))}, bidders),
+            "categories.csv": self.csv(small(CATEGORIES), self["categories"]),
+            "pools.csv": self.csv(small(POOLS), self["pools"]),
+            "groups.csv": self.csv(of_groups, groups),
             "results.json": (json.dumps(self, indent=1) + "\n").encode(),
         }
 
