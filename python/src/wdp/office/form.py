@@ -42,13 +42,11 @@ def run(given: argparse.Namespace) -> int:
         raise Refused(printed(auction.faults).rstrip("\n"))
     if os.path.isdir(given.output) and os.listdir(given.output):
         raise Refused(f"{given.output}: it has files; name a new folder")
-    files = {}
-    for name in auction.rules.bidders:
-        row = [name, *(category.name for category in auction.rules.categories)]
-        if given.workbooks:
-            files[f"{name}.xlsx"] = workbook(row)
-        else:
-            files[f"{name}.csv"] = encoded(written(row))
+    categories = [category.name for category in auction.rules.categories]
+    rows = {name: [name, *categories] for name in auction.rules.bidders}
+    files = {f"{name}.csv": encoded(written(row)) for name, row in rows.items()}
+    if given.workbooks:
+        files = {f"{name}.xlsx": workbook(row) for name, row in rows.items()}
     write_folder(given.output, files)
     tell(f"{counted(len(files), 'blank form')} in {given.output}\n")
     return 0

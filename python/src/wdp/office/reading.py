@@ -188,13 +188,9 @@ class Auction:
         order = {name: at for at, name in enumerate(bidders)}
         self.counting = sorted(counting, key=lambda form: order.get(form.bidder, len(bidders)))
 
-    def rows_of_groups(self, words: Sequence[str]) -> list[Row]:
-        """The groups, by a file, or by a rule: `each`, or `winners FILE`."""
+    def read_groups(self, words: Sequence[str]) -> None:
+        """Takes the groups of a file, or makes them by a rule: `each`, or `winners FILE`."""
         path, names = words[-1], self.rules.bidders
-        if words[0] not in ("each", "winners"):
-            file = self.groups_file = lines_of(path, read(path, MOST_OF_A_FILE))
-            self.check_end(file, "groups", "line")
-            return file.rows
         if words[0] == "winners":
             file = self.groups_file = File(path, read(path, MOST_OF_AN_INPUT))
             file.changes = ["each winner alone"]
@@ -202,19 +198,18 @@ class Auction:
             if not found:
                 raise Unreadable(path, NO_WINNERS)
             names = [line.split()[0] for line in found[1].splitlines()]
-        return list(group_rows(enumerate(["-", *names], 1)))
-
-    def read_groups(self, words: Sequence[str]) -> None:
-        path = words[-1]
-        with self.reading():
-            rows = self.rows_of_groups(words)
-            if not rows or rows[0].values != ["-"]:
-                self.fault(path + ":1", NOBODY_FIRST)
-            for row in rows[:MOST_OF_GROUPS]:
-                if row.values[0].startswith("%"):
-                    self.fault(f"{path}:{row.line}", f"the line {AS_HEADS}")
-                else:
-                    self.groups.append(row)
+        if words[0] in ("each", "winners"):
+            self.groups = list(group_rows(enumerate(["-", *names], 1)))
+            return
+        file = self.groups_file = lines_of(path, read(path, MOST_OF_A_FILE))
+        self.check_end(file, "groups", "line")
+        if not file.rows or file.rows[0].values != ["-"]:
+            self.fault(path + ":1", NOBODY_FIRST)
+        for row in file.rows[:MOST_OF_GROUPS]:
+            if row.values[0].startswith("%"):
+                self.fault(f"{path}:{row.line}", f"the line {AS_HEADS}")
+            else:
+                self.groups.append(row)
 
     def check_form(self, form: File, found: list[Finding], is_all: bool) -> None:
         """Adds what is wrong with a form; without a fault it gets its number of bids, if all faults are known."""
@@ -289,8 +284,9 @@ class Auction:
         if not self.read_rules(rules):
             return
         assert self.rules_file
-        if group_words:
-            self.read_groups(group_words)
+        with self.reading():
+            if group_words:
+                self.read_groups(group_words)
         of_groups, self.faults = self.faults, []
         self.read_forms(folder)
         self.text = b"%rules\n" + self.rules_file.text

@@ -257,7 +257,7 @@ class Results(Figures):
         made += [self.prices_table()] if prices else []
         sums = {it: sum(each[CATEGORIES[it]] for each in categories) for it in SUMS}
         made.append(self.table("categories", CATEGORIES, categories, {"Category": "All", **sums}))
-        made.append(self.table("pools", POOLS, self["pools"]))
+        made.append(Table("pools", [*POOLS], [[*pool.values()] for pool in self["pools"]]))
         made.append(self.table("groups", GROUPS, self["groups"]))
         made.append(self.table("left_out", LEFT_OUT, self["left_out"]))
         return [table for table in made if table.rows]
