@@ -121,26 +121,6 @@ fn for_text<'a>(alloc: Global, command: Command<'a>) -> Result<Command<'a>, Allo
     command.arg(output(alloc))?.arg(file(alloc))
 }
 
-// Adds the command of a page that reads one text.
-fn add_for_text<'a>(
-    list: &mut Vec<Command<'a>>,
-    alloc: Global,
-    page: Page,
-) -> Result<(), AllocError>
-    ensures { OnOk result (map app_of list.new.items
-        ≡ map app_of list.old.items ++ asked.for_text (new_app page.name.now) ∷ []) }
-{
-    add(list, for_text(alloc, described(alloc, page))?)
-}
-
-// Adds the command of a page that reads forms, without an option of its own.
-fn add_plain<'a>(list: &mut Vec<Command<'a>>, alloc: Global, page: Page) -> Result<(), AllocError>
-    ensures { OnOk result (map app_of list.new.items
-        ≡ map app_of list.old.items ++ asked.for_forms (new_app page.name.now) ∷ []) }
-{
-    add(list, for_forms(alloc, described(alloc, page))?)
-}
-
 // Adds the command of a page that reads forms, with an option of its own.
 fn add_with<'a>(
     list: &mut Vec<Command<'a>>,
@@ -174,9 +154,9 @@ fn add_all<'a>(list: &mut Vec<Command<'a>>, alloc: Global) -> Result<(), AllocEr
     requires { list.old.items ≡ [] }
     ensures { OnOk result (map app_of list.new.items ≡ asked.commands) }
 {
-    add_plain(list, alloc, TEXT)?;
+    add(list, for_forms(alloc, described(alloc, TEXT))?)?;
     add_with(list, alloc, COMPILE, workers(alloc))?;
-    add_for_text(list, alloc, CHECK)?;
+    add(list, for_text(alloc, described(alloc, CHECK))?)?;
     add_with(list, alloc, MAP, group(alloc))?;
     add_with(list, alloc, REPORT, workers(alloc))?;
     add_with(list, alloc, VERIFY, workers(alloc))?;
