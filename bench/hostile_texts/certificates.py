@@ -5,6 +5,7 @@ split: a split that names two columns so often, above a tree with a leaf for eac
 small: so many forms of 4,000 bids, and a tree with 100 leaves for each form that give a number to a few columns each.
 dense: 32 forms of 4,000 bids, and a tree with so many leaves that each name the row of the category, of which all columns have an
 entry.
+wide: the same forms, and leaves that each name that row and one of a bidder, where the last column's number alone leaves 64 bits.
 groupsolutions: 40 forms of 4,000 bids, and so many groups of the first ten bidders, each with a certificate of one leaf.
 plain: so many forms of 4,000 bids, and a certificate of one leaf.
 
@@ -88,6 +89,20 @@ def dense(leaves):
     """No point is on the second side of a split without columns, which outweighs the row of the category."""
     below = tree(depth_for(leaves), lambda depth: "split 0", lambda ys: " ".join(["bound 0 %d" % (2 * LOTS), *map(str, ys), "C1 1"]))
     return text_of(auction(32) + ["%certificate", "split 0", leaf(32, (0,)), *below])
+
+
+def wide_entries(leaves):
+    return dense_entries(leaves) + BIDS * dense_leaves(leaves)
+
+
+def wide(leaves):
+    """No point is on the second side of a split without columns, where 24 times its 10^18 outweighs the rows. What they give the last
+    column comes to 2^63, and what they give another one to less."""
+    of_lots = 2 ** 63 // BIDS - 1
+    of_bidder = 2 ** 63 - of_lots * BIDS
+    rows = "C1 %d B32 %d" % (of_lots, of_bidder)
+    below = tree(depth_for(leaves), lambda depth: "split 0", lambda ys: " ".join(["bound 0 24", *map(str, ys), rows]))
+    return text_of(auction(32) + ["%certificate", "split %d" % (10 ** 18 - 1), leaf(32, (0,)), *below])
 
 
 FEW, MANY = 10, 40  # of so many bidders groups are made, and so many are there
