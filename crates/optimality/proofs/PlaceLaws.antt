@@ -132,6 +132,20 @@ form-end k form i start after l h q =
     let none : k *ℤ pos 0 ≡ pos 0 = *ℤ-zero k in
     omega (arith, ints)
 
+-- two forms, one after the other
+number-both : (a b : Form) (q : ℕ) → number_in (a ++ b) q ≡ number_in a q +ℤ number_in b q
+number-both [] b q = omega (arith, ints)
+number-both (t ∷ a) b q = let later = number-both a b q in omega (arith, ints)
+
+form-both : (k : ℤ) (a b : Form) (q : ℕ) → form_given k (a ++ b) q ≡ form_given k a q +ℤ form_given k b q
+form-both k a b q = ap (λ (n : ℤ). k *ℤ n) (number-both a b q) ∙ times-sum k (number_in a q) (number_in b q)
+
+given-both : (all first later : ℕ → ℤ) (start mid after : List ℤ) → IsSplit all first later → AreGivenMore first start mid → AreGivenMore later mid after → AreGivenMore all start after
+given-both all first later start mid after split one two q = omega (arith, ints, split q, one q, two q)
+
+pub forms-given : (k : ℤ) (a b : Form) (start mid after : List ℤ) → AreGivenMore (form_given k a) start mid → AreGivenMore (form_given k b) mid after → AreGivenMore (form_given k (a ++ b)) start after
+forms-given k a b start mid after = given-both (form_given k (a ++ b)) (form_given k a) (form_given k b) start mid after (form-both k a b)
+
 -- terms added up as they stand
 pub terms-step : (form : Form) (i : ℕ) (d : ℕ × ℤ) (start before after : List ℤ) → i < length form → AreGivenMore (at_place (get_or form i d).0 (get_or form i d).1) before after
     → ((q : ℕ) → number_at before q +ℤ number_in (drop i form) q ≡ number_at start q +ℤ number_in form q) → (q : ℕ) → number_at after q +ℤ number_in (drop (i + 1) form) q ≡ number_at start q +ℤ number_in form q

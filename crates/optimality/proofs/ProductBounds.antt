@@ -3,7 +3,7 @@ use Rattle.std.proofs.Common.{ℕ, ◌*◌, ◌^◌, ◌≤◌, ◌<◌, arith, 
 use Rattle.std.specs.Prelude.{◌*ℤ◌, unsigned_abs}
 use native.Mathlib.Nat.{mul-le-mul_left}
 use Rattle.std.proofs.lemmas.Int.{ints, unsigned_abs-mul}
-use mir.Syntax.{w64}
+use mir.Syntax.{w16, w64}
 use mir.Val.{SFits}
 
 pub abs-within : (n : ℤ) → SFits w64 n → unsigned_abs n ≤ 2 ^ 63
@@ -29,3 +29,21 @@ product_low a b f g = by-abs-low (a *ℤ b) (2 ^ 126) (abs-product a b f g)
 
 pub product_high : (a b : ℤ) → SFits w64 a → SFits w64 b → (a *ℤ b) ≤ℤ pos (2 ^ 126)
 product_high a b f g = by-abs-high (a *ℤ b) (2 ^ 126) (abs-product a b f g)
+
+-- a factor up to 2^47 and a number of 16 bits: their product fits 64 bits
+abs-short : (n : ℤ) → SFits w16 n → unsigned_abs n ≤ 2 ^ 15
+abs-short (pos n) f = let below : n < 2 ^ 15 = f.sfits in omega arith
+abs-short (negsuc n) f = let below : n < 2 ^ 15 = f.sfits in omega arith
+
+by-bounds : (n : ℤ) (m : ℕ) → neg_ℤ (pos m) ≤ℤ n → n ≤ℤ pos m → unsigned_abs n ≤ m
+by-bounds n m low high = omega (arith, ints)
+
+fits-by-abs : (n : ℤ) → unsigned_abs n ≤ 2 ^ 62 → SFits w64 n
+fits-by-abs (pos n) h = let below : n < 2 ^ 63 = omega arith in record { sfits = below }
+fits-by-abs (negsuc n) h = let below : n < 2 ^ 63 = omega arith in record { sfits = below }
+
+pub short_product : (a b : ℤ) → neg_ℤ (pos (2 ^ 47)) ≤ℤ a → a ≤ℤ pos (2 ^ 47) → SFits w16 b → SFits w64 (a *ℤ b)
+short_product a b low high f =
+    let left : unsigned_abs a ≤ 2 ^ 47 = by-bounds a (2 ^ 47) low high in
+    let right : unsigned_abs a * unsigned_abs b ≤ unsigned_abs a * (2 ^ 15) = mul-le-mul_left (unsigned_abs a) (abs-short b f) in
+    fits-by-abs (a *ℤ b) (omega (arith, unsigned_abs-mul a b, left, right))

@@ -4,8 +4,6 @@ use Rattle.optimality.proofs.PlaceLaws.{number-last, rest}
 use Rattle.std.specs.Prelude.{◌==◌, find, replicate, slice_set}
 use Rattle.std.specs.Option.{option_map, option_map_or}
 use Rattle.std.specs.List.{AllByRecursion}
-use Rattle.std.specs.declared.vec.Vec.{Vec}
-use Rattle.std.specs.declared.alloc.Global.{Global}
 use Rattle.std.proofs.lemmas.List.{length-replicate, get_or-replicate, get_or_past, get_or-map, map-set}
 use Rattle.std.proofs.lemmas.Grind.{get_or-set_at}
 use Rattle.std.proofs.lemmas.Option.{get_or_from_slice_get, slice_get_within}
@@ -14,17 +12,18 @@ use Rattle.std.proofs.lemmas.Bool.Decides.{nat_tests}
 use Rattle.program_rows.specs.Program.{Table, TableColumn}
 use Rattle.program_rows.specs.Points.{coefficient_at}
 use Rattle.program_rows.specs.Parts.{AreEntries, IsProgram}
+use Rattle.optimality.specs.declared.row_forms.RowForm.{RowForm}
 use Rattle.optimality.specs.Certificates.{Form, number_in}
 use Rattle.optimality.specs.inside.Adding.{form_at}
-use Rattle.optimality.specs.inside.RowForms.{with_term, with_entries, with_columns, row_forms, forms_held}
+use Rattle.optimality.specs.inside.RowForms.{form_held, with_term, with_entries, with_columns, row_forms, forms_held}
 
 -- ---------- what the code does ----------
 
 -- a term pushed onto the form of a row
-pub term-pushed : (forms : List (Vec (ℕ × ℤ) Global)) (row : ℕ) (t : ℕ × ℤ) (d next : Vec (ℕ × ℤ) Global) → row < length forms → next.items ≡ (get_or forms row d).items ++ t ∷ [] → forms_held (slice_set forms row next) ≡ with_term row t (forms_held forms)
+pub term-pushed : (forms : List RowForm) (row : ℕ) (t : ℕ × ℤ) (d next : RowForm) → row < length forms → form_held next ≡ form_held (get_or forms row d) ++ t ∷ [] → forms_held (slice_set forms row next) ≡ with_term row t (forms_held forms)
 term-pushed forms row t d next h e =
-    map-set (λ (form : Vec (ℕ × ℤ) Global). form.items) forms row next
-    ∙ ap (λ (form : Form). slice_set (forms_held forms) row form) (e ∙ ap (λ (form : Form). form ++ t ∷ []) (sym (get_or-map (λ (form : Vec (ℕ × ℤ) Global). form.items) forms row d [] h)))
+    map-set form_held forms row next
+    ∙ ap (λ (form : Form). slice_set (forms_held forms) row form) (e ∙ ap (λ (form : Form). form ++ t ∷ []) (sym (get_or-map form_held forms row d [] h)))
 
 columns_there : (place i : ℕ) (cs : List TableColumn) (es : List (ℕ × ℤ)) (forms : List Form) → option_map (λ c. c.entries) (slice_get cs i) ≡ Some es → with_columns place (drop i cs) forms ≡ with_columns (suc place) (drop (suc i) cs) (with_entries place es forms)
 columns_there place i [] es forms h = absurd cc

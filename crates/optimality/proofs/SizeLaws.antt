@@ -1,5 +1,5 @@
 -- Numbers without their signs: of sums, of forms, and of what a leaf adds up.
-use Rattle.std.proofs.Common.{◌≡◌, ℕ, zero, suc, ◌+◌, ◌*◌, ◌^◌, ◌<◌, ◌≤◌, Bool, true, false, cond, List, [], ◌∷◌, length, drop, get_or, refl, subst, sym, ap, ap₂, ◌∙◌, arith, ℤ, pos, neg_ℤ, ◌+ℤ◌, ◌-ℤ◌}
+use Rattle.std.proofs.Common.{◌≡◌, ℕ, zero, suc, ◌+◌, ◌*◌, ◌^◌, ◌<◌, ◌≤◌, Bool, true, false, cond, List, [], ◌∷◌, ◌++◌, length, drop, get_or, refl, subst, sym, ap, ap₂, ◌∙◌, arith, ℤ, pos, neg_ℤ, ◌+ℤ◌, ◌-ℤ◌}
 use Rattle.std.proofs.lemmas.List.{length-map, get_or-map}
 use Rattle.std.proofs.lemmas.Slice.Zip.{get_or-zip, length-zip}
 use Rattle.std.specs.Prelude.{◌*ℤ◌, ◌==◌, if◌then◌else◌, unsigned_abs}
@@ -92,6 +92,30 @@ form-step-within k form i d q now start l h =
     let room : unsigned_abs k * (unsigned_abs apart + unsigned_abs (get_or form i d).1) ≤ unsigned_abs k * form_size form = mul-le-mul_left (unsigned_abs k) (omega arith) in
     omega arith
 
+pub times-within : (a b : ℤ) (m : ℕ) → unsigned_abs b ≤ m → unsigned_abs (a *ℤ b) ≤ unsigned_abs a * m
+times-within a b m h =
+    let more : unsigned_abs a * unsigned_abs b ≤ unsigned_abs a * m = mul-le-mul_left (unsigned_abs a) h in
+    omega (arith, unsigned_abs-mul a b)
+
+-- two forms, one after the other
+size-both : (a b : Form) → form_size (a ++ b) ≡ form_size a + form_size b
+size-both [] b = omega arith
+size-both (t ∷ a) b = omega (arith, size-both a b)
+
+pub first-within : (k : ℤ) (a b : Form) (start : ℤ) → unsigned_abs start + unsigned_abs k * form_size a ≤ unsigned_abs start + unsigned_abs k * form_size (a ++ b)
+first-within k a b start =
+    let more : unsigned_abs k * form_size a ≤ unsigned_abs k * form_size (a ++ b) = mul-le-mul_left (unsigned_abs k) (omega (arith, size-both a b)) in
+    omega arith
+
+pub second-within : (k : ℤ) (a b : Form) (q : ℕ) (start now : ℤ) → now ≡ start +ℤ form_given k a q → unsigned_abs now + unsigned_abs k * form_size b ≤ unsigned_abs start + unsigned_abs k * form_size (a ++ b)
+second-within k a b q start now h =
+    let given = k *ℤ number_in a q in
+    let moved : unsigned_abs now ≡ unsigned_abs (start +ℤ given) = ap unsigned_abs h in
+    let both = abs-sum start given in
+    let first = times-within k (number_in a q) (form_size a) (number-within a q) in
+    let size : unsigned_abs k * form_size (a ++ b) ≡ unsigned_abs k * (form_size a + form_size b) = ap (λ (n : ℕ). unsigned_abs k * n) (size-both a b) in
+    omega arith
+
 -- ---------- cuts ----------
 
 pub negated-size : (form : Form) (most : ℤ) → form_size (side true form most).form ≡ form_size form
@@ -124,11 +148,6 @@ cuts-step-within f g within ys splits i e d now start l m h =
     subst (λ (x : ℕ × Cut). unsigned_abs now + g x ≤ unsigned_abs start + size_of g all) here (step-within f g within all i (e, cut_of d) now start long (rw (drop-zip i ys splits m) h))
 
 -- ---------- terms of a leaf ----------
-
-pub times-within : (a b : ℤ) (m : ℕ) → unsigned_abs b ≤ m → unsigned_abs (a *ℤ b) ≤ unsigned_abs a * m
-times-within a b m h =
-    let more : unsigned_abs a * unsigned_abs b ≤ unsigned_abs a * m = mul-le-mul_left (unsigned_abs a) h in
-    omega (arith, unsigned_abs-mul a b)
 
 pub cut-within : (q : ℕ) (e : ℕ × Cut) → unsigned_abs (pos e.0 *ℤ number_in e.1.form q) ≤ e.0 * form_size e.1.form
 cut-within q e = times-within (pos e.0) (number_in e.1.form q) (form_size e.1.form) (number-within e.1.form q)

@@ -20,14 +20,14 @@ use crate::narrow_sums;
 use crate::narrow_sums::{number_at, zeros};
 use crate::open_split::OpenSplit;
 use crate::reduced::least_part;
-use crate::row_forms::Form;
+use crate::row_forms::RowForm;
 use program_rows::Selection;
 
 /// Adds to each column what the rows give it, each times its multiplier, by the forms of the rows.
 fn add_rows_by_forms(
     sums: &mut [i64],
     program: &Selection<'_>,
-    forms: &[Form],
+    forms: &[RowForm],
     rows: &[(usize, i128)],
 ) -> Option<()>
     requires { forms_held forms.now ≡ forms_of program.now }

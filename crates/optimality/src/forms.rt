@@ -74,6 +74,20 @@ pub fn add_form(sums: &mut Sums, factor: i128, form: &[(usize, i64)]) -> Result<
     }
 }
 
+/// The same of a form of short numbers.
+pub fn add_short_form(sums: &mut Sums, factor: i128, form: &[(u32, i16)]) -> Result<(), Limit>
+    ensures value { OnOk result (AreGivenMore (form_given factor form.now) sums.old.numbers.items
+        sums.new.numbers.items) }
+    ensures too_large { TooLargeOnly (ReachesLimit sums.old.numbers.items (unsigned_abs factor
+        * form_size form.now)) result }
+{
+    for i in 0..form.len() {
+        let (place, number) = form[i];
+        add_multiple(sums, factor, place as usize, i128::from(number))?;
+    }
+    Ok(())
+}
+
 /// The same of a form of sums.
 pub fn add_wide_form(sums: &mut Sums, factor: i128, form: &[(usize, i128)]) -> Result<(), Limit>
     ensures value { OnOk result (AreGivenMore (form_given factor form.now) sums.old.numbers.items

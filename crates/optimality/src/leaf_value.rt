@@ -21,7 +21,7 @@ use crate::leaf::Leaf;
 use crate::limit::Limit;
 use crate::open_split::OpenSplit;
 use crate::reduced::least_total;
-use crate::row_forms::{Form, RowForms, row_forms};
+use crate::row_forms::{RowForm, RowForms, row_forms};
 use crate::rows::{add_rows, rows_right};
 use crate::sums::Sums;
 use program_rows::Selection;
@@ -29,7 +29,7 @@ use program_rows::Selection;
 /// Adds up what cuts and rows give the columns.
 fn reduce(
     program: &Selection<'_>,
-    forms: &[Form],
+    forms: &[RowForm],
     sums: &mut Sums,
     splits: &[OpenSplit],
     leaf: &Leaf,
@@ -197,7 +197,7 @@ fn cut_terms(multipliers: &[u64], splits: &[OpenSplit]) -> usize
 }
 
 /// How many entries the named rows have.
-fn named_entries(forms: &[Form], rows: &[(usize, i128)]) -> usize {
+fn named_entries(forms: &[RowForm], rows: &[(usize, i128)]) -> usize {
     let mut count: usize = 0;
     for (row, _) in rows {
         if *row < forms.len() {

@@ -1,7 +1,7 @@
 //! Sums by place in 64 bits, for a leaf that gives numbers to many columns. Each call answers nothing if a number leaves 64 bits, or
 //! if a place isn't there.
 
-ghost use Rattle.std.specs.Prelude.{◌≡◌, ◌*ℤ◌, IfSome, length, pos};
+ghost use Rattle.std.specs.Prelude.{◌≡◌, ◌≤ℤ◌, ◌*ℤ◌, ◌^◌, IfSome, length, neg_ℤ, pos};
 ghost use Rattle.optimality.specs.inside.Adding as adding;
 ghost use Rattle.optimality.specs.inside.Adding.{AreGivenMore, AreNone, at_place, cuts_given, form_at, form_given, rows_given};
 ghost use Rattle.optimality.specs.inside.Holding.{cut_of, cuts_of};
@@ -9,8 +9,11 @@ ghost use Rattle.optimality.specs.inside.RowForms.{forms_held};
 
 use crate::arithmetic::{narrow, plus_multiple, signed};
 use crate::open_split::OpenSplit;
-use crate::row_forms::Form;
+use crate::row_forms::RowForm;
 use std::alloc::Global;
+
+/// 2^47: the product of a factor up to here and a number of 16 bits fits 64 bits.
+const MOST_FACTOR: i64 = 140_737_488_355_328;
 
 /// So many sums of 0; nothing if there is no memory.
 pub fn zeros(alloc: Global, count: usize) -> Option<Vec<i64>>
@@ -63,6 +66,34 @@ fn add_form(sums: &mut [i64], factor: i64, form: &[(usize, i64)]) -> Option<()>
     Some(())
 }
 
+/// The same of short numbers by a factor whose products with them fit 64 bits.
+#[inline(never)]
+fn add_short_products(sums: &mut [i64], factor: i64, form: &[(u32, i16)]) -> Option<()>
+    requires low { neg_ℤ (pos (2 ^ 47)) ≤ℤ factor }
+    requires high { factor ≤ℤ pos (2 ^ 47) }
+    ensures { IfSome result (λ _. AreGivenMore (form_given factor form.now) sums.old sums.new) }
+{
+    for i in 0..form.len() {
+        let (place, number) = form[i];
+        add_at(sums, place as usize, factor * i64::from(number))?;
+    }
+    Some(())
+}
+
+/// The same by any factor.
+fn add_short_form(sums: &mut [i64], factor: i64, form: &[(u32, i16)]) -> Option<()>
+    ensures { IfSome result (λ _. AreGivenMore (form_given factor form.now) sums.old sums.new) }
+{
+    if -MOST_FACTOR <= factor && factor <= MOST_FACTOR {
+        return add_short_products(sums, factor, form);
+    }
+    for i in 0..form.len() {
+        let (place, number) = form[i];
+        add_product(sums, factor, place as usize, i64::from(number))?;
+    }
+    Some(())
+}
+
 /// The same of a form of sums.
 #[inline(never)]
 fn add_wide_form(sums: &mut [i64], factor: i64, form: &[(usize, i128)]) -> Option<()>
@@ -98,18 +129,21 @@ pub fn add_cuts(sums: &mut [i64], multipliers: &[u64], splits: &[OpenSplit]) -> 
     Some(())
 }
 
-fn add_row(sums: &mut [i64], forms: &[Form], row: usize, multiplier: i128) -> Option<()>
+fn add_row(sums: &mut [i64], forms: &[RowForm], row: usize, multiplier: i128) -> Option<()>
     ensures { IfSome result (λ _. AreGivenMore (form_given multiplier
         (form_at (forms_held forms.now) row)) sums.old sums.new) }
 {
     if row >= forms.len() {
         return None;
     }
-    add_form(sums, narrow(multiplier)?, forms[row].as_slice())
+    let factor = narrow(multiplier)?;
+    let form = &forms[row];
+    add_short_form(sums, factor, form.short.as_slice())?;
+    add_form(sums, factor, form.rest.as_slice())
 }
 
 /// Adds rows that stand as forms, each times its multiplier.
-pub fn add_rows(sums: &mut [i64], forms: &[Form], rows: &[(usize, i128)]) -> Option<()>
+pub fn add_rows(sums: &mut [i64], forms: &[RowForm], rows: &[(usize, i128)]) -> Option<()>
     ensures { IfSome result (λ _. AreGivenMore (rows_given rows.now (forms_held forms.now)) sums.old
         sums.new) }
 {

@@ -10,13 +10,13 @@ ghost use Rattle.optimality.specs.Sizes.{size_of};
 ghost use Rattle.optimality.specs.inside.Sizes.{form_size};
 
 use crate::arithmetic::{plus, wide_product};
-use crate::forms::add_form;
+use crate::forms::{add_form, add_short_form};
 use crate::limit::Limit;
-use crate::row_forms::Form;
+use crate::row_forms::RowForm;
 use crate::sums::Sums;
 use program_rows::Selection;
 
-fn add_row(sums: &mut Sums, forms: &[Form], row: usize, multiplier: i128) -> Result<(), Limit>
+fn add_row(sums: &mut Sums, forms: &[RowForm], row: usize, multiplier: i128) -> Result<(), Limit>
     ensures value { OnOk result (AreGivenMore (form_given multiplier
         (form_at (forms_held forms.now) row)) sums.old.numbers.items sums.new.numbers.items) }
     ensures too_large { TooLargeOnly (ReachesLimit sums.old.numbers.items (unsigned_abs multiplier
@@ -25,11 +25,13 @@ fn add_row(sums: &mut Sums, forms: &[Form], row: usize, multiplier: i128) -> Res
     if row >= forms.len() {
         return Ok(());
     }
-    add_form(sums, multiplier, forms[row].as_slice())
+    let form = &forms[row];
+    add_short_form(sums, multiplier, form.short.as_slice())?;
+    add_form(sums, multiplier, form.rest.as_slice())
 }
 
 /// Adds the rows, each times its multiplier. A row that isn't named costs nothing.
-pub fn add_rows(sums: &mut Sums, forms: &[Form], rows: &[(usize, i128)]) -> Result<(), Limit>
+pub fn add_rows(sums: &mut Sums, forms: &[RowForm], rows: &[(usize, i128)]) -> Result<(), Limit>
     ensures value { OnOk result (AreGivenMore (rows_given rows.now (forms_held forms.now))
         sums.old.numbers.items sums.new.numbers.items) }
     ensures too_large { TooLargeOnly (ReachesLimit sums.old.numbers.items

@@ -1,8 +1,7 @@
 -- The rows of a program, each as a form over its columns.
 use Rattle.std.specs.Prelude.{ℕ, suc, List, [], ◌∷◌, ◌++◌, length, map, replicate, slice_set, ℤ}
-use Rattle.std.specs.declared.vec.Vec.{Vec}
-use Rattle.std.specs.declared.alloc.Global.{Global}
 use Rattle.program_rows.specs.Program.{Table, TableColumn}
+use Rattle.optimality.specs.declared.row_forms.RowForm.{RowForm}
 use Rattle.optimality.specs.Certificates.{Form}
 use Rattle.optimality.specs.inside.Adding.{form_at}
 
@@ -24,5 +23,8 @@ abbrev pub row_forms : Table → List Form
 row_forms p = with_columns 0 p.columns (replicate (length p.rows) [])
 
 -- what the code holds
-abbrev pub forms_held : List (Vec (ℕ × ℤ) Global) → List Form
-forms_held forms = map (λ form. form.items) forms
+abbrev pub form_held : RowForm → Form
+form_held form = form.short.items ++ form.rest.items
+
+abbrev pub forms_held : List RowForm → List Form
+forms_held forms = map form_held forms
