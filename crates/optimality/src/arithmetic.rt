@@ -1,6 +1,7 @@
 //! Exact arithmetic in 128 bits.
 
-ghost use Rattle.std.specs.Prelude.{◌≡◌, ◌+◌, ◌*◌, ◌^◌, ◌≤◌, ◌≤ℤ◌, ◌+ℤ◌, ◌-ℤ◌, ◌*ℤ◌, IfOk, IfSome, if◌then◌else◌, neg_ℤ, pos, unsigned_abs};
+ghost use Rattle.std.specs.Int.{w64};
+ghost use Rattle.std.specs.Prelude.{◌≡◌, ◌+◌, ◌*◌, ◌^◌, ◌≤◌, ◌≤ℤ◌, ◌+ℤ◌, ◌-ℤ◌, ◌*ℤ◌, FitsSigned, IfOk, IfSome, MatchOption, if◌then◌else◌, neg_ℤ, pos, unsigned_abs};
 ghost use Rattle.optimality.specs.inside.Stopping.{TooLargeOnly};
 
 use crate::limit::Limit;
@@ -31,7 +32,7 @@ pub fn times(a: i128, b: i128) -> Result<i128, Limit>
 
 /// A number, if it fits 64 bits.
 pub fn narrow(number: i128) -> Option<i64>
-    ensures { IfSome result (λ n. n ≡ number) }
+    ensures { MatchOption result (¬ FitsSigned w64 number) (λ n. n ≡ number) }
 {
     i64::try_from(number).ok()
 }

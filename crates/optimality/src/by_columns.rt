@@ -1,7 +1,8 @@
 //! The least that all columns come to, by what cuts and rows give each of them. Each call answers nothing if a number is beyond what it
 //! takes, or if there is no memory.
 
-ghost use Rattle.std.specs.Prelude.{◌≡◌, ◌<◌, ◌+ℤ◌, ◌*ℤ◌, IfSome, Some, length, slice_get};
+ghost use Rattle.std.specs.Int.{w128};
+ghost use Rattle.std.specs.Prelude.{◌≡◌, ◌<◌, ◌+ℤ◌, ◌*ℤ◌, FitsSigned, IfSome, MatchOption, Some, length, slice_get};
 ghost use Rattle.std.specs.List.{enumerate_from};
 ghost use Rattle.std.specs.Option.{option_map};
 ghost use Rattle.optimality.specs.Certificates.{sum_of};
@@ -68,7 +69,7 @@ fn add_to_all(
 }
 
 fn plus(a: i128, b: i128) -> Option<i128>
-    ensures { IfSome result (λ n. n ≡ a +ℤ b) }
+    ensures { MatchOption result (¬ FitsSigned w128 (a +ℤ b)) (λ n. n ≡ a +ℤ b) }
 {
     a.checked_add(b)
 }

@@ -1,7 +1,8 @@
 //! Sums by place in 64 bits, for a leaf that gives numbers to many columns. Each call answers nothing if a number leaves 64 bits, or
 //! if a place isn't there.
 
-ghost use Rattle.std.specs.Prelude.{◌≡◌, ◌≤ℤ◌, ◌*ℤ◌, ◌^◌, IfSome, length, neg_ℤ, pos};
+ghost use Rattle.std.specs.Int.{w64};
+ghost use Rattle.std.specs.Prelude.{◌≡◌, ◌<◌, ◌≤ℤ◌, ◌+ℤ◌, ◌*ℤ◌, ◌^◌, FitsSigned, IfSome, MatchOption, length, neg_ℤ, pos};
 ghost use Rattle.optimality.specs.inside.Adding as adding;
 ghost use Rattle.optimality.specs.inside.Adding.{AreGivenMore, AreNone, at_place, cuts_given, form_at, form_given, rows_given};
 ghost use Rattle.optimality.specs.inside.Holding.{cut_of, cuts_of};
@@ -30,7 +31,9 @@ pub fn number_at(sums: &[i64], place: usize) -> i64
 
 /// Adds a number at a place.
 pub fn add_at(sums: &mut [i64], place: usize, number: i64) -> Option<()>
-    ensures { IfSome result (λ _. AreGivenMore (at_place place number) sums.old sums.new) }
+    ensures { MatchOption result (place < length sums.old → ¬ FitsSigned w64
+        (adding.number_at sums.old place +ℤ number))
+        (λ _. AreGivenMore (at_place place number) sums.old sums.new) }
 {
     if place >= sums.len() {
         return None;

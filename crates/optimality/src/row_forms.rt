@@ -1,9 +1,10 @@
 //! The rows of a program, each as a form over its columns.
 
-ghost use Rattle.std.specs.Prelude.{◌≡◌, ◌++◌, [], ◌∷◌, IfOk, IfSome, OnOk, replicate};
+ghost use Rattle.std.specs.Int.{w16};
+ghost use Rattle.std.specs.Prelude.{◌≡◌, ◌<◌, ◌^◌, [], FitsSigned, IfOk, MatchOption, OnOk, replicate};
 ghost use Rattle.optimality.specs.inside.Checking.{AreRowsOf};
 ghost use Rattle.optimality.specs.inside.RowForms as rows;
-ghost use Rattle.optimality.specs.inside.RowForms.{form_held, forms_held, with_columns, with_entries, with_term};
+ghost use Rattle.optimality.specs.inside.RowForms.{forms_held, with_columns, with_entries, with_term};
 
 use crate::reduced::least_alone;
 use program_rows::{Entries, Selection};
@@ -29,7 +30,8 @@ pub struct RowForms {
 }
 
 fn short_term(place: usize, number: i64) -> Option<(u32, i16)>
-    ensures { IfSome result (λ term. term ≡ (place, number)) }
+    ensures { MatchOption result (place < 2 ^ 32 → ¬ FitsSigned w16 number)
+        (λ term. term ≡ (place, number)) }
 {
     match (u32::try_from(place), i16::try_from(number)) {
         (Ok(place), Ok(number)) => Some((place, number)),
@@ -38,7 +40,7 @@ fn short_term(place: usize, number: i64) -> Option<(u32, i16)>
 }
 
 impl RowForm {
-    ghost use Rattle.std.specs.Prelude.{◌≡◌, ◌++◌, [], ◌∷◌, IfOk, IfSome, OnOk, replicate};
+    ghost use Rattle.std.specs.Prelude.{◌≡◌, ◌++◌, [], ◌∷◌, OnOk};
     ghost use Rattle.optimality.specs.inside.RowForms.{form_held};
 
     fn new(alloc: Global) -> RowForm

@@ -1,4 +1,4 @@
-use Rattle.std.proofs.Common.{◌≡◌, get_or, pos, rules, subst, sym, arith, ◌≤◌, length, ℤ}
+use Rattle.std.proofs.Common.{get_or, pos, rules, subst, sym, arith, ◌≤◌, length, ℤ}
 use Rattle.std.specs.Prelude.{◌*ℤ◌}
 use Rattle.std.proofs.lemmas.Int.{to_z-of_z}
 use mir.Syntax.{w16, w64}
