@@ -2,7 +2,7 @@
 //! if a place isn't there.
 
 ghost use Rattle.std.specs.Int.{w64};
-ghost use Rattle.std.specs.Prelude.{◌≡◌, ◌<◌, ◌≤ℤ◌, ◌+ℤ◌, ◌*ℤ◌, ◌^◌, FitsSigned, IfSome, MatchOption, length, neg_ℤ, pos};
+ghost use Rattle.std.specs.Prelude.{◌≡◌, ◌<◌, ◌≤◌, ◌≤ℤ◌, ◌+ℤ◌, ◌*ℤ◌, ◌^◌, FitsSigned, IfSome, MatchOption, length, neg_ℤ, pos, unsigned_abs};
 ghost use Rattle.optimality.specs.inside.Adding as adding;
 ghost use Rattle.optimality.specs.inside.Adding.{AreGivenMore, AreNone, at_place, cuts_given, form_at, form_given, rows_given};
 ghost use Rattle.optimality.specs.inside.Holding.{cut_of, cuts_of};
@@ -13,8 +13,11 @@ use crate::open_split::OpenSplit;
 use crate::row_forms::RowForm;
 use std::alloc::Global;
 
-/// 2^47: the product of a factor up to here and a number of 16 bits fits 64 bits.
+/// 2^47: the product of a factor up to here and a number of 16 bits is 2^62 at most.
 const MOST_FACTOR: i64 = 140_737_488_355_328;
+
+/// 2^62.
+const MOST_SUM: i64 = 4_611_686_018_427_387_904;
 
 /// So many sums of 0; nothing if there is no memory.
 pub fn zeros(alloc: Global, count: usize) -> Option<Vec<i64>>
@@ -40,6 +43,25 @@ pub fn add_at(sums: &mut [i64], place: usize, number: i64) -> Option<()>
     }
     let sum = sums[place].checked_add(number)?;
     sums[place] = sum;
+    Some(())
+}
+
+/// Adds a number up to 2^62 to a sum within that, which is a cheaper test than a checked sum.
+fn add_small(sums: &mut [i64], place: usize, number: i64) -> Option<()>
+    requires low { neg_ℤ (pos (2 ^ 62)) ≤ℤ number }
+    requires high { number ≤ℤ pos (2 ^ 62) }
+    ensures { MatchOption result (place < length sums.old → 2 ^ 62 ≤ unsigned_abs
+        (adding.number_at sums.old place))
+        (λ _. AreGivenMore (at_place place number) sums.old sums.new) }
+{
+    if place >= sums.len() {
+        return None;
+    }
+    let sum = sums[place];
+    if sum < -MOST_SUM || sum >= MOST_SUM {
+        return None;
+    }
+    sums[place] = sum + number;
     Some(())
 }
 
@@ -69,7 +91,7 @@ fn add_form(sums: &mut [i64], factor: i64, form: &[(usize, i64)]) -> Option<()>
     Some(())
 }
 
-/// The same of short numbers by a factor whose products with them fit 64 bits.
+/// The same of short numbers by a factor whose products with them are 2^62 at most.
 #[inline(never)]
 fn add_short_products(sums: &mut [i64], factor: i64, form: &[(u32, i16)]) -> Option<()>
     requires low { neg_ℤ (pos (2 ^ 47)) ≤ℤ factor }
@@ -78,7 +100,7 @@ fn add_short_products(sums: &mut [i64], factor: i64, form: &[(u32, i16)]) -> Opt
 {
     for i in 0..form.len() {
         let (place, number) = form[i];
-        add_at(sums, place as usize, factor * i64::from(number))?;
+        add_small(sums, place as usize, factor * i64::from(number))?;
     }
     Some(())
 }
