@@ -166,6 +166,8 @@ def test_a_folder_belongs_to_one_input(auction, tmp_path):
     assert "is another input; take another folder" in auction.said("--input", other, status=1)
     auction.put("input.txt", TIED)
     assert "input.txt isn't what was left there" in auction.said(status=1)
+    (auction.where / "input.txt").unlink()
+    assert "is another input" in auction.said("--input", other, status=1)
     auction.put("input.txt", WORKED)
     (auction.where / "sums/input.txt.sha256").unlink()
     assert "it says which input" in auction.said(status=1)

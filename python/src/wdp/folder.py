@@ -32,11 +32,14 @@ class Folder:
     def has(self, name: str) -> bool:
         return os.path.lexists(self.path(name)) and os.path.lexists(self.sum_path(name))
 
+    def sum_of(self, name: str) -> bytes:
+        return files.read(str(self.sum_path(name)), 10_000, regular=True)
+
     def read(self, name: str) -> bytes:
         """The bytes that a step left; Refused if they are others, or it isn't a file."""
         path = str(self.path(name))
         data = files.read(path, MOST, regular=True)
-        if files.read(str(self.sum_path(name)), 10_000, regular=True) != sum_line(name, data):
+        if self.sum_of(name) != sum_line(name, data):
             again = "take another folder" if name == INPUT else "delete it to have it made again"
             raise Refused(f"{path} isn't what was left there: put that back, or {again}")
         return data
@@ -53,16 +56,19 @@ class Folder:
         left more than that, or nothing yet."""
         path = self.path(INPUT)
         others = {*self.path("sums").rglob("*.sha256")} - {self.sum_path(INPUT)}
+        another = Refused(f"{path} is another input; take another folder")
         if data is None or path.exists():
             there = files.read(str(path), MOST, regular=True)
             if data not in (None, there) and (others or not self.has(INPUT)):
-                raise Refused(f"{path} is another input; take another folder")
+                raise another
             data = there if data is None else data
-        if self.has(INPUT) and others:
+        if others and self.has(INPUT):
             self.read(INPUT)
-        elif not self.sum_path(INPUT).exists() and others:
+        elif others and not self.sum_path(INPUT).exists():
             why = f"it says which input {self.where} belongs to"
             raise Refused(f"{self.sum_path(INPUT)} isn't there; {why}")
+        elif others and self.sum_of(INPUT) != sum_line(INPUT, data):
+            raise another
         else:
             self.leave(INPUT, data)
 
