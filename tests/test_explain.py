@@ -1,4 +1,4 @@
-"""`wdp explain` where every fault of an input is known, or the first one.
+"""`wdp explain` on inputs of which every fault is known, or the first one.
 
 The first line is the refusal: of cases, and of damaged inputs. If faults are planted into an auction, the lines are those that were
 planted, each once and in order. Of auctions without a fault the lines of `explain --bids` are those that comparing all bids finds.

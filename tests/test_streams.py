@@ -1,4 +1,4 @@
-"""The program where its streams and its system fail it: closed streams, full disks, readers that go away, outputs that take few
+"""The program when its streams and its system fail: closed streams, full disks, readers that go away, outputs that take few
 bytes, inputs that fail or don't end, no threads, one processor, little stack and memory, refused requests; and the threads that it
 starts. Each run ends by itself, with its status, one line at most on standard error, and nothing on standard output where it is refused."""
 

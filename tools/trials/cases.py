@@ -1,4 +1,4 @@
-"""The cases: a folder of cases/ has the files stdin, stdout, args (a word a line), and, where they differ from nothing and 0,
+"""The cases: a folder of cases/ has the files stdin, stdout, args (a word a line), and, if they differ from nothing and 0,
 stderr and status."""
 import os
 

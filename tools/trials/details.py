@@ -1,4 +1,4 @@
-"""What `wdp explain` tells behind a refusal: the field or name, what stands there, and what was wanted, as the formats have it."""
+"""What `wdp explain` adds to a refusal: the field or name, its text, and what was wanted, as the formats have it."""
 
 import re
 

@@ -1,4 +1,4 @@
-"""Auctions into which faults are planted, and the lines of `wdp explain` that tell them, worked out from what was planted alone."""
+"""Auctions into which faults are planted, and the lines of `wdp explain` that report them, worked out from what was planted alone."""
 
 from trials.details import of_field, of_name
 

@@ -1,4 +1,4 @@
-"""A folder that keeps what steps leave: each file whole or not at all, with its SHA-256 in `sums/`."""
+"""A folder that keeps what steps leave: each file complete or not at all, with its SHA-256 in `sums/`."""
 import contextlib
 import fcntl
 import hashlib
