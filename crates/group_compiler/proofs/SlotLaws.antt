@@ -10,7 +10,7 @@ use Rattle.std.proofs.lemmas.Slice.Zip.{AllZip-map}
 use Rattle.bid_desk.specs.Closing.{Closing}
 use Rattle.group_compiler.specs.Compiled.{Compiling, GroupProgram, compiled, compiling}
 use Rattle.group_compiler.specs.declared.work.Numbered.{Numbered}
-use Rattle.group_compiler.specs.inside.Slots.{HasMade}
+use Rattle.group_compiler.specs.inside.Ordering.{HasMade}
 
 module _ {X : Type 0} where
   pub get_here : (xs : List X) (i : ℕ) (v : X) → i < length xs → slice_get (slice_set xs i v) i ≡ Some v

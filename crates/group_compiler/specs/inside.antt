@@ -2,5 +2,5 @@ pub mod Claimed
 pub mod Claims
 pub mod Works
 pub mod Making
-pub mod Slots
+pub mod Ordering
 pub mod Sharing

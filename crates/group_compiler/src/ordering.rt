@@ -2,7 +2,7 @@
 
 ghost use Rattle.std.specs.Prelude.{◌≡◌, ◌<◌, ℕ, All, Contains, IfOk, length, map};
 ghost use Rattle.std.specs.List.{AllZip, range_with_len};
-ghost use Rattle.group_compiler.specs.inside.Slots.{HasMade};
+ghost use Rattle.group_compiler.specs.inside.Ordering.{HasMade};
 
 use crate::maker::Maker;
 use crate::work::Numbered;

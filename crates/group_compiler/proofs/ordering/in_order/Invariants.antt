@@ -1,7 +1,7 @@
 use Rattle.std.proofs.Common.{◌≡◌, ℕ, ◌<◌, ◌≤◌, length}
 use Rattle.std.specs.List.{AllZip, range_with_len}
 use Rattle.std.specs.Prelude.{vec_len, vec_capacity}
-use Rattle.group_compiler.specs.inside.Slots.{HasMade}
+use Rattle.group_compiler.specs.inside.Ordering.{HasMade}
 use Rattle.group_compiler.proofs.ordering.in_order.Given as goal
 
 -- the slots from here on are full

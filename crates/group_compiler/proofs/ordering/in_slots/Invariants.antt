@@ -1,6 +1,6 @@
 use Rattle.std.proofs.Common.{◌≡◌, ◌⊎◌, ℕ, ◌<◌, map, length}
 use Rattle.std.specs.Prelude.{All, Contains}
-use Rattle.group_compiler.specs.inside.Slots.{HasMade}
+use Rattle.group_compiler.specs.inside.Ordering.{HasMade}
 use Rattle.group_compiler.proofs.ordering.in_slots.Given as goal
 
 -- each number is still to come, or its slot has what it makes

@@ -1,6 +1,6 @@
 use Rattle.std.proofs.Common.{◌≡◌, ◌∙◌, ◌++◌, ◌∷◌, [], Some, None, true, append_assoc, add-one, refl, ap, rules}
 use Rattle.outcome.proofs.BackLaws.{back_at, back_skips}
-use Rattle.outcome.proofs.winning.add_bid_at.Goals as goal
+use Rattle.outcome.proofs.mapping.add_bid_at.Goals as goal
 
 pub returns-then-not-value : goal.returns-then-not-value
 returns-then-not-value c =

@@ -1,4 +1,4 @@
-use Rattle.outcome.proofs.winning.map_back.Goals as goal
+use Rattle.outcome.proofs.mapping.map_back.Goals as goal
 
 pub by_rising_bidder-requires : goal.by_rising_bidder-requires
 by_rising_bidder-requires c = record { map = rw (c.deref.ensures.value, c.in_ok-bids.ensures) c.requires.map }

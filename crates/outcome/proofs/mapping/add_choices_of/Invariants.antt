@@ -1,6 +1,6 @@
 use Rattle.std.proofs.Common.{◌≡◌, ◌==◌, ◌++◌, take}
 use Rattle.std.specs.Prelude.{filter}
-use Rattle.outcome.proofs.winning.add_choices_of.Given as goal
+use Rattle.outcome.proofs.mapping.add_choices_of.Given as goal
 
 -- the bidder's choices so far are added
 abbrev pub invariant-loop-choice : goal.invariant-loop-choice
