@@ -14,6 +14,7 @@ ghost use Rattle.answers.specs.Claimed.{IsTooWideClaim};
 ghost use Rattle.answers.specs.SolutionWinners.{winners_of_groups};
 ghost use Rattle.answers.specs.inside.Claiming.{IsWonFirst};
 
+use crate::limits::within_limits;
 use crate::winning::won_without;
 use auction_input::{Auction, PartKind, Refusal};
 use bid_desk::ClosedBook;
@@ -71,8 +72,7 @@ fn only(
         (held auction.now).ties) r
         ⊎ IsTooWideClaim (held auction.now) r) }
 {
-    // Its contract says that the book is within limits.
-    let _within_limits = auction.book.rules();
+    within_limits(&auction.book);
     let program = compiler.program_without(alloc, auction.groups.group(1))?;
     // The solution was taken before, so that only memory can refuse it now.
     let Ok(point) = read_solution(alloc, auction.solutions[0], &program) else {

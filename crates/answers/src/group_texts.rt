@@ -14,6 +14,7 @@ ghost use Rattle.bid_desk.specs.Sale.{sale_of};
 ghost use Rattle.answers.specs.declared.group_texts.RunFault.TheVariants.{Sink as FaultOfSink};
 ghost use Rattle.answers.specs.GroupTexts.{FailsAsReported, StopsAsReported, program_bytes, programs_bytes};
 
+use crate::limits::within_limits;
 use auction_terms::{Group, Groups};
 use bid_desk::ClosedBook;
 use byte_sinks::{Sink, WriteFault, Writer};
@@ -54,8 +55,7 @@ fn add_program<S: Sink>(writer: &mut Writer<'_, S>, book: &ClosedBook, pages: &P
     ensures { Adds S.taken S.failures writer.old writer.new
         (text (program_without book.now group.now)) }
 {
-    // Its contract says that the book's rules are within limits, which the lines of a program ask for.
-    let _rules = book.rules();
+    within_limits(book);
     add_group_text(writer, pages, group);
 }
 

@@ -7,6 +7,7 @@ mod commands;
 mod file_lines;
 mod group_texts;
 pub mod laws;
+mod limits;
 mod lowest;
 mod messages;
 mod options;

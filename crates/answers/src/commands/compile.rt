@@ -16,6 +16,7 @@ ghost use Rattle.answers.specs.GroupTexts.{FailsAsReported, StopsAsReported, pro
 ghost use Rattle.auction_input.specs.Settled.{held};
 
 use crate::group_texts::{RunFault, write_programs};
+use crate::limits::within_limits;
 use auction_input::{Auction, Refusal, Request};
 use auction_terms::Groups;
 use bid_desk::ClosedBook;
@@ -53,8 +54,7 @@ pub fn run_compile<R: Threads + Wait + Sync, G: Gate + Sync, S: Sink>(
     ensures succeeded { OnOk result (S.failures out.new ≡ S.failures out.old) }
     ensures past { OnOk result (AreAllPast (length groups.now) (G.is_past gate.now)) }
 {
-    // Its contract says that the book is within limits, which the headline's clauses ask for.
-    let _rules = book.rules();
+    within_limits(book);
     match Pages::of_book(rt, alloc, book, groups.count(), workers, gate) {
         Ok(pages) => write_programs(book, &pages, groups, out),
         Err(AllocError) => Err(RunFault::OutOfMemory { written: 0 }),

@@ -9,6 +9,7 @@ ghost use Rattle.auction_terms.specs.declared.limits.TheConstants.{MOST_WORKERS}
 ghost use Rattle.bid_desk.specs.Sale.{sale_of};
 
 use crate::group_texts::write_program_without;
+use crate::limits::within_limits;
 use auction_input::{Auction, Refusal, Request};
 use auction_terms::{Groups, MOST_WORKERS};
 use bid_desk::ClosedBook;
@@ -47,8 +48,7 @@ pub fn write_program_of_all<R: Threads + Wait + Sync + AllocGlobal, S: Sink>(
 {
     let alloc: Global = rt.alloc();
     let book = &auction.book;
-    // Its contract says that the book is within limits, which a faithful text asks for.
-    let _rules = book.rules();
+    within_limits(book);
     let groups = Groups::only_empty(alloc)?;
     let workers = page_workers(rt, book);
     let pages = Pages::of_book(rt, alloc, book, groups.count(), workers, &OpenGate)?;

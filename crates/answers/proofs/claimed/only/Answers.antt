@@ -32,7 +32,7 @@ returns-in-Err-clause-refuses c =
 pub only_or_rival-requires : goal.only_or_rival-requires
 only_or_rival-requires c =
     let auction = c.args.auction.now in
-    feasible-of (sale_of auction.book) 1 [] (slice_index_or (bytes_of auction.solutions.items) 0 []) c.args.first.now c.rules-within_limits.ensures.book c.requires.won.won
+    feasible-of (sale_of auction.book) 1 [] (slice_index_or (bytes_of auction.solutions.items) 0 []) c.args.first.now c.within_limits.ensures.book c.requires.won.won
 
 pub returns-clause-parsed : goal.returns-clause-parsed
 returns-clause-parsed c =

@@ -12,7 +12,7 @@ use Rattle.answers.proofs.winning.won_by_all.Goals as goal
 pub allocation_won-requires : goal.allocation_won-requires
 allocation_won-requires c =
     let book = c.args.compiler.now.book in
-    let within = subst (λ (book : Closing). IsBook (lots_in book.rules) (book_of book)) c.book.ensures c.rules-within_limits.ensures.book in
+    let within = subst (λ (book : Closing). IsBook (lots_in book.rules) (book_of book)) c.book.ensures c.within_limits.ensures.book in
     rw (c.in_ok-program.ensures, c.book-2.ensures) (presolved_is_faithful (lots_in book.rules) (book_of book) (has c.args.group.now) within)
 
 pub returns-clause-won : goal.returns-clause-won

@@ -25,7 +25,7 @@ returns-clause-written g c =
 pub returns-clause-faithful : goal.returns-clause-faithful
 returns-clause-faithful g c =
     let book = c.args.auction.now.book in
-    presolved_text_is_faithful (lots_in book.rules) (book_of book) (has []) c.rules-rules.ensures.lots c.rules-rules.ensures.book
+    presolved_text_is_faithful (lots_in book.rules) (book_of book) (has []) c.within_limits.ensures.lots c.within_limits.ensures.book
 
 pub returns-in_err-groups-clause-refused : goal.returns-in_err-groups-clause-refused
 returns-in_err-groups-clause-refused g c =
