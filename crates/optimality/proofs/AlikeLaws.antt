@@ -22,7 +22,7 @@ use Rattle.optimality.specs.Branches.{Branch, At, cuts_above, closed}
 use Rattle.optimality.specs.Sizes.{IsLargeFrom, IsLargeLine, IsLargeParsed, cut_size, leaf_size, size_of}
 use Rattle.optimality.specs.inside.Sizes.{form_size}
 use Rattle.optimality.specs.Verdict.{behind as after_line, taken, fault_from}
-use Rattle.optimality.specs.declared.open_split.OpenSplit.{OpenSplit}
+use Rattle.optimality.specs.declared.checker.OpenSplit.{OpenSplit}
 use Rattle.optimality.specs.inside.Adding.{AreAlike, AreNoLarger}
 use Rattle.optimality.specs.inside.Branches.{branch_of, GoOnAlike}
 use Rattle.optimality.proofs.ColumnSums.{cuts_number, cuts_right, least_sum, rows_number, rows_right}

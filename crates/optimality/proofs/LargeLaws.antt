@@ -20,8 +20,8 @@ use Rattle.optimality.proofs.LineLaws.{line_by_word}
 use Rattle.optimality.specs.Shows.{leaf_value, may_have}
 use Rattle.optimality.specs.Sizes.{IsLargeFrom, IsLargeLine}
 use Rattle.optimality.specs.Verdict.{behind, fault_from, taken}
-use Rattle.optimality.specs.declared.limit.Limit.TheVariants as limits
-use Rattle.optimality.specs.declared.open_split.OpenSplit.{OpenSplit}
+use Rattle.optimality.specs.declared.refusal.Limit.TheVariants as limits
+use Rattle.optimality.specs.declared.checker.OpenSplit.{OpenSplit}
 use Rattle.optimality.specs.declared.refusal.Refusal.{Refusal}
 use Rattle.optimality.specs.declared.refusal.Refusal.TheVariants.{Stopped, Fault}
 use Rattle.optimality.specs.inside.Answers.{IsRefusedCertificate}

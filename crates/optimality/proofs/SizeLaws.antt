@@ -11,7 +11,7 @@ use Rattle.optimality.specs.inside.Sizes.{form_size}
 use Rattle.optimality.specs.inside.Adding.{form_at, form_given}
 use Rattle.optimality.specs.inside.Holding.{cut_of, cuts_of}
 use Rattle.optimality.specs.Reduced.{right_side_at}
-use Rattle.optimality.specs.declared.open_split.OpenSplit.{OpenSplit}
+use Rattle.optimality.specs.declared.checker.OpenSplit.{OpenSplit}
 use Rattle.program_rows.specs.Program.{TableRow}
 use Rattle.optimality.proofs.Products.{times-sum}
 use Rattle.std.specs.List.{zip}

@@ -4,7 +4,7 @@ use Rattle.std.specs.Prelude.{◌*ℤ◌, if◌then◌else◌}
 use borrow.Author.Differences.{product_is, neg_is, same_in}
 use Rattle.std.proofs.lemmas.Int.{ints}
 use Rattle.program_rows.specs.Program.{TableRow}
-use Rattle.optimality.specs.declared.open_split.OpenSplit.{OpenSplit}
+use Rattle.optimality.specs.declared.checker.OpenSplit.{OpenSplit}
 use Rattle.optimality.specs.Certificates.{Form, side, number_in}
 use Rattle.optimality.specs.Reduced.{right_side_at}
 use Rattle.optimality.specs.inside.Adding.{AreGivenMore, number_at, cuts_given, form_at, form_given, rows_given}

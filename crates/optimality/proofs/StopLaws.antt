@@ -1,8 +1,8 @@
 -- Where TooLarge is answered, handed on.
 use Rattle.std.proofs.Common.{◌≡◌, Result, Ok, Err, subst, sym}
 use Rattle.std.specs.Prelude.{IsErrAnd}
-use Rattle.optimality.specs.declared.limit.Limit.{Limit}
-use Rattle.optimality.specs.declared.limit.Limit.TheVariants.{Memory, TooLarge}
+use Rattle.optimality.specs.declared.refusal.Limit.{Limit}
+use Rattle.optimality.specs.declared.refusal.Limit.TheVariants.{Memory, TooLarge}
 use Rattle.optimality.specs.inside.Stopping.{TooLargeOnly}
 
 -- by a last call

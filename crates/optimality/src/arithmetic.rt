@@ -4,7 +4,7 @@ ghost use Rattle.std.specs.Int.{w64};
 ghost use Rattle.std.specs.Prelude.{◌≡◌, ◌+◌, ◌*◌, ◌^◌, ◌≤◌, ◌≤ℤ◌, ◌+ℤ◌, ◌-ℤ◌, ◌*ℤ◌, FitsSigned, IfOk, IfSome, MatchOption, if◌then◌else◌, neg_ℤ, pos, unsigned_abs};
 ghost use Rattle.optimality.specs.inside.Stopping.{TooLargeOnly};
 
-use crate::limit::Limit;
+use crate::refusal::Limit;
 
 /// 2^126.
 const MOST: i128 = 85_070_591_730_234_615_865_843_651_857_942_052_864;

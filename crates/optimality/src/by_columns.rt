@@ -1,28 +1,87 @@
 //! The least that all columns come to, by what cuts and rows give each of them. Each call answers nothing if a number is beyond what it
 //! takes, or if there is no memory.
 
+ghost use Rattle.std.specs.Prelude.{◌≡◌, IfSome, ◌<◌, ◌+ℤ◌, ◌*ℤ◌, FitsSigned, MatchOption, Some, length, slice_get};
+ghost use Rattle.optimality.specs.inside.Adding.{AreGivenMore, AreNone, AreOf, HaveRows, HaveAll, least_with};
+ghost use Rattle.optimality.specs.inside.ByEntries.{columns_given, entries_given};
 ghost use Rattle.std.specs.Int.{w128};
-ghost use Rattle.std.specs.Prelude.{◌≡◌, ◌<◌, ◌+ℤ◌, ◌*ℤ◌, FitsSigned, IfSome, MatchOption, Some, length, slice_get};
 ghost use Rattle.std.specs.List.{enumerate_from};
 ghost use Rattle.std.specs.Option.{option_map};
 ghost use Rattle.optimality.specs.Certificates.{sum_of};
-ghost use Rattle.optimality.specs.inside.Adding as adding;
-ghost use Rattle.optimality.specs.inside.Adding.{AreNone, HaveAll, HaveRows, least_with};
 ghost use Rattle.optimality.specs.inside.Checking.{IsPrepared};
 ghost use Rattle.optimality.specs.inside.Holding.{cuts_of};
 ghost use Rattle.optimality.specs.inside.RowForms.{forms_held, row_forms as forms_of};
+ghost use Rattle.optimality.specs.inside.Adding as adding;
 ghost use Rattle.optimality.specs.Reduced as reduced;
 
 use crate::arithmetic::{narrow, plus_multiple};
-use crate::by_entries::add_rows_by_entries;
-use crate::checker::Checker;
-use crate::leaf::Leaf;
+use crate::by_rows::least_part;
+use crate::checker::{Checker, Leaf, OpenSplit};
 use crate::narrow_sums;
-use crate::narrow_sums::{number_at, zeros};
-use crate::open_split::OpenSplit;
-use crate::reduced::least_part;
+use crate::narrow_sums::{add_at, number_at, zeros};
 use crate::row_forms::RowForm;
-use program_rows::Selection;
+use program_rows::{Entries, Selection};
+use std::alloc::Global;
+
+/// Adds a multiplier at the place of each row that the leaf names.
+fn add_multipliers(multipliers: &mut [i64], rows: &[(usize, i128)]) -> Option<()>
+    requires { AreNone multipliers.old }
+    ensures { IfSome result (λ _. AreOf rows.now multipliers.new) }
+{
+    for i in 0..rows.len() {
+        let (row, number) = rows[i];
+        add_at(multipliers, row, narrow(number)?)?;
+    }
+    Some(())
+}
+
+/// A multiplier for each row, 0 for one that the leaf doesn't name; nothing if one of them doesn't fit 64 bits.
+fn row_multipliers(alloc: Global, count: usize, rows: &[(usize, i128)]) -> Option<Vec<i64>>
+    ensures { IfSome result (λ multipliers. AreOf rows.now multipliers.items) }
+{
+    let mut multipliers = zeros(alloc, count)?;
+    add_multipliers(multipliers.as_mut_slice(), rows)?;
+    Some(multipliers)
+}
+
+/// What the rows of a column's entries give it.
+fn given_by_rows(multipliers: &[i64], entries: &Entries<'_>) -> Option<i128>
+    ensures { IfSome result (λ n. n ≡ entries_given multipliers.now entries.now) }
+{
+    let mut sum: i128 = 0;
+    for i in 0..entries.len() {
+        let (row, number) = entries.entry(i);
+        sum = plus_multiple(sum, number_at(multipliers, row), number)?;
+    }
+    Some(sum)
+}
+
+/// Adds to each column what the rows of its entries give it.
+fn add_columns(sums: &mut [i64], program: &Selection<'_>, multipliers: &[i64]) -> Option<()>
+    ensures { IfSome result (λ _. AreGivenMore (columns_given multipliers.now 0
+        program.now.columns) sums.old sums.new) }
+{
+    for column in 0..program.column_count() {
+        let given = given_by_rows(multipliers, &program.entries(column))?;
+        add_at(sums, column, narrow(given)?)?;
+    }
+    Some(())
+}
+
+/// Adds to each column what the rows give it, each times its multiplier.
+fn add_rows_by_entries(
+    alloc: Global,
+    sums: &mut [i64],
+    program: &Selection<'_>,
+    rows: &[(usize, i128)],
+) -> Option<()>
+    ensures { IfSome result (λ _. HaveRows program.now rows.now sums.old sums.new) }
+{
+    // The places of entries lie within the rows.
+    program.well_formed();
+    let multipliers = row_multipliers(alloc, program.row_count(), rows)?;
+    add_columns(sums, program, multipliers.as_slice())
+}
 
 /// Adds to each column what the rows give it, each times its multiplier, by the forms of the rows.
 fn add_rows_by_forms(

@@ -1,4 +1,7 @@
+//! What a certificate is checked with: the program, its rows, the splits that are open, and a leaf.
+
 use crate::row_forms::RowForms;
+use crate::sums::WideForm;
 use program_rows::{NameSet, Selection};
 use std::alloc::Global;
 use std::cell::Cell;
@@ -18,4 +21,24 @@ pub struct Checker<'p> {
     pub row_forms: Option<RowForms>,
     /// The bound that the certificate is to show.
     pub least: i128,
+}
+
+/// A split, one side of which is closed.
+#[derive(Drop)]
+pub struct OpenSplit {
+    /// Columns with their numbers, each once.
+    pub form: WideForm,
+    pub most: i128,
+    /// Whether it is the second side, where the sum is above `most`.
+    pub is_high: bool,
+}
+
+/// A leaf of a certificate.
+#[derive(Drop)]
+pub struct Leaf {
+    pub scale: u64,
+    /// One for each open split.
+    pub multipliers: Vec<u64>,
+    /// Places of rows, each with its multiplier.
+    pub rows: Vec<(usize, i64)>,
 }

@@ -12,18 +12,13 @@ ghost use Rattle.optimality.specs.inside.Stopping.{TooLargeOnly, given_size, rig
 ghost use Rattle.optimality.specs.Sizes.{costs_size, leaf_size};
 ghost use Rattle.optimality.specs.Shows as shows;
 
-use crate::added_up::added_up;
 use crate::arithmetic::{minus, plus, times};
 use crate::by_columns::least_by_columns;
-use crate::checker::Checker;
-use crate::cuts::{add_cuts, cuts_right};
-use crate::leaf::Leaf;
-use crate::limit::Limit;
-use crate::open_split::OpenSplit;
-use crate::reduced::least_total;
+use crate::by_rows::{add_cuts, add_rows, cuts_right, least_total, rows_right};
+use crate::checker::{Checker, Leaf, OpenSplit};
+use crate::refusal::Limit;
 use crate::row_forms::{RowForm, RowForms, row_forms};
-use crate::rows::{add_rows, rows_right};
-use crate::sums::Sums;
+use crate::sums::{Sums, added_up};
 use program_rows::Selection;
 
 /// Adds up what cuts and rows give the columns.

@@ -1,31 +1,127 @@
-//! One line of a certificate.
+//! One line of a certificate: a split or a leaf, and the tree up to it.
 
-ghost use Rattle.std.specs.Prelude.{◌≡◌, ◌≤◌, ◌==◌, ◌^◌, ◌-ℤ◌, ◌*ℤ◌, IfOk, bytes_eq, int_lt, length, not, pos, slice_index};
+ghost use Rattle.std.specs.Prelude.{◌≡◌, IfOk, false, length, IfErr, ◌≤◌, ◌==◌, ◌^◌, ◌-ℤ◌, ◌*ℤ◌, bytes_eq, int_lt, not, pos, slice_index};
 ghost use Rattle.auction_terms.specs.LineFields.{fields, is_skipped};
-ghost use Rattle.optimality.specs.inside.Answers.{AnswersClosed};
-ghost use Rattle.optimality.specs.inside.Branches.{AnswersAlike, branches_of, opened};
-ghost use Rattle.optimality.specs.Branches.{cuts_above};
+ghost use Rattle.optimality.specs.inside.Adding.{AreAlike, AreNoLarger};
+ghost use Rattle.optimality.specs.inside.Answers.{AnswersSeen, IsStopped, AnswersClosed};
 ghost use Rattle.optimality.specs.inside.Checking.{IsPrepared};
-ghost use Rattle.optimality.specs.inside.Stopping.{RefusedLargeOnly, TooLargeOnly};
+ghost use Rattle.optimality.specs.inside.Stopping.{TooLargeOnly, RefusedLargeOnly};
+ghost use Rattle.optimality.specs.LineMeaning.{SplitLine, BoundLine, parsed_certificate_line};
+ghost use Rattle.optimality.specs.inside.LineMeaning.{split_behind, bound_behind};
+ghost use Rattle.std.specs.List.{list_all};
+ghost use Rattle.optimality.specs.inside.Branches.{branches_of, opened, AnswersAlike};
+ghost use Rattle.optimality.specs.Branches.{closed, cuts_above};
 ghost use Rattle.auction_terms.specs.Stages.{and_then};
-ghost use Rattle.optimality.specs.LineMeaning.{parsed_certificate_line};
-ghost use Rattle.optimality.specs.inside.LineMeaning.{bound_behind, split_behind};
 ghost use Rattle.optimality.specs.Shows.{leaf_value};
 ghost use Rattle.optimality.specs.Sizes.{IsLargeLine, IsLargeParsed, leaf_size};
 ghost use Rattle.optimality.specs.Verdict.{behind, taken};
+ghost use Rattle.optimality.specs.Shows as shows;
 
-use crate::checker::Checker;
-use crate::closing::close;
-use crate::leaf::Leaf;
-use crate::leaf_line::take_leaf;
+use crate::checker::{Checker, Leaf, OpenSplit};
 use crate::leaf_value::is_above;
-use crate::limit::Limit;
-use crate::open_split::OpenSplit;
-use crate::refusal::Refusal;
-use crate::split_line::{opened_split, take_split};
-use crate::sums::Sums;
+use crate::refusal::{Limit, Refusal};
+use crate::row_forms::Form;
+use crate::sums::{Sums, added_up};
+use crate::terms::{Named, take_natural, take_naturals, take_number, take_terms};
 use auction_terms::next_field;
-use program_rows::CertificateFaultKind;
+use program_rows::{CertificateFaultKind, RowKind, Selection};
+use std::alloc::Global;
+
+/// A split as its line tells it.
+#[derive(Drop)]
+pub struct ParsedSplit {
+    pub form: Form,
+    pub most: i64,
+}
+
+/// The split that a text tells.
+fn take_split(checker: &Checker, text: &[u8]) -> Result<ParsedSplit, Refusal>
+    requires { IsPrepared checker.now }
+    ensures { AnswersSeen (λ split. SplitLine split.form.items split.most) result
+        (split_behind checker.now.program.now (fields text.now)) }
+{
+    let Some(token) = next_field(text) else {
+        return Err(Refusal::Fault(CertificateFaultKind::Fields));
+    };
+    let most = take_number(token.text)?;
+    let form = take_terms(checker, Named::Columns, token.rest)?;
+    Ok(ParsedSplit { form, most })
+}
+
+/// Opens a split at its first side, with the numbers of each column added up: a leaf below it goes over each column once.
+fn opened_split(alloc: Global, sums: &mut Sums, parsed: &ParsedSplit) -> Result<OpenSplit, Limit>
+    ensures alike { IfOk result (λ split. AreAlike split.form.items parsed.now.form.items) }
+    ensures size { IfOk result (λ split. AreNoLarger split.form.items parsed.now.form.items) }
+    ensures most { IfOk result (λ split. split.most ≡ parsed.now.most) }
+    ensures low { IfOk result (λ split. split.is_high ≡ false) }
+    ensures too_large { TooLargeOnly ⊥ result }
+{
+    let form = added_up(alloc, sums, parsed.form.as_slice())?;
+    Ok(OpenSplit {
+        form,
+        most: i128::from(parsed.most),
+        is_high: false,
+    })
+}
+
+/// Whether there is a row at this place that may have the multiplier.
+fn may_have(program: &Selection<'_>, row: usize, multiplier: i64) -> bool
+    ensures { result ≡ shows.may_have program.now.rows (row, multiplier) }
+{
+    if row >= program.row_count() {
+        return false;
+    }
+    match program.row_kind(row) {
+        RowKind::AtMost => multiplier >= 0,
+        RowKind::AtLeast => multiplier <= 0,
+        RowKind::Equal => true,
+    }
+}
+
+fn are_signed(program: &Selection<'_>, rows: &[(usize, i64)]) -> bool
+    ensures { result ≡ list_all (shows.may_have program.now.rows) rows.now }
+{
+    rows.iter().all(|t| may_have(program, t.0, t.1))
+}
+
+/// The leaf that a text tells, below as many splits as `depth`.
+fn take_leaf(checker: &Checker, depth: usize, text: &[u8]) -> Result<Leaf, Refusal>
+    requires { IsPrepared checker.now }
+    ensures parsed { AnswersSeen (λ leaf. BoundLine leaf.scale leaf.multipliers.items leaf.rows.items)
+        result (bound_behind checker.now.program.now depth (fields text.now)) }
+    ensures count { IfOk result (λ leaf. length leaf.multipliers.items ≡ depth) }
+{
+    let Some(token) = next_field(text) else {
+        return Err(Refusal::Fault(CertificateFaultKind::Fields));
+    };
+    let scale = take_natural(token.text)?;
+    let naturals = take_naturals(checker.alloc, depth, token.rest)?;
+    let rows = take_terms(checker, Named::Rows, naturals.rest)?;
+    if !are_signed(checker.program, rows.as_slice()) {
+        return Err(Refusal::Fault(CertificateFaultKind::Sign));
+    }
+    Ok(Leaf {
+        scale,
+        multipliers: naturals.numbers,
+        rows,
+    })
+}
+
+/// Goes on to the next side that is to come. Whether there is none.
+fn close(splits: &mut Vec<OpenSplit>) -> Result<bool, Refusal>
+    ensures open { IfOk result (λ is_last. closed (branches_of splits.old.items)
+        ≡ opened is_last splits.new.items) }
+    ensures stopped { IfErr result IsStopped }
+{
+    while let Some(mut split) = splits.pop() {
+        if !split.is_high {
+            split.is_high = true;
+            splits.push(split)?;
+            return Ok(false);
+        }
+    }
+    Ok(true)
+}
 
 fn is_word(text: &[u8], word: &[u8]) -> bool
     ensures { result ≡ bytes_eq text.now word.now }

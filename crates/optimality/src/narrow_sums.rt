@@ -9,7 +9,7 @@ ghost use Rattle.optimality.specs.inside.Holding.{cut_of, cuts_of};
 ghost use Rattle.optimality.specs.inside.RowForms.{forms_held};
 
 use crate::arithmetic::{narrow, plus_multiple, signed};
-use crate::open_split::OpenSplit;
+use crate::checker::OpenSplit;
 use crate::row_forms::RowForm;
 use std::alloc::Global;
 

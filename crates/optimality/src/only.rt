@@ -10,12 +10,10 @@ ghost use Rattle.program_rows.specs.declared.certificate_fault.CertificateFaultK
 ghost use Rattle.program_rows.specs.Only.{IsOnlyLeast};
 ghost use Rattle.program_rows.specs.Points.{IsPoint, objective, sum_at_one};
 
-use crate::checker::Checker;
-use crate::forms::WideForm;
-use crate::limit::Limit;
-use crate::open_split::OpenSplit;
+use crate::checker::{Checker, OpenSplit};
 use crate::reader::{check_lines, new_checker, refused};
-use crate::refusal::Refusal;
+use crate::refusal::{Limit, Refusal};
+use crate::sums::WideForm;
 use program_rows::{Bounds, CertificateFault, Point, Program, Selection};
 use std::alloc::{AllocError, Global};
 

@@ -1,6 +1,6 @@
-//! One pass over the lines of a certificate.
+//! The pass over a certificate's lines, and what it shows.
 
-ghost use Rattle.std.specs.Prelude.{◌≡◌, ◌⊎◌, IfErr, IfOk, IfSome, Ok, OnOk, Some};
+ghost use Rattle.std.specs.Prelude.{◌≡◌, ◌⊎◌, IfErr, IfOk, IfSome, Ok, OnOk, Some, length};
 ghost use Rattle.optimality.specs.Answers.{IsLimit, IsVerdict};
 ghost use Rattle.optimality.specs.inside.Answers.{IsRefusedCertificate};
 ghost use Rattle.optimality.specs.inside.Checking.{AreRowsOf, IsPrepared};
@@ -11,17 +11,17 @@ ghost use Rattle.optimality.specs.CertificateText.{IsShownBy};
 ghost use Rattle.optimality.specs.Verdict.{certificate_fault, fault_from};
 ghost use Rattle.optimality.specs.inside.Branches.{branches_of};
 ghost use Rattle.auction_terms.specs.Lines.{lines_of};
+ghost use Rattle.program_rows.specs.Faithful.{IsLeast};
+ghost use Rattle.program_rows.specs.Points.{objective};
 
-use crate::checker::Checker;
-use crate::limit::Limit;
+use crate::checker::{Checker, OpenSplit};
 use crate::lines::take_any;
-use crate::names::row_names;
-use crate::open_split::OpenSplit;
-use crate::refusal::Refusal;
+use crate::refusal::{Limit, Refusal};
 use crate::row_forms::{RowForms, row_forms};
 use crate::sums::Sums;
+use crate::terms::row_names;
 use auction_terms::LineReader;
-use program_rows::{CertificateFault, CertificateFaultKind, Program, Selection};
+use program_rows::{CertificateFault, CertificateFaultKind, Point, Program, Selection};
 use std::alloc::{AllocError, Global};
 use std::cell::Cell;
 
@@ -155,4 +155,21 @@ pub fn check_certificate(
 {
     let selection = Selection::whole(program);
     check_selection(alloc, text, &selection, least)
+}
+
+/// Checks that a text tells a certificate that no point of the program has a lower objective than these values.
+pub fn check_optimum(
+    alloc: Global,
+    text: &[u8],
+    program: &Program,
+    values: &Point,
+) -> Result<(), CertificateFault>
+    requires { length values.now ≡ length program.now.columns }
+    ensures least { OnOk result (IsLeast program.now values.now) }
+    ensures first { IsVerdict result (certificate_fault program.now
+        (objective program.now values.now) text.now) }
+    ensures too_large { IfErr result (λ fault. fault.kind ≡ TooLarge → IsLargeAt program.now
+        (objective program.now values.now) text.now fault.line) }
+{
+    check_certificate(alloc, text, program, program.objective(values))
 }

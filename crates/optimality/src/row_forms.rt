@@ -6,7 +6,7 @@ ghost use Rattle.optimality.specs.inside.Checking.{AreRowsOf};
 ghost use Rattle.optimality.specs.inside.RowForms as rows;
 ghost use Rattle.optimality.specs.inside.RowForms.{forms_held, with_columns, with_entries, with_term};
 
-use crate::reduced::least_alone;
+use crate::by_rows::least_alone;
 use program_rows::{Entries, Selection};
 use std::alloc::{AllocError, Global};
 

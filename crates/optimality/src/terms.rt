@@ -1,22 +1,188 @@
-//! Names, each with a number.
+//! Names and numbers of a line.
 
-ghost use Rattle.std.specs.Prelude.{◌≡◌, Ok, bytes_eq, position};
-ghost use Rattle.std.specs.Option.{ok_or};
-ghost use Rattle.auction_terms.specs.LineFields.{fields};
+ghost use Rattle.std.specs.Prelude.{Err, Ok, if◌then◌else◌, int_lt, nat_abs, pos, ◌≡◌, IfOk, length, bytes_eq, position};
+ghost use Rattle.program_rows.specs.declared.certificate_fault.CertificateFaultKind.TheVariants.{Sign};
+ghost use Rattle.auction_terms.specs.Decimals.{number};
 ghost use Rattle.optimality.specs.inside.Answers.{AnswersSeen};
+ghost use Rattle.optimality.specs.LineMeaning.{parsed_natural, parsed_integer, parsed_naturals, named_numbers};
+ghost use Rattle.auction_terms.specs.LineFields.{fields};
+ghost use Rattle.std.specs.List.{position_or_len};
+ghost use Rattle.auction_terms.specs.Lines.{bytes_of};
+ghost use Rattle.std.specs.Option.{ok_or};
 ghost use Rattle.optimality.specs.inside.Checking.{IsPrepared};
 ghost use Rattle.optimality.specs.inside.Naming.{nameable, unknown_of};
 ghost use Rattle.auction_terms.specs.Stages.{and_then};
-ghost use Rattle.auction_terms.specs.Decimals.{number};
 ghost use Rattle.program_rows.specs.ProgramNames.{row_names};
-ghost use Rattle.optimality.specs.LineMeaning.{parsed_integer, named_numbers};
+ghost use Rattle.program_rows.specs.ProgramNames as of_program;
 
 use crate::checker::Checker;
-use crate::names::column_place;
-use crate::numbers::take_number;
 use crate::refusal::Refusal;
-use auction_terms::next_field;
-use program_rows::{CertificateFaultKind, place_of};
+use auction_terms::{Choice, NumberFault, next_field, read_number};
+use indexmap::IndexSet;
+use program_rows::{CertificateFaultKind, NameSet, Seeded, Selection, bid_named, place_of};
+use std::alloc::{AllocError, Global};
+use std::cell::Cell;
+
+pub fn take_number(token: &[u8]) -> Result<i64, Refusal>
+    ensures { AnswersSeen (λ n. n) result (parsed_integer (number token.now)) }
+{
+    match read_number(token) {
+        Ok(number) => Ok(number),
+        Err(NumberFault::NumberText) => Err(Refusal::Fault(CertificateFaultKind::NumberText)),
+        Err(NumberFault::NumberRange) => Err(Refusal::Fault(CertificateFaultKind::NumberRange)),
+        Err(NumberFault::NotWhole) => Err(Refusal::Fault(CertificateFaultKind::NumberText)),
+    }
+}
+
+fn natural(n: i64) -> Result<u64, Refusal>
+    ensures { AnswersSeen (λ m. m) result (if int_lt n (pos 0) then Err Sign else Ok (nat_abs n)) }
+{
+    if n < 0 {
+        return Err(Refusal::Fault(CertificateFaultKind::Sign));
+    }
+    Ok(n as u64)
+}
+
+pub fn take_natural(token: &[u8]) -> Result<u64, Refusal>
+    ensures { AnswersSeen (λ n. n) result (parsed_natural token.now) }
+{
+    natural(take_number(token)?)
+}
+
+/// Numbers, and what follows them in their line.
+#[derive(Drop)]
+pub struct Naturals<'t> {
+    pub numbers: Vec<u64>,
+    pub rest: &'t [u8],
+}
+
+/// The first numbers of a text, as many as `count`.
+pub fn take_naturals(alloc: Global, count: usize, text: &[u8]) -> Result<Naturals<'_>, Refusal>
+    ensures parsed { AnswersSeen (λ naturals. (naturals.numbers.items, fields naturals.rest.now))
+        result (parsed_naturals count (fields text.now)) }
+    ensures count { IfOk result (λ naturals. length naturals.numbers.items ≡ count) }
+{
+    let mut numbers = Vec::new(alloc);
+    let mut rest = text;
+    for i in 0..count {
+        let Some(token) = next_field(rest) else {
+            return Err(Refusal::Fault(CertificateFaultKind::Fields));
+        };
+        let number = take_natural(token.text)?;
+        numbers.push(number)?;
+        rest = token.rest;
+    }
+    Ok(Naturals { numbers, rest })
+}
+
+/// The seed of the names of all rows, one after the other.
+fn row_seed(alloc: Global, program: &Selection<'_>) -> Result<Seeded, AllocError> {
+    let mut names = Vec::new(alloc);
+    for row in 0..program.row_count() {
+        names.extend_from_slice(program.row_name(row))?;
+    }
+    Ok(Seeded::by_text(names.as_slice()))
+}
+
+/// The names of the rows, in the order of the program.
+pub fn row_names<'s>(alloc: Global, program: &'s Selection<'_>) -> Result<NameSet<'s>, AllocError>
+    ensures { IfOk result (λ names. bytes_of names.keys ≡ of_program.row_names program.now) }
+{
+    // Names differ, so that a set of them has each at its place.
+    program.well_formed();
+    let seed = row_seed(alloc, program)?;
+    let mut names = IndexSet::with_capacity_and_hasher(alloc, program.row_count(), seed)?;
+    for row in 0..program.row_count() {
+        names.insert(program.row_name(row))?;
+    }
+    Ok(names)
+}
+
+fn is_same(name: &[u8], other: &[u8]) -> bool
+    ensures { result ≡ bytes_eq name.now other.now }
+{
+    name == other
+}
+
+fn is_column(program: &Selection<'_>, column: usize, name: &[u8]) -> bool {
+    if column >= program.column_count() {
+        return false;
+    }
+    is_same(name, program.column_name(column))
+}
+
+/// Whether the bid of a column comes before another one.
+fn is_before(found: Option<Choice>, bid: Choice) -> bool {
+    match found {
+        Some(other) => (other.bidder, other.bid) < (bid.bidder, bid.bid),
+        None => false,
+    }
+}
+
+/// Where the column of a bid is, if columns rise by their bids.
+fn place_of_bid(program: &Selection<'_>, bid: Choice) -> usize {
+    let mut low = 0;
+    let mut high = program.column_count();
+    while low < high {
+        let middle = low + (high - low) / 2;
+        if is_before(program.column_bid(middle), bid) {
+            low = middle + 1;
+        } else {
+            high = middle;
+        }
+    }
+    low
+}
+
+/// Where the column of a name may be: where the next one is expected, or by the bid that the name spells, or else last, as the
+/// column of what all lots are worth is.
+fn guess(program: &Selection<'_>, expected: usize, name: &[u8]) -> usize {
+    if is_column(program, expected, name) {
+        return expected;
+    }
+    match bid_named(name) {
+        Some(bid) => place_of_bid(program, bid),
+        None => program.column_count().saturating_sub(1),
+    }
+}
+
+fn search(program: &Selection<'_>, name: &[u8]) -> usize
+    ensures { result ≡ position_or_len (λ c. bytes_eq name.now c.name) program.now.columns }
+{
+    for column in 0..program.column_count() {
+        if is_same(name, program.column_name(column)) {
+            return column;
+        }
+    }
+    program.column_count()
+}
+
+/// The place of the column of a name, or the number of columns if there is none. The guess is tried first.
+fn place_or_count(program: &Selection<'_>, guess: usize, name: &[u8]) -> usize
+    ensures { result ≡ position_or_len (λ c. bytes_eq name.now c.name) program.now.columns }
+{
+    // Names differ, so that there is no other column of that name.
+    program.well_formed();
+    if guess < program.column_count() {
+        if is_same(name, program.column_name(guess)) {
+            return guess;
+        }
+    }
+    search(program, name)
+}
+
+/// The place of the column of a name, if there is one. It takes no table of names: behind the name that was found last, as `next`
+/// holds, or else by the bid that it spells, it is found at once in a program whose columns rise by their bids.
+fn column_place(program: &Selection<'_>, next: &Cell<usize>, name: &[u8]) -> Option<usize>
+    ensures { result ≡ position (bytes_eq name.now) (of_program.column_names program.now) }
+{
+    let place = place_or_count(program, guess(program, next.get(), name), name);
+    if place >= program.column_count() {
+        return None;
+    }
+    next.set(place.wrapping_add(1));
+    Some(place)
+}
 
 /// What the names of a line are of.
 #[derive(Clone, Copy)]

@@ -3,7 +3,7 @@ use Rattle.std.specs.Prelude.{◌≡◌, ℕ, Result, Ok, Err}
 use Rattle.program_rows.specs.declared.certificate_fault.CertificateFaultKind.{CertificateFaultKind}
 use Rattle.program_rows.specs.declared.certificate_fault.CertificateFaultKind.TheVariants.{OutOfMemory, TooLarge}
 use Rattle.program_rows.specs.declared.certificate_fault.CertificateFault.{CertificateFault}
-use Rattle.optimality.specs.declared.limit.Limit.TheVariants as limits
+use Rattle.optimality.specs.declared.refusal.Limit.TheVariants as limits
 use Rattle.optimality.specs.declared.refusal.Refusal.{Refusal}
 use Rattle.optimality.specs.declared.refusal.Refusal.TheVariants.{Stopped, Fault}
 

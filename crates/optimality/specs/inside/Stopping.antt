@@ -6,8 +6,8 @@ use Rattle.optimality.specs.Certificates.{Form, Cut}
 use Rattle.optimality.specs.Reduced.{right_side_at}
 use Rattle.optimality.specs.Sizes.{coefficients_size, size_of}
 use Rattle.optimality.specs.inside.Sizes.{form_size}
-use Rattle.optimality.specs.declared.limit.Limit.{Limit}
-use Rattle.optimality.specs.declared.limit.Limit.TheVariants.{Memory, TooLarge}
+use Rattle.optimality.specs.declared.refusal.Limit.{Limit}
+use Rattle.optimality.specs.declared.refusal.Limit.TheVariants.{Memory, TooLarge}
 use Rattle.optimality.specs.declared.refusal.Refusal.{Refusal}
 use Rattle.optimality.specs.declared.refusal.Refusal.TheVariants.{Stopped, Fault}
 use Rattle.optimality.specs.inside.Adding.{number_at}

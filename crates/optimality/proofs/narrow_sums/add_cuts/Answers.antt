@@ -1,5 +1,5 @@
 use Rattle.std.proofs.Common.{get_or, pos, rules, subst}
-use Rattle.optimality.specs.declared.open_split.OpenSplit.{OpenSplit}
+use Rattle.optimality.specs.declared.checker.OpenSplit.{OpenSplit}
 use Rattle.optimality.specs.inside.Adding.{AreGivenMore, form_given}
 use Rattle.optimality.specs.inside.Holding.{cut_of}
 use Rattle.optimality.proofs.Steps.{cuts-step}

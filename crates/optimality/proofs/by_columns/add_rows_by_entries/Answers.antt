@@ -1,0 +1,14 @@
+use Rattle.std.proofs.Common.{◌≡◌, ◌∙◌, ℕ, ℤ, List, ap}
+use Rattle.std.proofs.lemmas.Option.{IfSome_then}
+use Rattle.optimality.specs.Certificates.{number_in}
+use Rattle.optimality.specs.inside.Adding.{number_at}
+use Rattle.optimality.proofs.ByColumnLaws.{columns-have}
+use Rattle.optimality.proofs.by_columns.add_rows_by_entries.Goals as goal
+
+pub returns : goal.returns
+returns c =
+    let ys = c.as_slice.result.now in
+    let rows = c.args.rows.now in
+    let same : (row : ℕ) → number_at ys row ≡ number_in rows row =
+    λ row. ap (λ (ns : List ℤ). number_at ns row) c.as_slice.ensures.value ∙ c.in_ok-multipliers.ensures row in
+    IfSome_then c.add_columns.result c.add_columns.ensures (λ _ more. columns-have c.args.program.now rows ys c.args.sums.now c.add_columns.new.sums c.well_formed-2.ensures same more)

@@ -1,8 +1,0 @@
-use Rattle.std.proofs.Common.{◌≡◌, ℕ, drop, ◌+ℤ◌}
-use Rattle.optimality.specs.Certificates.{number_in}
-use Rattle.optimality.specs.inside.Adding.{number_at}
-use Rattle.optimality.proofs.by_entries.add_multipliers.Given as goal
-
--- the multipliers so far, and those of the terms that are left
-abbrev pub invariant-loop-i : goal.invariant-loop-i
-invariant-loop-i l = (row : ℕ) → number_at l.multipliers row +ℤ number_in (drop l.i l.rows) row ≡ number_in l.rows row

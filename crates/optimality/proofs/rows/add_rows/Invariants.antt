@@ -1,8 +1,0 @@
-use Rattle.std.proofs.Common.{◌≡◌, ℕ, drop, ◌+ℤ◌}
-use Rattle.optimality.specs.inside.Adding.{number_at, rows_given}
-use Rattle.optimality.specs.inside.RowForms.{forms_held}
-use Rattle.optimality.proofs.rows.add_rows.Given as goal
-
--- the sums so far, and what the rows that are left give
-abbrev pub invariant-loop-i : goal.invariant-loop-i
-invariant-loop-i l = (q : ℕ) → number_at l.sums.numbers.items q +ℤ rows_given (drop l.i l.rows) (forms_held l.forms) q ≡ number_at l.fn.sums.numbers.items q +ℤ rows_given l.rows (forms_held l.forms) q
