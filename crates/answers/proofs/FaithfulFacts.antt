@@ -11,7 +11,7 @@ use Rattle.auction_input.proofs.AnswerFacts.{ok-behind, ok-is}
 use Rattle.auction_input.proofs.WithinFacts.{auction-within}
 use Rattle.mps_text.specs.FaithfulText.{IsFaithfulText}
 use Rattle.mps_text.specs.Text.{text}
-use Rattle.mps_text.proofs.FaithfulTexts.{presolved_text_is_faithful}
+use Rattle.mps_text.proofs.FaithfulTextFacts.{presolved_text_is_faithful}
 use Rattle.bid_desk.specs.Sale.{Sale}
 use Rattle.answers.specs.FaithfulAnswers.{CompiledIsFaithful, IsFaithfulToSale, TextIsFaithful}
 use Rattle.outcome.specs.Report.{in_turn}

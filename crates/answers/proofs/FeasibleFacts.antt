@@ -19,7 +19,7 @@ use Rattle.answers.specs.SolutionWinners.{winners_of_groups}
 use Rattle.answers.specs.inside.SolutionWinners.{winners}
 use Rattle.answers.specs.Answer.{output_of}
 use Rattle.answers.proofs.CheckFacts.{when-both, when-counted}
-use Rattle.answers.proofs.WinnersFeasible.{feasible-of}
+use Rattle.answers.proofs.WinnersFeasibleFacts.{feasible-of}
 
 each-feasible : (sale : Sale) (n : ℕ) (groups texts : List (List ℕ)) (won : List (List Choice)) → IsBook sale.lots sale.book → length texts ≡ length groups
     → each_in_turn (winners sale) n (zip groups texts) ≡ Ok won → AllZip (IsFeasibleWithout sale) groups won

@@ -5,8 +5,8 @@ use Rattle.std.proofs.lemmas.List.{append-nil, get_or-map, length-map, length-ta
 use Rattle.byte_sinks.specs.Sinks.{Counts, HasFailed, IsFront, SentFront}
 use Rattle.byte_sinks.specs.declared.writer.Writer.{Writer}
 use Rattle.byte_sinks.specs.Adds.{Adds, IsBroken, IsNew, IsSent}
-use Rattle.byte_sinks.proofs.Adding.{Adds-then, counts-new, fails-new, front-behind, sent-whole}
-use Rattle.byte_sinks.proofs.Known.{Counts-then, IsFront-piece, SentFront-from}
+use Rattle.byte_sinks.proofs.AddingFacts.{Adds-then, counts-new, fails-new, front-behind, sent-whole}
+use Rattle.byte_sinks.proofs.KnownByteFacts.{Counts-then, IsFront-piece, SentFront-from}
 use Rattle.bid_desk.specs.Closing.{Closing}
 use Rattle.group_compiler.specs.Compiled.{GroupProgram, compiled}
 use Rattle.answers.specs.GroupTexts.{EndsIn, program_bytes, programs_bytes}

@@ -6,7 +6,7 @@ pub mod CountFacts
 pub mod FaultFacts
 pub mod PricingFacts
 pub mod ReportFacts
-pub mod WinnersFeasible
+pub mod WinnersFeasibleFacts
 pub mod WinningFacts
 pub mod AskedFacts
 pub mod KindsFacts

@@ -1,7 +1,7 @@
 -- How a line is put together.
 use Rattle.std.proofs.Common.{◌≡◌, ℕ, List, Option, Result, Ok, Err, inl, inr, subst, sym, [], IfErr, OnOk, append-nil, MutBor}
 use Rattle.auction_input.specs.Line.{Puts}
-use Rattle.byte_sinks.proofs.Adding.{Adds-then, Adds-to, fails-new, sent-front, sent-whole}
+use Rattle.byte_sinks.proofs.AddingFacts.{Adds-then, Adds-to, fails-new, sent-front, sent-whole}
 use Rattle.byte_sinks.specs.Adds.{Adds, IsBroken, IsNew, IsSent}
 use Rattle.byte_sinks.specs.Sinks.{written_of}
 use Rattle.byte_sinks.specs.declared.write_fault.WriteFault.{WriteFault}

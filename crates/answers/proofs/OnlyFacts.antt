@@ -11,33 +11,33 @@ use Rattle.auction_terms.specs.Limits.{IsBook}
 use Rattle.auction_terms.specs.Only.{IsOnly, first_rival, with_bid}
 use Rattle.auction_terms.specs.Stages.{refused_as}
 use Rattle.auction_terms.specs.declared.choices.Choice.{Choice}
-use Rattle.auction_terms.proofs.OnlyLaws.{rivals_do_as_well}
+use Rattle.auction_terms.proofs.OnlyFacts.{rivals_do_as_well}
 use Rattle.auction_input.specs.Auction.{Auction}
 use Rattle.answers.specs.Programs.{program_for}
 use Rattle.auction_input.specs.declared.refusal.Refusal.TheVariants as refusal
 use Rattle.auction_input.proofs.AnswerFacts.{ok-behind, ok-is, ok-refused_as, unless-ok}
 use Rattle.auction_input.proofs.RecordFacts.{none-failed}
-use Rattle.optimality.proofs.OnlyLaws.{shown-is-only}
-use Rattle.optimality.proofs.VerdictLaws.{only-verdict}
+use Rattle.optimality.proofs.OnlyFacts.{shown-is-only}
+use Rattle.optimality.proofs.VerdictFacts.{only-verdict}
 use Rattle.optimality.specs.Only.{only_fault}
 use Rattle.program_rows.specs.declared.certificate_fault.CertificateFaultKind.{CertificateFaultKind}
-use Rattle.outcome.proofs.BackLaws.{back_bidders, same_sum, solutions_come_back}
-use Rattle.outcome.proofs.PointLaws.{solutions_are_points}
-use Rattle.outcome.proofs.TieLaws.{others_tie, only_first_settles_costs, rivals_tie}
+use Rattle.outcome.proofs.BackFacts.{back_bidders, same_sum, solutions_come_back}
+use Rattle.outcome.proofs.PointFacts.{solutions_are_points}
+use Rattle.outcome.proofs.TieFacts.{others_tie, only_first_settles_costs, rivals_tie}
 use Rattle.outcome.specs.PointAllocation.{HasRisingBidders, allocation_of}
 use Rattle.bid_desk.specs.Sale.{Sale}
 use Rattle.outcome.specs.Solution.{solution}
 use Rattle.outcome.specs.Ties.{same_choices}
 use Rattle.outcome.specs.declared.uniqueness.Uniqueness.TheVariants as uniqueness
 use Rattle.outcome.specs.declared.uniqueness.Uniqueness.{Uniqueness}
-use Rattle.program_rows.proofs.FaithfulLaws.{same_choice}
-use Rattle.program_rows.proofs.OnlyPointLaws.{as-often, only_least_is_only}
+use Rattle.program_rows.proofs.FaithfulFacts.{same_choice}
+use Rattle.program_rows.proofs.OnlyPointFacts.{as-often, only_least_is_only}
 use Rattle.program_rows.specs.Faithful.{IsGreatest, back}
 use Rattle.program_rows.specs.Program.{Table}
 use Rattle.answers.specs.Claimed.{parsed_claims, first_program, of_tie, only_or_rival, parsed_tie, tied}
 use Rattle.answers.specs.SolutionWinners.{solution_refused, winners_by}
 use Rattle.answers.specs.Verified.{Holds, IsGreatestWithout, IsSettledCost}
-use Rattle.answers.proofs.WinnersFeasible.{feasible-of}
+use Rattle.answers.proofs.WinnersFeasibleFacts.{feasible-of}
 use Rattle.answers.proofs.WinningFacts.{won-by}
 
 -- one bidder after the other, the bids whose columns are 1 are the same bids

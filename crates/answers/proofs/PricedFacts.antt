@@ -21,12 +21,12 @@ use Rattle.auction_input.specs.declared.refusal.Refusal.TheVariants as refusal
 use Rattle.auction_input.proofs.AnswerFacts.{ok-behind, ok-is, ok-refused_as, unless-ok, unless-parsed}
 use Rattle.answers.specs.Pricing.{cover_bound, cover_program, covered, parsed_least, parsed_prices, parsed_weights, priced, priced_by, pricing_counts, parsed_pricing}
 use Rattle.answers.proofs.PricingFacts.{parsed-hold}
-use Rattle.optimality.proofs.VerdictLaws.{verdict}
+use Rattle.optimality.proofs.VerdictFacts.{verdict}
 use Rattle.optimality.specs.Verdict.{certificate_fault}
 use Rattle.outcome.specs.Pricing.{Priced, price_in}
-use Rattle.prices.proofs.FewLaws.{all_greatest}
-use Rattle.prices.proofs.RaisedLaws.{shown_covers}
-use Rattle.prices.proofs.WeightLaws.{shown_is_least_sum}
+use Rattle.prices.proofs.FewFacts.{all_greatest}
+use Rattle.prices.proofs.RaisedFacts.{shown_covers}
+use Rattle.prices.proofs.WeightFacts.{shown_is_least_sum}
 use Rattle.prices.specs.Listed.{weighted}
 use Rattle.prices.specs.Prices.{ArePrices, CoversEveryGroup, IsLeastSum, reserves_in}
 use Rattle.prices.specs.Weights.{Weighted, shows_least_sum}

@@ -7,19 +7,19 @@ use Rattle.rayon.proofs.ListFacts.{AllZip-weaken}
 use Rattle.auction_terms.specs.Groups.{has, starts_empty}
 use Rattle.auction_terms.specs.Limits.{IsBook}
 use Rattle.auction_terms.specs.declared.choices.Choice.{Choice}
-use Rattle.optimality.proofs.BoundLaws.{shown-is-bound}
-use Rattle.optimality.proofs.VerdictLaws.{verdict}
+use Rattle.optimality.proofs.BoundFacts.{shown-is-bound}
+use Rattle.optimality.proofs.VerdictFacts.{verdict}
 use Rattle.optimality.specs.Laws.{IsBound}
 use Rattle.optimality.specs.Verdict.{certificate_fault}
 use Rattle.program_rows.specs.declared.certificate_fault.CertificateFaultKind.{CertificateFaultKind}
-use Rattle.outcome.proofs.CostLaws.{costs_are_bounded, costs_are_own}
+use Rattle.outcome.proofs.CostFacts.{costs_are_bounded, costs_are_own}
 use Rattle.outcome.specs.Pricing.{Priced, pricing_text}
 use Rattle.outcome.specs.Report.{report_text}
 use Rattle.bid_desk.specs.Sale.{Sale}
 use Rattle.outcome.specs.Uniqueness.{uniqueness_text}
 use Rattle.outcome.specs.declared.uniqueness.Uniqueness.{Uniqueness}
 use Rattle.outcome.specs.declared.uniqueness.Uniqueness.TheVariants as uniqueness
-use Rattle.program_rows.proofs.FaithfulLaws.{presolved_is_faithful}
+use Rattle.program_rows.proofs.FaithfulFacts.{presolved_is_faithful}
 use Rattle.program_rows.specs.Faithful.{IsGreatest}
 use Rattle.program_rows.specs.Program.{Table}
 use Rattle.auction_input.specs.Auction.{Auction, parsed_auction}
@@ -42,7 +42,7 @@ use Rattle.answers.proofs.ClaimedFacts.{some-group, wins-first}
 use Rattle.answers.proofs.EndFacts.{no-pricing, no-report, no-tie}
 use Rattle.answers.proofs.PricedFacts.{auction-sized, pricing-holds}
 use Rattle.answers.proofs.CheckFacts.{when-both, when-counted}
-use Rattle.answers.proofs.WinnersFeasible.{feasible-of}
+use Rattle.answers.proofs.WinnersFeasibleFacts.{feasible-of}
 use Rattle.answers.proofs.OnlyFacts.{claim-holds, no-fault, settled-costs}
 
 -- ---- one group

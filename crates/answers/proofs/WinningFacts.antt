@@ -16,8 +16,8 @@ use Rattle.bid_desk.specs.Closing.{Closing, book_of}
 use Rattle.group_compiler.specs.Compiled.{program_among, program_without}
 use Rattle.presolve.specs.Flags.{has_choice}
 use Rattle.program_rows.specs.Faithful.{back}
-use Rattle.outcome.proofs.BackLaws.{solutions_come_back}
-use Rattle.outcome.proofs.SomeBidLaws.{all_values, whole_back, parsed_whole}
+use Rattle.outcome.proofs.BackFacts.{solutions_come_back}
+use Rattle.outcome.proofs.SomeBidFacts.{all_values, whole_back, parsed_whole}
 use Rattle.outcome.specs.Coming.{ComesBack}
 use Rattle.outcome.specs.Solution.{solution}
 use Rattle.outcome.specs.PointAllocation.{IsMap, allocation_of}

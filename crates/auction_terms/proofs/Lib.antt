@@ -1,8 +1,8 @@
-pub mod Powers
-pub mod Folding
+pub mod PowerFacts
+pub mod FoldingFacts
 pub mod TokenFacts
 pub mod ShortNumberFacts
-pub mod FieldLaws
+pub mod FirstFieldFacts
 pub mod FirstFaultFacts
 pub mod AllFaultsFacts
 pub mod AcceptedFacts
@@ -13,17 +13,17 @@ pub mod RulesTextFacts
 pub mod AllRulesFaultsFacts
 mod AcceptedRulesFacts
 pub mod LineFacts
-pub mod LineCount
+pub mod LineCountFacts
 pub mod NameCountFacts
 pub mod GroupsTextFacts
 pub mod AllGroupFaultsFacts
 mod AcceptedGroupsFacts
-pub mod WeighedLaws
-pub mod PackageLaws
-pub mod AllocationLaws
-pub mod OnlyLaws
-pub mod OfferLaws
-pub mod LimitLaws
-pub mod LotsLaws
-pub mod Examples
-pub mod OnlyExamples
+pub mod WeighedFacts
+pub mod PackageFacts
+pub mod AllocationFacts
+pub mod OnlyFacts
+pub mod OfferFacts
+pub mod LimitFacts
+pub mod LotsFacts
+pub mod Worked
+pub mod WorkedOnly

@@ -1,2 +1,2 @@
-pub mod Known
-pub mod Adding
+pub mod KnownByteFacts
+pub mod AddingFacts

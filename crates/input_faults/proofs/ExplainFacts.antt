@@ -12,7 +12,7 @@ use Rattle.auction_terms.specs.AllFaults.{AreFaultsOf, Keeps}
 use Rattle.auction_terms.specs.declared.faults.Faults.{Faults}
 use Rattle.auction_terms.specs.declared.faults.Found.{Found}
 use Rattle.input_faults.proofs.BeginFacts.{none-reported}
-use Rattle.input_faults.proofs.InputBegins.{begin-input}
+use Rattle.input_faults.proofs.InputBeginsFacts.{begin-input}
 use Rattle.input_faults.specs.Explained.{IsCutShort, by_put}
 use Rattle.input_faults.specs.FaultLines.{explanation, fault_lines, message_of}
 use Rattle.input_faults.specs.FaultsAs.{faults_as}
@@ -20,7 +20,7 @@ use Rattle.input_faults.specs.InputFaults.{input_faults, refusal_of}
 use Rattle.input_faults.specs.TextDetails.{detail}
 use Rattle.input_faults.specs.declared.fault.Fault.{Fault}
 use Rattle.input_faults.specs.inside.HeldLines.{held_lines}
-use Rattle.byte_sinks.proofs.Known.{Appends-nothing}
+use Rattle.byte_sinks.proofs.KnownByteFacts.{Appends-nothing}
 use Rattle.byte_sinks.specs.Sinks.{HasFailed, SentFront, written_of}
 use Rattle.byte_sinks.specs.declared.write_fault.WriteFault.{WriteFault}
 use Rattle.byte_sinks.specs.declared.write_fault.WriteFault.TheVariants as write

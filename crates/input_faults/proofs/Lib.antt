@@ -3,7 +3,7 @@ pub mod CursorFacts
 pub mod DetailFacts
 pub mod ExplainFacts
 pub mod FormsFacts
-pub mod InputBegins
+pub mod InputBeginsFacts
 pub mod MergeFacts
 pub mod PartsFacts
 pub mod PlaceFacts

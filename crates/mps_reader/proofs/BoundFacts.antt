@@ -1,6 +1,6 @@
 -- Bounds are those of the lines so far.
 use Rattle.std.proofs.Common.{◌≡◌, ℕ, zero, suc, Bool, true, false, not, ◌||◌, ◌&&◌, List, [], ◌∷◌, length, map, refl, sym, ap, subst, ◌∙◌, Option, Some, None, pos, ◌+◌, ◌<◌, drop, get_or, arith}
-use Rattle.program_rows.proofs.NamedItems.{bytes_flip}
+use Rattle.program_rows.proofs.NamedItemFacts.{bytes_flip}
 use Rattle.std.specs.Prelude.{◌==◌, slice_get, bytes_eq, codes, nat_le, if◌then◌else◌}
 use denote.Ref.{Bor}
 use Rattle.auction_terms.specs.Lines.{bytes_of}

@@ -9,7 +9,7 @@ use Rattle.std.proofs.lemmas.Grind.{common_steps}
 use Rattle.std.proofs.lemmas.List.{drop_all}
 use Rattle.std.proofs.lemmas.List.Sums.{position_or_len_is, passes_at_first, prefix_len-le-length}
 use Rattle.auction_terms.specs.LineFields.{fields, is_space}
-use Rattle.auction_terms.proofs.FieldLaws.{skipped, first_field}
+use Rattle.auction_terms.proofs.FirstFieldFacts.{skipped, first_field}
 use Rattle.program_rows.specs.Parts.{IsName}
 use Rattle.mps_reader.specs.inside.Reading.{is_other, is_text_byte}
 

@@ -1,6 +1,6 @@
 -- What a pair of row and number leaves of stamps and of the current column.
 use Rattle.std.proofs.Common.{◌≡◌, ◌≢◌, ℕ, zero, suc, ◌+◌, Bool, true, false, ◌||◌, List, [], ◌∷◌, ◌++◌, map, refl, sym, ap, subst, ◌∙◌, arith, Option, Some, None, ℤ, pos}
-use Rattle.program_rows.proofs.NamedItems.{bytes_flip}
+use Rattle.program_rows.proofs.NamedItemFacts.{bytes_flip}
 use Rattle.std.specs.Prelude.{◌==◌, slice_get, bytes_eq, unwrap_or, IfSome, if◌then◌else◌}
 use Rattle.std.specs.List.{AllByRecursion, IsDistinct, slice_set}
 use Rattle.std.specs.Option.{option_map_or}

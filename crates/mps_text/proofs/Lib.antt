@@ -1,25 +1,25 @@
-pub mod Fields
-pub mod Small
-mod LineParts
-pub mod Lines
-pub mod Numbers
-pub mod Blocks
-pub mod RowPhase
-pub mod RightSidePhase
-pub mod ColumnPhase
-pub mod BoundPhase
-pub mod RowsBack
-mod LineBytes
-mod ShortLines
-pub mod Pushed
-pub mod ColumnsBack
-pub mod BoundsBack
-pub mod EntriesBack
-pub mod Listing
-pub mod WrittenLines
-pub mod ProgramBack
-pub mod RoundTrip
-pub mod TextBytes
-mod Examples
-pub mod FaithfulTexts
+pub mod FieldFacts
+pub mod SmallFacts
+mod LinePartFacts
+pub mod LineFacts
+pub mod NumberFacts
+pub mod BlockFacts
+pub mod RowPhaseFacts
+pub mod RightSidePhaseFacts
+pub mod ColumnPhaseFacts
+pub mod BoundPhaseFacts
+pub mod RowsBackFacts
+mod LineByteFacts
+mod ShortLineFacts
+pub mod PushedFacts
+pub mod ColumnsBackFacts
+pub mod BoundsBackFacts
+pub mod EntriesBackFacts
+pub mod ListingFacts
+pub mod WrittenLineFacts
+pub mod ProgramBackFacts
+pub mod RoundTripFacts
+pub mod TextByteFacts
+mod WorkedProgram
+pub mod FaithfulTextFacts
 mod Worked

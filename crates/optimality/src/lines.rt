@@ -187,7 +187,7 @@ fn take_leaf_line(
     close(splits)
 }
 
-#[tactic(auto, using(crate::proofs::BranchLaws::length_branches, crate::proofs::LineLaws::line_by_word))]
+#[tactic(auto, using(crate::proofs::BranchFacts::length_branches, crate::proofs::LineFacts::line_by_word))]
 fn take_line(
     checker: &Checker,
     sums: &mut Sums,

@@ -1,16 +1,16 @@
-pub mod NearLaws
-pub mod SaidLaws
-pub mod ParsedLaws
-pub mod PointLaws
-pub mod SomeBidLaws
-pub mod BackLaws
-pub mod NameLaws
-pub mod BoundLaws
-pub mod CostLaws
-pub mod TieLaws
-pub mod QuantityLaws
-pub mod RivalLaws
-pub mod LeftLaws
-pub mod ReportLaws
-pub mod Worked
-mod Examples
+pub mod NearFacts
+pub mod SaidFacts
+pub mod ParsedFacts
+pub mod PointFacts
+pub mod SomeBidFacts
+pub mod BackFacts
+pub mod NameFacts
+pub mod BoundFacts
+pub mod CostFacts
+pub mod TieFacts
+pub mod QuantityFacts
+pub mod RivalFacts
+pub mod LeftFacts
+pub mod ReportFacts
+pub mod WorkedPrograms
+mod WorkedSolutions

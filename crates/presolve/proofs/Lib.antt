@@ -1,13 +1,13 @@
-pub mod SizeLaws
-pub mod BitLaws
-pub mod SieveLaws
-pub mod NumberLaws
-pub mod FlagLaws
-pub mod ChoiceLaws
-pub mod KeepLaws
-pub mod RivalLaws
-pub mod SearchLaws
-pub mod ReasonLaws
-pub mod LineLaws
-pub mod FormLaws
-mod Examples
+pub mod SizeFacts
+pub mod BitFacts
+pub mod SieveFacts
+pub mod NumberFacts
+pub mod FlagFacts
+pub mod ChoiceFacts
+pub mod KeepFacts
+pub mod RivalFacts
+pub mod SearchFacts
+pub mod ReasonFacts
+pub mod LineFacts
+pub mod FormFacts
+mod Worked

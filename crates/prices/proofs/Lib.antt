@@ -1,7 +1,7 @@
-pub mod CoverLaws
-pub mod RaisedLaws
-pub mod ExistLaws
-pub mod WeightLaws
-pub mod CodeLaws
-pub mod FewLaws
-mod Examples
+pub mod CoverFacts
+pub mod RaisedFacts
+pub mod ExistFacts
+pub mod WeightFacts
+pub mod CodeFacts
+pub mod FewFacts
+mod Worked

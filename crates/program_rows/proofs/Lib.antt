@@ -1,25 +1,25 @@
-mod Examples
-pub mod EachLaws
-pub mod SpellingLaws
-mod ValueExamples
-pub mod FaithfulLaws
-pub mod OnlyPointLaws
-pub mod FewerBidLaws
-pub mod LegalLaws
-pub mod PieceLemmas
-pub mod ColumnLemmas
-pub mod CostedLaws
-pub mod BuildLaws
-pub mod BuiltLaws
-pub mod SelectionLaws
-pub mod SeenLaws
-pub mod SumLaws
-pub mod OneLaws
-pub mod BrokenLaws
-pub mod NumeralLaws
-pub mod KeptLaws
-pub mod LookupLaws
-pub mod NamedItems
-pub mod SameLaws
-pub mod NameSetLaws
-pub mod AddedNames
+mod WorkedTexts
+pub mod EachFacts
+pub mod SpellingFacts
+mod WorkedValues
+pub mod FaithfulFacts
+pub mod OnlyPointFacts
+pub mod FewerBidFacts
+pub mod LegalFacts
+pub mod PieceFacts
+pub mod ColumnFacts
+pub mod CostedFacts
+pub mod BuildFacts
+pub mod BuiltFacts
+pub mod SelectionFacts
+pub mod SeenFacts
+pub mod SumFacts
+pub mod OneFacts
+pub mod BrokenFacts
+pub mod NumeralFacts
+pub mod KeptFacts
+pub mod LookupFacts
+pub mod NamedItemFacts
+pub mod SameFacts
+pub mod NameSetFacts
+pub mod AddedNameFacts

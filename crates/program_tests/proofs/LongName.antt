@@ -4,7 +4,7 @@ use Rattle.std.specs.Prelude.{codes}
 use Rattle.std.specs.List.{AllByRecursion}
 use Rattle.program_rows.specs.Program.{Table}
 use Rattle.program_rows.specs.Parts.{IsProgram}
-use Rattle.outcome.proofs.Worked.{at_most}
+use Rattle.outcome.proofs.WorkedPrograms.{at_most}
 use Rattle.program_tests.proofs.Named.{are_names, distinct}
 
 -- the letter R

@@ -9,7 +9,7 @@ use Rattle.program_rows.specs.Program.{Table}
 use Rattle.auction_input.specs.Settled.{held}
 use Rattle.auction_terms.specs.Lines.{bytes_of}
 use Rattle.answers.proofs.ClaimedFacts.{first-program, no-fault, one-unique, only-refused, only-parsed}
-use Rattle.answers.proofs.WinnersFeasible.{feasible-of}
+use Rattle.answers.proofs.WinnersFeasibleFacts.{feasible-of}
 use Rattle.answers.proofs.ReportFacts.{text-at}
 use Rattle.answers.proofs.WinningFacts.{allowed-length}
 use Rattle.answers.proofs.claimed.only.Goals as goal

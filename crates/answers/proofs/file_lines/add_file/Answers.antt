@@ -1,4 +1,4 @@
-use Rattle.byte_sinks.proofs.Adding.{Adds-then, Adds-to}
+use Rattle.byte_sinks.proofs.AddingFacts.{Adds-then, Adds-to}
 use Rattle.answers.proofs.FileLineFacts.{named-file}
 use Rattle.answers.proofs.file_lines.add_file.Goals as goal
 

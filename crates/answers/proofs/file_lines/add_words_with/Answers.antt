@@ -1,5 +1,5 @@
 use Rattle.std.proofs.Common.{refl}
-use Rattle.byte_sinks.proofs.Adding.{Adds-then, Adds-to}
+use Rattle.byte_sinks.proofs.AddingFacts.{Adds-then, Adds-to}
 use Rattle.answers.proofs.FileLineFacts.{words-alone}
 use Rattle.answers.proofs.file_lines.add_words_with.Goals as goal
 

@@ -1,5 +1,5 @@
 use Rattle.std.proofs.Common.{refl, rules}
-use Rattle.byte_sinks.proofs.Adding.{Adds-then}
+use Rattle.byte_sinks.proofs.AddingFacts.{Adds-then}
 use Rattle.answers.proofs.LineFacts.{puts}
 use Rattle.answers.proofs.file_lines.print_file_line.Goals as goal
 

@@ -1,8 +1,8 @@
 use Rattle.auction_terms.specs.Groups.{has}
 use Rattle.auction_terms.specs.Terms.{lots_in}
 use Rattle.bid_desk.specs.Closing.{book_of}
-use Rattle.group_compiler.proofs.Joined.{joined_is}
-use Rattle.byte_sinks.proofs.Adding.{Adds-to}
+use Rattle.group_compiler.proofs.JoinedFacts.{joined_is}
+use Rattle.byte_sinks.proofs.AddingFacts.{Adds-to}
 use Rattle.answers.proofs.group_texts.add_program.Goals as goal
 
 pub returns : goal.returns

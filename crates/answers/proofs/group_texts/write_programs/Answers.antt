@@ -1,7 +1,7 @@
 use Rattle.std.proofs.Common.{rules, ◌≡◌, ◌<◌, ◌+◌, ◌++◌, ◌∙◌, ℕ, List, ap, length, map, take, drop, sym, arith, refl}
 use Rattle.std.proofs.lemmas.List.{append-nil, length-map}
 use Rattle.group_compiler.specs.Compiled.{GroupProgram, compiled}
-use Rattle.byte_sinks.proofs.Adding.{Adds-then, Adds-to, sent-quiet}
+use Rattle.byte_sinks.proofs.AddingFacts.{Adds-then, Adds-to, sent-quiet}
 use Rattle.outcome.specs.Report.{in_turn}
 use Rattle.answers.specs.GroupTexts.{program_bytes}
 use Rattle.answers.proofs.GroupTextFacts.{ends-in, ends-parsed, fails-parsed, in_turn-rest, programs-more}

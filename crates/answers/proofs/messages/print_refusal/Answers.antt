@@ -1,5 +1,5 @@
 use Rattle.std.proofs.Common.{ap, rules, ◌++◌, ◌∷◌, [], codes}
-use Rattle.byte_sinks.proofs.Adding.{Adds-then}
+use Rattle.byte_sinks.proofs.AddingFacts.{Adds-then}
 use Rattle.input_faults.specs.PlacedText.{message_at}
 use Rattle.answers.proofs.LineFacts.{puts}
 use Rattle.answers.proofs.messages.print_refusal.Goals as goal

@@ -2,7 +2,7 @@ use Rattle.std.proofs.Common.{refl, inr}
 use Rattle.auction_terms.specs.Groups.{has}
 use Rattle.auction_terms.specs.Terms.{lots_in}
 use Rattle.bid_desk.specs.Closing.{book_of}
-use Rattle.outcome.proofs.BackLaws.{points_come_back}
+use Rattle.outcome.proofs.BackFacts.{points_come_back}
 use Rattle.outcome.specs.Solution.{solution}
 use Rattle.auction_input.specs.Refused.{Refuses}
 use Rattle.answers.specs.SolutionWinners.{winners_by}

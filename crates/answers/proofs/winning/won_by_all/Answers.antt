@@ -3,7 +3,7 @@ use Rattle.auction_terms.specs.Groups.{has}
 use Rattle.auction_terms.specs.Limits.{IsBook}
 use Rattle.auction_terms.specs.Terms.{lots_in}
 use Rattle.bid_desk.specs.Closing.{Closing, book_of}
-use Rattle.program_rows.proofs.FaithfulLaws.{presolved_is_faithful}
+use Rattle.program_rows.proofs.FaithfulFacts.{presolved_is_faithful}
 use Rattle.auction_input.specs.Refused.{Refuses}
 use Rattle.program_rows.specs.Program.{Table}
 use Rattle.answers.specs.SolutionWinners.{winners_by}

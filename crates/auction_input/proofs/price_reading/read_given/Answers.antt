@@ -1,5 +1,5 @@
 use Rattle.std.proofs.Common.{ap, arith, length}
-use Rattle.auction_terms.proofs.LineCount.{lines-within}
+use Rattle.auction_terms.proofs.LineCountFacts.{lines-within}
 use Rattle.auction_input.proofs.price_reading.read_given.Goals as goal
 
 pub overflow_add-place : goal.overflow_add-place

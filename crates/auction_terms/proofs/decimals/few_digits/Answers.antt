@@ -3,8 +3,8 @@ use Rattle.std.specs.Char.{is_ascii_digit}
 use Rattle.std.proofs.lemmas.Bool.{and_from}
 use Rattle.std.proofs.lemmas.List.{take_all}
 use Rattle.std.proofs.lemmas.List.Folds.{list_all_more}
-use Rattle.auction_terms.proofs.Powers.{pow_above}
-use Rattle.auction_terms.proofs.Folding.{after-next, ascii-range}
+use Rattle.auction_terms.proofs.PowerFacts.{pow_above}
+use Rattle.auction_terms.proofs.FoldingFacts.{after-next, ascii-range}
 use Rattle.auction_terms.proofs.decimals.few_digits.Goals as goal
 
 pub overflow_mul-value : goal.overflow_mul-value

@@ -1,5 +1,5 @@
 use Rattle.std.proofs.Common.{arith}
-use Rattle.auction_terms.proofs.Powers.{pow_above, pow_some, too_low}
+use Rattle.auction_terms.proofs.PowerFacts.{pow_above, pow_some, too_low}
 use Rattle.auction_terms.proofs.decimals.lowered.Goals as goal
 
 pub returns-then-places-ge30 : goal.returns-then-places-ge30

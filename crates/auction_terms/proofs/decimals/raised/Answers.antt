@@ -1,6 +1,6 @@
 use Rattle.std.proofs.Common.{◌*◌, ◌^◌, arith}
 use Rattle.std.proofs.Math.Nat.{mul-le-mul_left, mul-le-mul_right}
-use Rattle.auction_terms.proofs.Powers.{past_limit, pow_above, pow_some}
+use Rattle.auction_terms.proofs.PowerFacts.{past_limit, pow_above, pow_some}
 use Rattle.auction_terms.proofs.decimals.raised.Goals as goal
 
 pub returns-then-places-gt18 : goal.returns-then-places-gt18

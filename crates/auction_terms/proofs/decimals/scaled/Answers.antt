@@ -1,5 +1,5 @@
 use Rattle.std.proofs.Common.{sym, ◌∙◌, arith}
-use Rattle.auction_terms.proofs.Powers.{raised_is, lowered_is}
+use Rattle.auction_terms.proofs.PowerFacts.{raised_is, lowered_is}
 use Rattle.auction_terms.proofs.decimals.scaled.Goals as goal
 
 pub returns-then-up-down : goal.returns-then-up-down

@@ -1,6 +1,6 @@
 use Rattle.std.proofs.Common.{◌≤◌, ◌++◌, List, ℕ, ap, arith, length, rules}
 use Rattle.auction_terms.proofs.AllFaultsFacts.{found-all, found-more}
-use Rattle.auction_terms.proofs.LineCount.{lines-within}
+use Rattle.auction_terms.proofs.LineCountFacts.{lines-within}
 use Rattle.auction_terms.specs.AllFaults.{accepted_with}
 use Rattle.auction_terms.specs.AllGroupFaults.{all_line_faults}
 use Rattle.auction_terms.specs.declared.faults.Found.{Found}

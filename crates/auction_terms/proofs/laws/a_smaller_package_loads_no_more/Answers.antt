@@ -1,4 +1,4 @@
-use Rattle.auction_terms.proofs.WeighedLaws.{weighed_le}
+use Rattle.auction_terms.proofs.WeighedFacts.{weighed_le}
 use Rattle.auction_terms.proofs.laws.a_smaller_package_loads_no_more.Goals as goal
 
 pub returns : goal.returns

@@ -1,4 +1,4 @@
-use Rattle.auction_terms.proofs.WeighedLaws.{weighed_loads}
+use Rattle.auction_terms.proofs.WeighedFacts.{weighed_loads}
 use Rattle.auction_terms.proofs.laws.loads_add_up.Goals as goal
 
 pub returns : goal.returns

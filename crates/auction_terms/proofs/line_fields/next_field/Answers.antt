@@ -1,6 +1,6 @@
 use Rattle.std.proofs.Common.{◌∙◌, List, ℕ, ◌-◌, sym, drop, length, take, arith}
 use Rattle.std.proofs.lemmas.List.{take-append-drop, take_rest}
-use Rattle.auction_terms.proofs.FieldLaws.{first_field, no_fields}
+use Rattle.auction_terms.proofs.FirstFieldFacts.{first_field, no_fields}
 use Rattle.auction_terms.proofs.line_fields.next_field.Goals as goal
 
 pub returns-then-start-line-clause-first : goal.returns-then-start-line-clause-first

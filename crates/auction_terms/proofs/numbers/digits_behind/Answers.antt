@@ -1,5 +1,5 @@
 use Rattle.std.proofs.Common.{◌+◌, ◌*◌, ◌-◌, ◌≤◌, ℕ, slice_index_or, arith, ap, ◌∙◌}
-use Rattle.auction_terms.proofs.Folding.{after-next, digit-at, next-low, fits}
+use Rattle.auction_terms.proofs.FoldingFacts.{after-next, digit-at, next-low, fits}
 use Rattle.auction_terms.proofs.numbers.digits_behind.Goals as goal
 
 pub overflow_mul-value : goal.overflow_mul-value

@@ -1,5 +1,5 @@
 use Rattle.std.proofs.Common.{arith}
-use Rattle.auction_terms.proofs.WeighedLaws.{weighed_end}
+use Rattle.auction_terms.proofs.WeighedFacts.{weighed_end}
 use Rattle.auction_terms.proofs.packages.weighed.Goals as goal
 
 pub returns-clause-sum : goal.returns-clause-sum

@@ -1,6 +1,6 @@
 use Rattle.std.proofs.Common.{ℕ, ◌+◌, length, sym, ap, ◌∙◌}
 use Rattle.std.specs.Str.Parse.{digits_value_after}
-use Rattle.auction_terms.proofs.Folding.{fits}
+use Rattle.auction_terms.proofs.FoldingFacts.{fits}
 use Rattle.auction_terms.proofs.TokenFacts.{after-append}
 use Rattle.auction_terms.proofs.token.value_of.Goals as goal
 

@@ -1,5 +1,5 @@
 use Rattle.std.proofs.Common.{sym, ◌∙◌}
-use Rattle.auction_terms.proofs.WeighedLaws.{worthless}
+use Rattle.auction_terms.proofs.WeighedFacts.{worthless}
 use Rattle.auction_terms.proofs.worth.worth_where.Goals as goal
 
 pub returns-else-is_valued-clause-worth : goal.returns-else-is_valued-clause-worth

@@ -1,6 +1,6 @@
 use Rattle.std.proofs.Common.{take, drop, rules, arith, sym, ◌∙◌}
 use Rattle.std.proofs.lemmas.List.{length-drop, take-append-drop}
-use Rattle.byte_sinks.proofs.Known.{Appends-nothing, Appends-then, Appends-keeps, IsFront-from, OnErr-any, piece-step, piece-within}
+use Rattle.byte_sinks.proofs.KnownByteFacts.{Appends-nothing, Appends-then, Appends-keeps, IsFront-from, OnErr-any, piece-step, piece-within}
 use Rattle.byte_sinks.specs.declared.writer.TheConstants.{PIECE_LEN}
 use Rattle.byte_sinks.proofs.sending.put_all.Goals as goal
 

@@ -7,15 +7,15 @@ use Rattle.auction_terms.specs.Keeping.{Offer}
 use Rattle.auction_terms.specs.Offers.{offers}
 use Rattle.auction_terms.specs.Terms.{Terms, lots_in}
 use Rattle.bid_desk.specs.Closing.{book_of}
-use Rattle.mps_text.proofs.FaithfulTexts.{presolved_text_is_faithful}
+use Rattle.mps_text.proofs.FaithfulTextFacts.{presolved_text_is_faithful}
 use Rattle.mps_text.specs.FaithfulText.{IsFaithfulText}
 use Rattle.mps_text.specs.Text.{text}
-use Rattle.program_rows.proofs.FaithfulLaws.{presolved_is_faithful}
+use Rattle.program_rows.proofs.FaithfulFacts.{presolved_is_faithful}
 use Rattle.program_rows.specs.Faithful.{IsFaithful}
 use Rattle.program_rows.specs.Program.{Table}
 use Rattle.program_rows.specs.Rows.{program_of}
 use Rattle.group_compiler.specs.Compiled.{program_without}
-use Rattle.group_compiler.proofs.CompileLaws.{kept_are_sized}
+use Rattle.group_compiler.proofs.CompileFacts.{kept_are_sized}
 use Rattle.group_compiler.proofs.compiling.compile.Goals as goal
 
 pub build-requires : goal.build-requires

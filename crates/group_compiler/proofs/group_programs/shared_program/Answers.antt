@@ -9,7 +9,7 @@ use Rattle.auction_terms.specs.Terms.{Terms, lots_in}
 use Rattle.bid_desk.specs.Closing.{book_of}
 use Rattle.program_rows.specs.Selections.{Shared, shared_of}
 use Rattle.group_compiler.specs.inside.Sharing.{shared_program}
-use Rattle.group_compiler.proofs.CompileLaws.{kept_are_sized}
+use Rattle.group_compiler.proofs.CompileFacts.{kept_are_sized}
 use Rattle.group_compiler.proofs.group_programs.shared_program.Goals as goal
 
 pub build_shared-requires : goal.build_shared-requires

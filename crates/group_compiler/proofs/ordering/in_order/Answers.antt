@@ -1,7 +1,7 @@
 use Rattle.std.proofs.Common.{◌≡◌, ◌<◌, [], ◌∙◌, arith, length-set, sym, subst}
 use Rattle.std.specs.List.{AllZip}
 use Rattle.std.proofs.lemmas.Option.{same_Some}
-use Rattle.group_compiler.proofs.SlotLaws.{one_more, keeps_made, full_at}
+use Rattle.group_compiler.proofs.SlotFacts.{one_more, keeps_made, full_at}
 use Rattle.group_compiler.proofs.ordering.in_order.Goals as goal
 
 pub loop-place-init : goal.loop-place-init

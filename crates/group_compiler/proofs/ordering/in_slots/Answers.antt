@@ -1,5 +1,5 @@
 use Rattle.std.proofs.Common.{◌≡◌, ◌<◌, inl, ⊎_elim, ◌∙◌, arith, length, rules}
-use Rattle.group_compiler.proofs.SlotLaws.{filled, popped, none_left}
+use Rattle.group_compiler.proofs.SlotFacts.{filled, popped, none_left}
 use Rattle.group_compiler.proofs.ordering.in_slots.Goals as goal
 
 pub loop-numbered-init : goal.loop-numbered-init

@@ -2,7 +2,7 @@ use Rattle.std.proofs.Common.{◌≡◌, ◌+◌, ◌∙◌, arith}
 use Rattle.std.proofs.lemmas.Result.{IfOk-weaker}
 use Rattle.group_compiler.specs.declared.limits.TheConstants.{WORKER_DRAWS}
 use Rattle.group_compiler.specs.inside.Works.{IsWork, draws}
-use Rattle.group_compiler.proofs.WorkLaws.{if_both}
+use Rattle.group_compiler.proofs.WorkFacts.{if_both}
 use Rattle.group_compiler.proofs.pool.+fn-run_workers-scope+run_workers.Goals as goal
 
 pub returns : goal.returns

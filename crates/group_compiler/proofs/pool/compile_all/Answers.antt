@@ -3,7 +3,7 @@ use Rattle.std.specs.Prelude.{length}
 use Rattle.std.proofs.lemmas.Result.{IfOk-weaker}
 use Rattle.group_compiler.specs.Compiled.{Compiling}
 use Rattle.group_compiler.specs.Gates.{AreAllPast}
-use Rattle.group_compiler.proofs.SlotLaws.{all_compiled}
+use Rattle.group_compiler.proofs.SlotFacts.{all_compiled}
 use Rattle.group_compiler.proofs.pool.compile_all.Goals as goal
 
 pub returns-clause-compiled : goal.returns-clause-compiled

@@ -2,7 +2,7 @@ use Rattle.std.proofs.Common.{◌≡◌, ◌+◌, ◌<◌, ◌++◌, length, max
 use Rattle.std.specs.Prelude.{All}
 use Rattle.std.proofs.lemmas.List.Elements.{All-append}
 use Rattle.group_compiler.specs.inside.Works.{IsFinished}
-use Rattle.group_compiler.proofs.WorkLaws.{finished_left, numbers_append}
+use Rattle.group_compiler.proofs.WorkFacts.{finished_left, numbers_append}
 use Rattle.group_compiler.proofs.pool.join_works.Goals as goal
 
 pub returns : goal.returns

@@ -1,5 +1,5 @@
 use Rattle.std.proofs.lemmas.Result.{IfOk-weaker}
-use Rattle.group_compiler.proofs.WorkLaws.{all_below, all_made, all_past}
+use Rattle.group_compiler.proofs.WorkFacts.{all_below, all_made, all_past}
 use Rattle.group_compiler.proofs.pool.make_all.Goals as goal
 
 pub in_order-requires-clause-below : goal.in_order-requires-clause-below

@@ -1,7 +1,7 @@
 use Rattle.std.proofs.Common.{sym}
 use Rattle.program_rows.specs.Parts.{shown_row}
 use Rattle.mps_text.specs.Bytes.{right_side_bytes, row_bytes}
-use Rattle.byte_sinks.proofs.Adding.{Adds-to}
+use Rattle.byte_sinks.proofs.AddingFacts.{Adds-to}
 use Rattle.std.proofs.lemmas.List.Folds.{flat_map-map}
 use Rattle.group_compiler.proofs.rendering.add_lines.Goals as goal
 

@@ -3,7 +3,7 @@ use Rattle.std.specs.Prelude.{All}
 use Rattle.std.proofs.Math.Nat.{le-max_left, le-max_right}
 use Rattle.std.proofs.lemmas.List.Elements.{All-push, filter-append}
 use Rattle.group_compiler.specs.inside.Works.{IsFinished}
-use Rattle.group_compiler.proofs.WorkLaws.{finished_by, kept_no_more}
+use Rattle.group_compiler.proofs.WorkFacts.{finished_by, kept_no_more}
 use Rattle.group_compiler.proofs.work.draw_on.Goals as goal
 use Rattle.group_compiler.proofs.work.draw_on.Goals.{then-number-groups, else-number-groups}
 

@@ -1,9 +1,9 @@
 use Rattle.std.proofs.Common.{arith, take}
 use Rattle.auction_terms.specs.Groups.{has}
-use Rattle.byte_sinks.proofs.Adding.{Adds-then, Adds-to}
+use Rattle.byte_sinks.proofs.AddingFacts.{Adds-then, Adds-to}
 use Rattle.group_compiler.specs.Pages.{outside}
 use Rattle.group_compiler.specs.Joining.{joined}
-use Rattle.group_compiler.proofs.Outside.{next_page}
+use Rattle.group_compiler.proofs.OutsideFacts.{next_page}
 use Rattle.group_compiler.proofs.writing.add_joined.Goals as goal
 
 pub loop-place-preserved : goal.loop-place-preserved

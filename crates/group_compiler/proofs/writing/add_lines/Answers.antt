@@ -1,7 +1,7 @@
 use Rattle.std.proofs.Common.{ℕ}
 use Rattle.auction_terms.specs.Groups.{has}
-use Rattle.byte_sinks.proofs.Adding.{Adds-then, Adds-to}
-use Rattle.group_compiler.proofs.PageLines.{lines_for}
+use Rattle.byte_sinks.proofs.AddingFacts.{Adds-then, Adds-to}
+use Rattle.group_compiler.proofs.PageLineFacts.{lines_for}
 use Rattle.group_compiler.proofs.writing.add_lines.Goals as goal
 
 pub returns : goal.returns

@@ -1,6 +1,6 @@
 use Rattle.std.proofs.Common.{◌≡◌, ◌∙◌, ap}
 use Rattle.auction_terms.specs.Groups.{has}
-use Rattle.byte_sinks.proofs.Adding.{Adds-then}
+use Rattle.byte_sinks.proofs.AddingFacts.{Adds-then}
 use Rattle.group_compiler.specs.Joining.{section_end, has_any, joined, opening, pages_for}
 use Rattle.group_compiler.proofs.writing.add_section.Goals as goal
 

@@ -1,6 +1,6 @@
 use Rattle.std.proofs.Common.{◌∙◌, arith, sym}
 use Rattle.auction_terms.specs.Groups.{has}
-use Rattle.group_compiler.proofs.Outside.{some_lines, still_none}
+use Rattle.group_compiler.proofs.OutsideFacts.{some_lines, still_none}
 use Rattle.group_compiler.proofs.writing.has_lines.Goals as goal
 
 pub returns-then-page_has_lines : goal.returns-then-page_has_lines

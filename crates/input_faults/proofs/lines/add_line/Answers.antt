@@ -1,5 +1,5 @@
 use Rattle.std.proofs.Common.{◌∙◌, ◌++◌, ◌∷◌, [], ap}
-use Rattle.byte_sinks.proofs.Adding.{Adds-then, Adds-to}
+use Rattle.byte_sinks.proofs.AddingFacts.{Adds-then, Adds-to}
 use Rattle.input_faults.specs.PlacedText.{message_at, message_in}
 use Rattle.input_faults.specs.inside.DetailText.{detail_text}
 use Rattle.input_faults.proofs.lines.add_line.Goals as goal

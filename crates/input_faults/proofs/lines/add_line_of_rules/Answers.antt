@@ -1,6 +1,6 @@
 use Rattle.std.proofs.Common.{◌∙◌, refl}
 use Rattle.auction_terms.specs.Records.{records_of}
-use Rattle.byte_sinks.proofs.Adding.{Adds-to}
+use Rattle.byte_sinks.proofs.AddingFacts.{Adds-to}
 use Rattle.input_faults.proofs.DetailFacts.{line-with, of-no-rules}
 use Rattle.input_faults.specs.FaultLines.{message_of}
 use Rattle.input_faults.specs.TextDetails.{detail_in_rules}

@@ -1,6 +1,6 @@
 use Rattle.std.proofs.Common.{◌∙◌, refl}
 use Rattle.auction_terms.specs.Lines.{bytes_of}
-use Rattle.byte_sinks.proofs.Adding.{Adds-to}
+use Rattle.byte_sinks.proofs.AddingFacts.{Adds-to}
 use Rattle.input_faults.proofs.DetailFacts.{form-known, line-with, of-neither}
 use Rattle.input_faults.specs.FaultLines.{message_of}
 use Rattle.input_faults.specs.TextDetails.{detail_under}

@@ -1,7 +1,7 @@
 use Rattle.std.proofs.Common.{◌∙◌, ℕ, List, ap}
 use Rattle.std.specs.Prelude.{flat_map}
 use Rattle.auction_input.specs.Parts.{parts_held}
-use Rattle.byte_sinks.proofs.Adding.{Adds-to}
+use Rattle.byte_sinks.proofs.AddingFacts.{Adds-to}
 use Rattle.input_faults.proofs.PartsFacts.{broken-detail, input-detail, part-reported}
 use Rattle.input_faults.specs.FaultLines.{fault_line, message_of}
 use Rattle.input_faults.specs.TextDetails.{detail_without_parts}

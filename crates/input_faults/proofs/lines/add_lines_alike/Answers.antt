@@ -1,6 +1,6 @@
 use Rattle.std.proofs.Common.{arith}
-use Rattle.byte_sinks.proofs.Adding.{Adds-then, Adds-to}
-use Rattle.byte_sinks.proofs.Known.{flat_map-next_item}
+use Rattle.byte_sinks.proofs.AddingFacts.{Adds-then, Adds-to}
+use Rattle.byte_sinks.proofs.KnownByteFacts.{flat_map-next_item}
 use Rattle.input_faults.specs.FaultLines.{fault_line, message_of}
 use Rattle.input_faults.specs.inside.DetailText.{detail_text}
 use Rattle.input_faults.proofs.lines.add_lines_alike.Goals as goal

@@ -3,7 +3,7 @@ use Rattle.std.specs.Prelude.{flat_map}
 use Rattle.auction_input.specs.Parts.{parts_held}
 use Rattle.auction_input.specs.Plan.{miscounted}
 use Rattle.auction_terms.specs.Lines.{bytes_of}
-use Rattle.byte_sinks.proofs.Adding.{Adds-to}
+use Rattle.byte_sinks.proofs.AddingFacts.{Adds-to}
 use Rattle.input_faults.proofs.PartsFacts.{count-detail, parts-detail}
 use Rattle.input_faults.specs.Details.{parts_count_message}
 use Rattle.input_faults.specs.FaultLines.{fault_line, message_of}

@@ -1,8 +1,8 @@
 use Rattle.std.proofs.Common.{◌∙◌, ℕ, ap, arith, rules}
 use Rattle.auction_terms.specs.Records.{records_of}
 use Rattle.auction_terms.specs.RulesText.{version_of}
-use Rattle.byte_sinks.proofs.Adding.{Adds-then, Adds-to}
-use Rattle.byte_sinks.proofs.Known.{flat_map-next_item}
+use Rattle.byte_sinks.proofs.AddingFacts.{Adds-then, Adds-to}
+use Rattle.byte_sinks.proofs.KnownByteFacts.{flat_map-next_item}
 use Rattle.input_faults.specs.FaultLines.{fault_line, message_of}
 use Rattle.input_faults.specs.TextDetails.{detail_in_rules, numbered}
 use Rattle.input_faults.proofs.lines.add_lines_of_rules.Goals as goal

@@ -1,4 +1,4 @@
-use Rattle.byte_sinks.proofs.Adding.{Adds-then, Adds-to}
+use Rattle.byte_sinks.proofs.AddingFacts.{Adds-then, Adds-to}
 use Rattle.input_faults.proofs.PlaceFacts.{other-behind}
 use Rattle.input_faults.proofs.placed.add_message.Goals as goal
 

@@ -1,6 +1,6 @@
 use Rattle.std.proofs.Common.{arith}
-use Rattle.byte_sinks.proofs.Adding.{Adds-then, Adds-to}
-use Rattle.byte_sinks.proofs.Known.{flat_map-next_or}
+use Rattle.byte_sinks.proofs.AddingFacts.{Adds-then, Adds-to}
+use Rattle.byte_sinks.proofs.KnownByteFacts.{flat_map-next_or}
 use Rattle.input_faults.specs.FileNames.{name_byte}
 use Rattle.input_faults.proofs.placed.add_name_bytes.Goals as goal
 

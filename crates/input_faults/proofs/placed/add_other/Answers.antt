@@ -1,5 +1,5 @@
 use Rattle.std.proofs.Common.{refl}
-use Rattle.byte_sinks.proofs.Adding.{Adds-then, Adds-to}
+use Rattle.byte_sinks.proofs.AddingFacts.{Adds-then, Adds-to}
 use Rattle.input_faults.proofs.PlaceFacts.{no-other}
 use Rattle.input_faults.proofs.placed.add_other.Goals as goal
 

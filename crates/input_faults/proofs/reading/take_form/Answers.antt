@@ -1,4 +1,4 @@
-use Rattle.input_faults.proofs.InputBegins.{begin-one-form}
+use Rattle.input_faults.proofs.InputBeginsFacts.{begin-one-form}
 use Rattle.input_faults.proofs.TextFacts.{form-read, form-refused, keeps-sized, nothing-more}
 use Rattle.auction_input.specs.declared.refusal.Refusal.TheVariants as refusal
 use Rattle.bid_forms.specs.declared.form_text.FormFault.TheVariants as form

@@ -1,4 +1,4 @@
-use Rattle.input_faults.proofs.InputBegins.{begin-terms}
+use Rattle.input_faults.proofs.InputBeginsFacts.{begin-terms}
 use Rattle.input_faults.proofs.TextFacts.{keeps-sized, nothing-more, rules-read, rules-refused}
 use Rattle.auction_input.specs.declared.refusal.Refusal.TheVariants as refusal
 use Rattle.auction_terms.specs.declared.rules_text.RulesFault.TheVariants as rules

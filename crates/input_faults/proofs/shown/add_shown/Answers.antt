@@ -1,6 +1,6 @@
 use Rattle.std.proofs.Common.{◌++◌, ap₂}
 use Rattle.std.specs.Prelude.{codes, flat_map}
-use Rattle.byte_sinks.proofs.Adding.{Adds-then, Adds-to}
+use Rattle.byte_sinks.proofs.AddingFacts.{Adds-then, Adds-to}
 use Rattle.input_faults.specs.Shown.{shown_byte}
 use Rattle.input_faults.proofs.shown.add_shown.Goals as goal
 

@@ -1,6 +1,6 @@
 use Rattle.std.proofs.Common.{◌≡◌, ℕ, ◌+◌, ◌∷◌, [], ◌++◌, ◌∙◌, ap, sym, refl, map, length, arith, length-append}
 use Rattle.auction_terms.specs.Lines.{lines_of}
-use Rattle.auction_terms.proofs.LineCount.{lines-within}
+use Rattle.auction_terms.proofs.LineCountFacts.{lines-within}
 use Rattle.mps_reader.proofs.EndFacts.{moved}
 use Rattle.std.specs.Prelude.{Ok}
 use Rattle.program_rows.specs.MpsLines.{line_of}

@@ -1,4 +1,4 @@
-use Rattle.byte_sinks.proofs.Adding.{Adds-then}
+use Rattle.byte_sinks.proofs.AddingFacts.{Adds-then}
 use Rattle.mps_text.proofs.data_lines.add_field.Goals as goal
 
 pub returns : goal.returns

@@ -1,5 +1,5 @@
-use Rattle.byte_sinks.proofs.Adding.{Adds-then, Adds-to}
-use Rattle.mps_text.proofs.LineBytes.{three_parts}
+use Rattle.byte_sinks.proofs.AddingFacts.{Adds-then, Adds-to}
+use Rattle.mps_text.proofs.LineByteFacts.{three_parts}
 use Rattle.mps_text.proofs.data_lines.add_three.Goals as goal
 
 pub returns : goal.returns

@@ -1,6 +1,6 @@
 use Rattle.std.proofs.Common.{[]}
-use Rattle.byte_sinks.proofs.Adding.{Adds-then, Adds-to}
-use Rattle.mps_text.proofs.LineBytes.{two_parts}
+use Rattle.byte_sinks.proofs.AddingFacts.{Adds-then, Adds-to}
+use Rattle.mps_text.proofs.LineByteFacts.{two_parts}
 use Rattle.mps_text.proofs.data_lines.add_two.Goals as goal
 
 pub returns : goal.returns

@@ -1,5 +1,5 @@
 use Rattle.std.proofs.Common.{arith}
-use Rattle.mps_text.proofs.ShortLines.{one_digit, two_digits}
+use Rattle.mps_text.proofs.ShortLineFacts.{one_digit, two_digits}
 use Rattle.mps_text.proofs.line.write_end.Goals as goal
 
 pub returns-then-number-lt10-clause-written : goal.returns-then-number-lt10-clause-written

@@ -1,5 +1,5 @@
 use Rattle.std.proofs.Common.{arith}
-use Rattle.mps_text.proofs.ShortLines.{front_written}
+use Rattle.mps_text.proofs.ShortLineFacts.{front_written}
 use Rattle.mps_text.proofs.line.write_front.Goals as goal
 
 pub returns-clause-written : goal.returns-clause-written

@@ -1,7 +1,7 @@
 use Rattle.std.proofs.Common.{◌≡◌, ◌+◌, ◌∙◌, ◌∷◌, ◌++◌, [], List, ℕ, ap, arith, take}
 use Rattle.std.specs.Prelude.{decimal}
 use Rattle.std.proofs.lemmas.List.{append_assoc}
-use Rattle.mps_text.proofs.ShortLines.{front_copied}
+use Rattle.mps_text.proofs.ShortLineFacts.{front_copied}
 use Rattle.mps_text.proofs.line.write_line.Goals as goal
 
 pub returns-clause-written : goal.returns-clause-written

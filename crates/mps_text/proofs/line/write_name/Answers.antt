@@ -1,4 +1,4 @@
-use Rattle.mps_text.proofs.ShortLines.{name_written}
+use Rattle.mps_text.proofs.ShortLineFacts.{name_written}
 use Rattle.mps_text.proofs.line.write_name.Goals as goal
 
 pub returns-clause-written : goal.returns-clause-written

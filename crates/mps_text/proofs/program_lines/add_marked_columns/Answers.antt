@@ -1,6 +1,6 @@
 use Rattle.std.proofs.Common.{◌∙◌}
-use Rattle.byte_sinks.proofs.Adding.{Adds-then, Adds-to}
-use Rattle.mps_text.proofs.TextBytes.{where_any-some}
+use Rattle.byte_sinks.proofs.AddingFacts.{Adds-then, Adds-to}
+use Rattle.mps_text.proofs.TextByteFacts.{where_any-some}
 use Rattle.mps_text.proofs.program_lines.add_marked_columns.Goals as goal
 
 pub returns : goal.returns

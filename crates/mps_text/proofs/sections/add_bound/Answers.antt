@@ -1,5 +1,5 @@
-use Rattle.byte_sinks.proofs.Adding.{Adds-then, Adds-to}
-use Rattle.mps_text.proofs.LineBytes.{bound_parts}
+use Rattle.byte_sinks.proofs.AddingFacts.{Adds-then, Adds-to}
+use Rattle.mps_text.proofs.LineByteFacts.{bound_parts}
 use Rattle.mps_text.specs.Text.{bound_words}
 use Rattle.mps_text.proofs.sections.add_bound.Goals as goal
 

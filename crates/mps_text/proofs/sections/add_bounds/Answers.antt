@@ -2,8 +2,8 @@ use Rattle.std.proofs.Common.{◌≡◌, ◌+◌, ◌∙◌, ℕ, suc, take, ap,
 use Rattle.std.specs.Prelude.{flat_map}
 use Rattle.program_rows.specs.Parts.{shown_column}
 use Rattle.mps_text.specs.Bytes.{bound_bytes}
-use Rattle.byte_sinks.proofs.Adding.{Adds-then, Adds-to}
-use Rattle.byte_sinks.proofs.Known.{flat_map-next}
+use Rattle.byte_sinks.proofs.AddingFacts.{Adds-then, Adds-to}
+use Rattle.byte_sinks.proofs.KnownByteFacts.{flat_map-next}
 use Rattle.mps_text.proofs.sections.add_bounds.Goals as goal
 
 pub loop-place-preserved : goal.loop-place-preserved

@@ -1,8 +1,8 @@
 use Rattle.std.proofs.Common.{map, pos, arith}
 use Rattle.program_rows.specs.Parts.{shown_row}
 use Rattle.mps_text.specs.Bytes.{entry_bytes}
-use Rattle.byte_sinks.proofs.Adding.{Adds-then, Adds-to}
-use Rattle.byte_sinks.proofs.Known.{flat_map-next_or}
+use Rattle.byte_sinks.proofs.AddingFacts.{Adds-then, Adds-to}
+use Rattle.byte_sinks.proofs.KnownByteFacts.{flat_map-next_or}
 use Rattle.mps_text.proofs.sections.add_long_entries.Goals as goal
 
 pub loop-entry-preserved : goal.loop-entry-preserved

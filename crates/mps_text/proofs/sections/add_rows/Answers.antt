@@ -1,8 +1,8 @@
 use Rattle.std.proofs.Common.{arith}
 use Rattle.program_rows.specs.Parts.{shown_row}
 use Rattle.mps_text.specs.Bytes.{row_bytes}
-use Rattle.byte_sinks.proofs.Adding.{Adds-then, Adds-to}
-use Rattle.byte_sinks.proofs.Known.{flat_map-next_item}
+use Rattle.byte_sinks.proofs.AddingFacts.{Adds-then, Adds-to}
+use Rattle.byte_sinks.proofs.KnownByteFacts.{flat_map-next_item}
 use Rattle.mps_text.proofs.sections.add_rows.Goals as goal
 
 pub loop-row-preserved : goal.loop-row-preserved

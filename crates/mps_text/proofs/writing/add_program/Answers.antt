@@ -1,5 +1,5 @@
-use Rattle.byte_sinks.proofs.Adding.{Adds-to}
-use Rattle.mps_text.proofs.TextBytes.{text-of_parts}
+use Rattle.byte_sinks.proofs.AddingFacts.{Adds-to}
+use Rattle.mps_text.proofs.TextByteFacts.{text-of_parts}
 use Rattle.mps_text.proofs.writing.add_program.Goals as goal
 
 pub returns : goal.returns

@@ -2,7 +2,7 @@ use Rattle.std.proofs.Common.{rules}
 use Rattle.std.proofs.lemmas.Int.{to_z-of_z}
 use mir.Syntax.{w64, w128}
 use mir.Val.{SFits}
-use Rattle.optimality.proofs.ProductBounds.{product_high, product_low}
+use Rattle.optimality.proofs.ProductBoundFacts.{product_high, product_low}
 use Rattle.optimality.proofs.arithmetic.plus_multiple.Goals as goal
 
 pub plus_product-requires-clause-low : goal.plus_product-requires-clause-low

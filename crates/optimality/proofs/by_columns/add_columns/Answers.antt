@@ -2,7 +2,7 @@ use Rattle.std.proofs.Common.{◌∙◌, ◌≤◌, arith, length, rules}
 use Rattle.std.proofs.lemmas.Int.{to_z-of_z}
 use mir.Syntax.{w64, w128}
 use mir.Val.{SFits}
-use Rattle.optimality.proofs.ByColumnLaws.{columns-end, columns-step}
+use Rattle.optimality.proofs.ByColumnFacts.{columns-end, columns-step}
 use Rattle.optimality.proofs.by_columns.add_columns.Goals as goal
 
 pub loop-column-preserved : goal.loop-column-preserved

@@ -3,7 +3,7 @@ use Rattle.std.proofs.lemmas.Int.{to_z-of_z}
 use mir.Syntax.{w64, w128}
 use mir.Val.{SFits}
 use Rattle.optimality.specs.inside.Adding.{AreGivenMore, at_place}
-use Rattle.optimality.proofs.ByColumnLaws.{multipliers-step}
+use Rattle.optimality.proofs.ByColumnFacts.{multipliers-step}
 use Rattle.optimality.proofs.by_columns.add_multipliers.Goals as goal
 
 pub loop-i-preserved : goal.loop-i-preserved

@@ -2,7 +2,7 @@ use Rattle.std.proofs.Common.{List, subst}
 use Rattle.std.proofs.lemmas.Option.{IfSome_then}
 use Rattle.optimality.specs.Certificates.{Form}
 use Rattle.optimality.specs.inside.Adding.{AreGivenMore, rows_given}
-use Rattle.optimality.proofs.LeafLaws.{rows-have}
+use Rattle.optimality.proofs.LeafFacts.{rows-have}
 use Rattle.optimality.proofs.by_columns.add_rows_by_forms.Goals as goal
 
 pub returns : goal.returns

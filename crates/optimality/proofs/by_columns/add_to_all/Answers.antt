@@ -2,7 +2,7 @@ use Rattle.std.proofs.Common.{List, ℕ, subst}
 use Rattle.std.proofs.lemmas.Option.{IfSome_then}
 use Rattle.optimality.specs.inside.Adding.{AreGivenMore, cuts_given}
 use Rattle.optimality.specs.inside.Holding.{cuts_of}
-use Rattle.optimality.proofs.LeafLaws.{all-have}
+use Rattle.optimality.proofs.LeafFacts.{all-have}
 use Rattle.optimality.proofs.by_columns.add_to_all.Goals as goal
 
 pub returns : goal.returns

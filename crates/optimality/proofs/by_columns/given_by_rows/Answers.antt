@@ -2,7 +2,7 @@ use Rattle.std.proofs.Common.{rules}
 use Rattle.std.proofs.lemmas.Int.{to_z-of_z}
 use mir.Syntax.{w64, w128}
 use mir.Val.{SFits, to_z}
-use Rattle.optimality.proofs.ByColumnLaws.{entry-added}
+use Rattle.optimality.proofs.ByColumnFacts.{entry-added}
 use Rattle.optimality.proofs.by_columns.given_by_rows.Goals as goal
 
 pub loop-i-preserved : goal.loop-i-preserved

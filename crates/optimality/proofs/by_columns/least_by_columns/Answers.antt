@@ -5,7 +5,7 @@ use mir.Syntax.{w64, w128}
 use mir.Val.{SFits}
 use Rattle.optimality.specs.inside.Adding.{HaveAll, least_with, number_at}
 use Rattle.optimality.specs.inside.Holding.{cuts_of}
-use Rattle.optimality.proofs.LeafLaws.{given-is}
+use Rattle.optimality.proofs.LeafFacts.{given-is}
 use Rattle.optimality.proofs.by_columns.least_by_columns.Goals as goal
 
 pub returns : goal.returns

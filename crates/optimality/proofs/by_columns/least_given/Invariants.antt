@@ -1,7 +1,7 @@
 use Rattle.std.proofs.Common.{◌≡◌, drop, ◌+ℤ◌}
 use Rattle.optimality.specs.inside.Adding.{number_at}
-use Rattle.optimality.proofs.ColumnSums.{least_sum}
-use Rattle.optimality.proofs.LeafLaws.{with_given}
+use Rattle.optimality.proofs.ColumnSumFacts.{least_sum}
+use Rattle.optimality.proofs.LeafFacts.{with_given}
 use Rattle.optimality.proofs.by_columns.least_given.Given as goal
 
 -- the sum so far, and that of the columns that are left

@@ -4,7 +4,7 @@ use Rattle.std.proofs.lemmas.Option.{IfSome_then}
 use mir.Syntax.{w64, w128}
 use mir.Val.{SFits}
 use Rattle.optimality.specs.inside.Adding.{number_at}
-use Rattle.optimality.proofs.LeafLaws.{given-cost}
+use Rattle.optimality.proofs.LeafFacts.{given-cost}
 use Rattle.optimality.proofs.by_columns.reduced_cost.Goals as goal
 
 pub returns : goal.returns

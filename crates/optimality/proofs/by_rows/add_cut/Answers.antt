@@ -8,9 +8,9 @@ use mir.Syntax.{w128}
 use mir.Val.{SFits}
 use Rattle.optimality.specs.Certificates.{Form}
 use Rattle.optimality.specs.inside.Adding.{number_at, form_given}
-use Rattle.optimality.proofs.Steps.{side-given}
-use Rattle.optimality.proofs.SizeLaws.{side-size, signed-size}
-use Rattle.optimality.proofs.StopLaws.{too-large-weaker}
+use Rattle.optimality.proofs.StepFacts.{side-given}
+use Rattle.optimality.proofs.SizeFacts.{side-size, signed-size}
+use Rattle.optimality.proofs.StopFacts.{too-large-weaker}
 use Rattle.optimality.proofs.by_rows.add_cut.Goals as goal
 
 pub returns-clause-value : goal.returns-clause-value

@@ -5,9 +5,9 @@ use Rattle.optimality.specs.inside.Sizes.{form_size}
 use Rattle.optimality.specs.declared.checker.OpenSplit.{OpenSplit}
 use Rattle.optimality.specs.inside.Adding.{AreGivenMore, form_given, number_at}
 use Rattle.optimality.specs.inside.Holding.{cut_of}
-use Rattle.optimality.proofs.Steps.{cuts-step}
-use Rattle.optimality.proofs.SizeLaws.{cut-within, cuts-step-within, reach}
-use Rattle.optimality.proofs.StopLaws.{too-large-passed}
+use Rattle.optimality.proofs.StepFacts.{cuts-step}
+use Rattle.optimality.proofs.SizeFacts.{cut-within, cuts-step-within, reach}
+use Rattle.optimality.proofs.StopFacts.{too-large-passed}
 use Rattle.optimality.proofs.by_rows.add_cuts.Goals as goal
 
 pub loop-i-preserved : goal.loop-i-preserved

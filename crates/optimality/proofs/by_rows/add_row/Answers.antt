@@ -10,9 +10,9 @@ use Rattle.optimality.specs.inside.Adding.{AreGivenMore, number_at, form_at, for
 use Rattle.optimality.specs.inside.RowForms.{form_held, forms_held}
 use Rattle.optimality.specs.inside.Sizes.{form_size}
 use Rattle.optimality.specs.inside.Stopping.{ReachesLimit}
-use Rattle.optimality.proofs.PlaceLaws.{forms-given}
-use Rattle.optimality.proofs.SizeLaws.{first-within, second-within, reach}
-use Rattle.optimality.proofs.StopLaws.{too-large-passed, too-large-weaker}
+use Rattle.optimality.proofs.PlaceFacts.{forms-given}
+use Rattle.optimality.proofs.SizeFacts.{first-within, second-within, reach}
+use Rattle.optimality.proofs.StopFacts.{too-large-passed, too-large-weaker}
 use Rattle.optimality.proofs.by_rows.add_row.Goals as goal
 
 pub returns-clause-value : goal.returns-clause-value

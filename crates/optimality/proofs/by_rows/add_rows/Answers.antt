@@ -7,9 +7,9 @@ use Rattle.std.proofs.lemmas.Int.{to_z-of_z}
 use mir.Syntax.{w128}
 use mir.Val.{SFits}
 use Rattle.optimality.specs.inside.RowForms.{forms_held}
-use Rattle.optimality.proofs.Steps.{rows-step}
-use Rattle.optimality.proofs.SizeLaws.{row-within, step-within, reach}
-use Rattle.optimality.proofs.StopLaws.{too-large-passed}
+use Rattle.optimality.proofs.StepFacts.{rows-step}
+use Rattle.optimality.proofs.SizeFacts.{row-within, step-within, reach}
+use Rattle.optimality.proofs.StopFacts.{too-large-passed}
 use Rattle.optimality.proofs.by_rows.add_rows.Goals as goal
 
 pub loop-i-preserved : goal.loop-i-preserved

@@ -6,9 +6,9 @@ use mir.Syntax.{w64, w128}
 use mir.Val.{SFits}
 use Rattle.optimality.specs.Reduced.{least_part}
 use Rattle.optimality.specs.Sizes.{costs_size}
-use Rattle.optimality.proofs.ColumnSizes.{cost-size, part-apart, scaled-size}
-use Rattle.optimality.proofs.LeafLaws.{change-is}
-use Rattle.optimality.proofs.StopLaws.{too-large-passed, too-large-weaker}
+use Rattle.optimality.proofs.ColumnSizeFacts.{cost-size, part-apart, scaled-size}
+use Rattle.optimality.proofs.LeafFacts.{change-is}
+use Rattle.optimality.proofs.StopFacts.{too-large-passed, too-large-weaker}
 use Rattle.optimality.proofs.by_rows.change.Goals as goal
 
 pub returns-clause-value : goal.returns-clause-value

@@ -6,9 +6,9 @@ use mir.Val.{SFits, to_z}
 use Rattle.optimality.specs.Certificates.{Cut}
 use Rattle.optimality.specs.declared.checker.OpenSplit.{OpenSplit}
 use Rattle.optimality.specs.inside.Holding.{cut_of}
-use Rattle.optimality.proofs.SizeLaws.{cut-right-within, cuts-step-within}
-use Rattle.optimality.proofs.Steps.{cuts-right-step}
-use Rattle.optimality.proofs.StopLaws.{too-large-passed}
+use Rattle.optimality.proofs.SizeFacts.{cut-right-within, cuts-step-within}
+use Rattle.optimality.proofs.StepFacts.{cuts-right-step}
+use Rattle.optimality.proofs.StopFacts.{too-large-passed}
 use Rattle.optimality.proofs.by_rows.cuts_right.Goals as goal
 
 pub returns-in_err-sum-clause-too_large : goal.returns-in_err-sum-clause-too_large

@@ -1,5 +1,5 @@
 use Rattle.std.proofs.Common.{◌≡◌, drop, ◌+ℤ◌}
-use Rattle.optimality.proofs.ColumnSums.{cuts_right}
+use Rattle.optimality.proofs.ColumnSumFacts.{cuts_right}
 use Rattle.optimality.specs.inside.Holding.{cuts_of}
 use Rattle.optimality.proofs.by_rows.cuts_right.Given as goal
 

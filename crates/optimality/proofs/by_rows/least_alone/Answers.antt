@@ -3,9 +3,9 @@ use Rattle.std.specs.Prelude.{unsigned_abs}
 use Rattle.std.proofs.lemmas.Int.{to_z-of_z}
 use mir.Syntax.{w128}
 use mir.Val.{SFits, to_z}
-use Rattle.optimality.proofs.ColumnSizes.{sum-room}
-use Rattle.optimality.proofs.LeafLaws.{alone-step}
-use Rattle.optimality.proofs.SizeLaws.{abs-sum}
+use Rattle.optimality.proofs.ColumnSizeFacts.{sum-room}
+use Rattle.optimality.proofs.LeafFacts.{alone-step}
+use Rattle.optimality.proofs.SizeFacts.{abs-sum}
 use Rattle.optimality.proofs.by_rows.least_alone.Goals as goal
 
 pub overflow_add-sum : goal.overflow_add-sum

@@ -4,11 +4,11 @@ use Rattle.std.proofs.lemmas.Int.{to_z-of_z}
 use mir.Syntax.{w128}
 use mir.Val.{SFits, to_z}
 use Rattle.optimality.specs.inside.Adding.{change_at}
-use Rattle.optimality.proofs.ColumnSizes.{by-either, change-below}
-use Rattle.optimality.proofs.LeafLaws.{total-step, total-end}
-use Rattle.optimality.proofs.PlaceSizes.{below-taken}
-use Rattle.optimality.proofs.SizeLaws.{abs-sum}
-use Rattle.optimality.proofs.StopLaws.{too-large-passed}
+use Rattle.optimality.proofs.ColumnSizeFacts.{by-either, change-below}
+use Rattle.optimality.proofs.LeafFacts.{total-step, total-end}
+use Rattle.optimality.proofs.PlaceSizeFacts.{below-taken}
+use Rattle.optimality.proofs.SizeFacts.{abs-sum}
+use Rattle.optimality.proofs.StopFacts.{too-large-passed}
 use Rattle.optimality.proofs.by_rows.least_total.Goals as goal
 
 pub loop-column-preserved : goal.loop-column-preserved

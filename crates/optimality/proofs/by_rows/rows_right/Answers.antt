@@ -4,9 +4,9 @@ use Rattle.optimality.specs.Reduced.{right_side_at}
 use Rattle.std.proofs.lemmas.Int.{ints, to_z-of_z}
 use mir.Syntax.{w128}
 use mir.Val.{SFits, to_z}
-use Rattle.optimality.proofs.Steps.{right-step}
-use Rattle.optimality.proofs.SizeLaws.{row-right-within, step-within}
-use Rattle.optimality.proofs.StopLaws.{too-large-passed}
+use Rattle.optimality.proofs.StepFacts.{right-step}
+use Rattle.optimality.proofs.SizeFacts.{row-right-within, step-within}
+use Rattle.optimality.proofs.StopFacts.{too-large-passed}
 use Rattle.optimality.proofs.by_rows.rows_right.Goals as goal
 
 pub loop-i-preserved : goal.loop-i-preserved

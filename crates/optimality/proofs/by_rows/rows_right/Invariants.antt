@@ -1,5 +1,5 @@
 use Rattle.std.proofs.Common.{◌≡◌, drop, ◌+ℤ◌}
-use Rattle.optimality.proofs.ColumnSums.{rows_right}
+use Rattle.optimality.proofs.ColumnSumFacts.{rows_right}
 use Rattle.optimality.proofs.by_rows.rows_right.Given as goal
 
 -- the sum so far, and that of the rows that are left

@@ -4,7 +4,7 @@ use Rattle.std.proofs.lemmas.Int.{to_z-of_z}
 use mir.Syntax.{w128}
 use mir.Val.{SFits}
 use Rattle.optimality.specs.inside.Adding.{change_at}
-use Rattle.optimality.proofs.StopLaws.{too-large-weaker}
+use Rattle.optimality.proofs.StopFacts.{too-large-weaker}
 use Rattle.optimality.proofs.by_rows.with_change.Goals as goal
 
 pub returns-clause-too_large : goal.returns-clause-too_large

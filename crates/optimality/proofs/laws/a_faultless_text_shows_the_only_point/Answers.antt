@@ -1,4 +1,4 @@
-use Rattle.optimality.proofs.VerdictLaws.{only-verdict}
+use Rattle.optimality.proofs.VerdictFacts.{only-verdict}
 use Rattle.optimality.proofs.laws.a_faultless_text_shows_the_only_point.Goals as goal
 
 pub returns : goal.returns

@@ -1,4 +1,4 @@
-use Rattle.optimality.proofs.OnlyLaws.{shown-is-only}
+use Rattle.optimality.proofs.OnlyFacts.{shown-is-only}
 use Rattle.optimality.proofs.laws.a_shown_point_is_the_only_one.Goals as goal
 
 pub returns : goal.returns

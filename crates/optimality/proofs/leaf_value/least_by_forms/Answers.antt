@@ -7,9 +7,9 @@ use mir.Val.{SFits}
 use Rattle.optimality.specs.Sizes.{costs_size}
 use Rattle.optimality.specs.inside.Adding.{number_at, least_alone, least_with}
 use Rattle.optimality.specs.inside.Holding.{cuts_of}
-use Rattle.optimality.proofs.ColumnSizes.{alone-size, scaled-size, sizes-given}
-use Rattle.optimality.proofs.LeafLaws.{least-is}
-use Rattle.optimality.proofs.StopLaws.{too-large-passed, too-large-weaker}
+use Rattle.optimality.proofs.ColumnSizeFacts.{alone-size, scaled-size, sizes-given}
+use Rattle.optimality.proofs.LeafFacts.{least-is}
+use Rattle.optimality.proofs.StopFacts.{too-large-passed, too-large-weaker}
 use Rattle.optimality.proofs.leaf_value.least_by_forms.Goals as goal
 
 pub returns-clause-value : goal.returns-clause-value

@@ -8,8 +8,8 @@ use Rattle.optimality.specs.inside.Holding.{cuts_of}
 use Rattle.optimality.specs.inside.RowForms.{row_forms}
 use Rattle.optimality.specs.Sizes.{size_of}
 use Rattle.optimality.specs.inside.Sizes.{form_size}
-use Rattle.optimality.proofs.ColumnSizes.{given-reached}
-use Rattle.optimality.proofs.StopLaws.{too-large-weaker}
+use Rattle.optimality.proofs.ColumnSizeFacts.{given-reached}
+use Rattle.optimality.proofs.StopFacts.{too-large-weaker}
 use Rattle.optimality.proofs.leaf_value.reduce.Goals as goal
 
 -- what cuts and rows give to what was 0

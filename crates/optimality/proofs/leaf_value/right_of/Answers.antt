@@ -4,9 +4,9 @@ use Rattle.std.proofs.lemmas.Int.{to_z-of_z}
 use mir.Syntax.{w128}
 use mir.Val.{SFits}
 use Rattle.optimality.specs.inside.Holding.{cuts_of}
-use Rattle.optimality.proofs.ColumnSizes.{right-within}
-use Rattle.optimality.proofs.ColumnSums.{cuts_right, rows_right}
-use Rattle.optimality.proofs.StopLaws.{too-large-weaker}
+use Rattle.optimality.proofs.ColumnSizeFacts.{right-within}
+use Rattle.optimality.proofs.ColumnSumFacts.{cuts_right, rows_right}
+use Rattle.optimality.proofs.StopFacts.{too-large-weaker}
 use Rattle.optimality.proofs.leaf_value.right_of.Goals as goal
 
 pub returns-clause-too_large : goal.returns-clause-too_large

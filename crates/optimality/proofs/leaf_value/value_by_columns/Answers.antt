@@ -5,8 +5,8 @@ use mir.Syntax.{w128}
 use mir.Val.{SFits}
 use Rattle.optimality.specs.Reduced.{reduced}
 use Rattle.optimality.specs.inside.Holding.{cuts_of}
-use Rattle.optimality.proofs.AlikeLaws.{rows-alike}
-use Rattle.optimality.proofs.ColumnSums.{cuts_right, least_sum, rows_right}
+use Rattle.optimality.proofs.AlikeFacts.{rows-alike}
+use Rattle.optimality.proofs.ColumnSumFacts.{cuts_right, least_sum, rows_right}
 use Rattle.optimality.proofs.leaf_value.value_by_columns.Goals as goal
 
 pub returns-in-Ok-minus : goal.returns-in-Ok-minus

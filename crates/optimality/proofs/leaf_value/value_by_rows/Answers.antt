@@ -7,13 +7,13 @@ use mir.Val.{SFits}
 use Rattle.optimality.specs.Reduced.{reduced}
 use Rattle.optimality.specs.inside.Adding.{AreAlike}
 use Rattle.optimality.specs.inside.Holding.{cuts_of}
-use Rattle.optimality.proofs.AlikeLaws.{rows-alike}
-use Rattle.optimality.proofs.ColumnSums.{cuts_right, least_sum, rows_right}
+use Rattle.optimality.proofs.AlikeFacts.{rows-alike}
+use Rattle.optimality.proofs.ColumnSumFacts.{cuts_right, least_sum, rows_right}
 use Rattle.optimality.specs.Sizes.{costs_size}
 use Rattle.optimality.specs.inside.Stopping.{given_size}
-use Rattle.optimality.proofs.ColumnSizes.{leaf-parts, right-within}
-use Rattle.optimality.proofs.SizeLaws.{abs-less, abs-sum}
-use Rattle.optimality.proofs.StopLaws.{too-large-passed, too-large-weaker}
+use Rattle.optimality.proofs.ColumnSizeFacts.{leaf-parts, right-within}
+use Rattle.optimality.proofs.SizeFacts.{abs-less, abs-sum}
+use Rattle.optimality.proofs.StopFacts.{too-large-passed, too-large-weaker}
 use Rattle.optimality.proofs.leaf_value.value_by_rows.Goals as goal
 
 pub returns-clause-value : goal.returns-clause-value

@@ -4,7 +4,7 @@ use Rattle.optimality.specs.Certificates.{Cut}
 use Rattle.optimality.specs.Shows.{leaf_value}
 use Rattle.optimality.specs.Sizes.{leaf_size}
 use Rattle.optimality.specs.inside.Stopping.{TooLargeOnly}
-use Rattle.optimality.proofs.BranchLaws.{cuts_are}
+use Rattle.optimality.proofs.BranchFacts.{cuts_are}
 use Rattle.optimality.proofs.lines.leaf_shows.Goals as goal
 
 pub returns-clause-value : goal.returns-clause-value

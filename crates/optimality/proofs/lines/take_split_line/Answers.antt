@@ -2,8 +2,8 @@ use Rattle.std.proofs.Common.{ap, ◌∙◌}
 use Rattle.auction_terms.specs.LineFields.{fields}
 use Rattle.optimality.specs.inside.LineMeaning.{split_behind}
 use Rattle.optimality.specs.inside.Branches.{branches_of}
-use Rattle.optimality.proofs.AlikeLaws.{split-opened}
-use Rattle.optimality.proofs.BranchLaws.{branches_push}
+use Rattle.optimality.proofs.AlikeFacts.{split-opened}
+use Rattle.optimality.proofs.BranchFacts.{branches_push}
 use Rattle.optimality.proofs.lines.take_split_line.Goals as goal
 
 pub returns-clause-value : goal.returns-clause-value

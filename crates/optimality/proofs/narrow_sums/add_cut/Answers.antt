@@ -6,7 +6,7 @@ use mir.Syntax.{w64, w128}
 use mir.Val.{SFits}
 use Rattle.optimality.specs.Certificates.{Form}
 use Rattle.optimality.specs.inside.Adding.{number_at, form_given}
-use Rattle.optimality.proofs.Steps.{side-given}
+use Rattle.optimality.proofs.StepFacts.{side-given}
 use Rattle.optimality.proofs.narrow_sums.add_cut.Goals as goal
 
 pub returns : goal.returns

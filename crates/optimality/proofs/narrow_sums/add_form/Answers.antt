@@ -2,7 +2,7 @@ use Rattle.std.proofs.Common.{get_or, pos, rules, arith, ◌≤◌, length}
 use Rattle.std.proofs.lemmas.Int.{to_z-of_z}
 use mir.Syntax.{w64}
 use mir.Val.{SFits}
-use Rattle.optimality.proofs.PlaceLaws.{form-step, form-end}
+use Rattle.optimality.proofs.PlaceFacts.{form-step, form-end}
 use Rattle.optimality.proofs.narrow_sums.add_form.Goals as goal
 
 pub loop-i-preserved : goal.loop-i-preserved

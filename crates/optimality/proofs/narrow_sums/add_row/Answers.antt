@@ -7,7 +7,7 @@ use mir.Val.{SFits}
 use Rattle.optimality.specs.Certificates.{Form}
 use Rattle.optimality.specs.inside.Adding.{AreGivenMore, form_at, form_given}
 use Rattle.optimality.specs.inside.RowForms.{form_held, forms_held}
-use Rattle.optimality.proofs.PlaceLaws.{forms-given}
+use Rattle.optimality.proofs.PlaceFacts.{forms-given}
 use Rattle.optimality.proofs.narrow_sums.add_row.Goals as goal
 
 pub returns : goal.returns

@@ -3,7 +3,7 @@ use Rattle.std.proofs.lemmas.Int.{to_z-of_z}
 use mir.Syntax.{w128}
 use mir.Val.{SFits}
 use Rattle.optimality.specs.inside.RowForms.{forms_held}
-use Rattle.optimality.proofs.Steps.{rows-step}
+use Rattle.optimality.proofs.StepFacts.{rows-step}
 use Rattle.optimality.proofs.narrow_sums.add_rows.Goals as goal
 
 pub loop-i-preserved : goal.loop-i-preserved

@@ -2,8 +2,8 @@ use Rattle.std.proofs.Common.{◌^◌, ◌<ℤ◌, ◌≤ℤ◌, ◌+ℤ◌, ari
 use Rattle.std.proofs.lemmas.Int.{ints, to_z-of_z}
 use mir.Syntax.{w64}
 use mir.Val.{SFits}
-use Rattle.optimality.proofs.PlaceLaws.{more-set}
-use Rattle.optimality.proofs.ProductBounds.{small_sum}
+use Rattle.optimality.proofs.PlaceFacts.{more-set}
+use Rattle.optimality.proofs.ProductBoundFacts.{small_sum}
 use Rattle.optimality.proofs.narrow_sums.add_small.Goals as goal
 
 pub returns : goal.returns

@@ -4,7 +4,7 @@ use Rattle.std.proofs.lemmas.Int.{to_z-of_z}
 use mir.Syntax.{w64, w128}
 use mir.Val.{SFits}
 use Rattle.optimality.specs.inside.Adding.{AreGivenMore, at_place}
-use Rattle.optimality.proofs.PlaceLaws.{form-step, form-end}
+use Rattle.optimality.proofs.PlaceFacts.{form-step, form-end}
 use Rattle.optimality.proofs.narrow_sums.add_wide_form.Goals as goal
 
 pub loop-i-preserved : goal.loop-i-preserved

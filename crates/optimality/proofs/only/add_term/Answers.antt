@@ -1,6 +1,6 @@
 use Rattle.std.proofs.Common.{◌≡◌, ◌∙◌, ◌++◌, ◌∷◌, [], true, false, append_assoc, add-one, refl, sym, rules}
 use Rattle.optimality.specs.Only.{is_zero_or_one}
-use Rattle.optimality.proofs.OnlyLaws.{distance-at}
+use Rattle.optimality.proofs.OnlyFacts.{distance-at}
 use Rattle.optimality.proofs.only.add_term.Goals as goal
 
 pub returns-in_ok-push : goal.returns-in_ok-push

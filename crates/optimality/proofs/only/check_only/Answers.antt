@@ -2,8 +2,8 @@ use Rattle.std.proofs.Common.{rules}
 use Rattle.std.proofs.lemmas.Result.{on_ok_weaker}
 use Rattle.optimality.specs.Answers.{IsVerdict}
 use Rattle.optimality.specs.Only.{only_fault}
-use Rattle.optimality.proofs.OnlyLaws.{shown-is-only}
-use Rattle.optimality.proofs.VerdictLaws.{shown, not-shown, only-verdict}
+use Rattle.optimality.proofs.OnlyFacts.{shown-is-only}
+use Rattle.optimality.proofs.VerdictFacts.{shown, not-shown, only-verdict}
 use Rattle.optimality.proofs.only.check_only.Goals as goal
 
 pub returns-in-Ok-clause-shown : goal.returns-in-Ok-clause-shown

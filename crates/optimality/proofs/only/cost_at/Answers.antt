@@ -2,7 +2,7 @@ use Rattle.std.proofs.Common.{add-one, refl, rules}
 use Rattle.std.proofs.lemmas.Int.{to_z-of_z}
 use mir.Syntax.{w64}
 use mir.Val.{SFits}
-use Rattle.optimality.proofs.OnlyLaws.{cost-at}
+use Rattle.optimality.proofs.OnlyFacts.{cost-at}
 use Rattle.optimality.proofs.only.cost_at.Goals as goal
 
 pub returns-then-value : goal.returns-then-value

@@ -1,6 +1,6 @@
 use Rattle.std.proofs.Common.{◌≡◌, ◌∙◌, true, false, add-one, sym, arith}
 use Rattle.optimality.specs.Only.{is_zero_or_one}
-use Rattle.optimality.proofs.OnlyLaws.{free_ones-at}
+use Rattle.optimality.proofs.OnlyFacts.{free_ones-at}
 use Rattle.optimality.proofs.only.free_one.Goals as goal
 
 pub returns-then-not-is_zero_or_one-clause-counted : goal.returns-then-not-is_zero_or_one-clause-counted

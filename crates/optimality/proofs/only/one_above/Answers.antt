@@ -3,8 +3,8 @@ use Rattle.std.specs.Prelude.{unsigned_abs}
 use Rattle.std.proofs.lemmas.Int.{to_z-of_z}
 use mir.Syntax.{w64, w128}
 use mir.Val.{SFits, to_z}
-use Rattle.optimality.proofs.ColumnSizes.{sum-room}
-use Rattle.optimality.proofs.ProductBounds.{abs-within}
+use Rattle.optimality.proofs.ColumnSizeFacts.{sum-room}
+use Rattle.optimality.proofs.ProductBoundFacts.{abs-within}
 use Rattle.optimality.proofs.only.one_above.Goals as goal
 
 pub overflow_add-sum : goal.overflow_add-sum

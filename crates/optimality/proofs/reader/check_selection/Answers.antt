@@ -2,8 +2,8 @@ use Rattle.std.proofs.Common.{rules}
 use Rattle.std.proofs.lemmas.Result.{on_ok_weaker}
 use Rattle.optimality.specs.Answers.{IsVerdict}
 use Rattle.optimality.specs.Verdict.{certificate_fault}
-use Rattle.optimality.proofs.BoundLaws.{shown-is-bound}
-use Rattle.optimality.proofs.VerdictLaws.{shown, not-shown, verdict}
+use Rattle.optimality.proofs.BoundFacts.{shown-is-bound}
+use Rattle.optimality.proofs.VerdictFacts.{shown, not-shown, verdict}
 use Rattle.optimality.proofs.reader.check_selection.Goals as goal
 
 pub returns-in-Ok-clause-shown : goal.returns-in-Ok-clause-shown

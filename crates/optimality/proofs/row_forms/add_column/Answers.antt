@@ -2,7 +2,7 @@ use Rattle.std.proofs.Common.{rules, w64}
 use Rattle.std.proofs.lemmas.Int.{to_z-of_z}
 use mir.Val.{SFits}
 use Rattle.optimality.specs.inside.RowForms.{forms_held}
-use Rattle.optimality.proofs.RowLaws.{entry-taken}
+use Rattle.optimality.proofs.RowFacts.{entry-taken}
 use Rattle.optimality.proofs.row_forms.add_column.Goals as goal
 
 pub loop-i-preserved : goal.loop-i-preserved

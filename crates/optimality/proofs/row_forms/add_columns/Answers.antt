@@ -1,5 +1,5 @@
 use Rattle.optimality.specs.inside.RowForms.{forms_held}
-use Rattle.optimality.proofs.RowLaws.{columns-step}
+use Rattle.optimality.proofs.RowFacts.{columns-step}
 use Rattle.optimality.proofs.row_forms.add_columns.Goals as goal
 
 pub loop-column-preserved : goal.loop-column-preserved

@@ -3,7 +3,7 @@ use Rattle.std.proofs.lemmas.Int.{to_z-of_z}
 use Rattle.std.proofs.lemmas.Bool.Decides.{nat_tests}
 use mir.Syntax.{w64}
 use mir.Val.{SFits}
-use Rattle.optimality.proofs.RowLaws.{term-pushed}
+use Rattle.optimality.proofs.RowFacts.{term-pushed}
 use Rattle.optimality.proofs.row_forms.add_term.Goals as goal
 
 pub returns-in_ok-push : goal.returns-in_ok-push

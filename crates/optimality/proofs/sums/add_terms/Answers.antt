@@ -4,10 +4,10 @@ use Rattle.std.proofs.lemmas.Int.{to_z-of_z}
 use mir.Syntax.{w64, w128}
 use mir.Val.{SFits}
 use Rattle.optimality.specs.inside.Adding.{AreGivenMore, at_place, number_at}
-use Rattle.optimality.proofs.PlaceLaws.{terms-step}
-use Rattle.optimality.proofs.PlaceSizes.{more-within}
-use Rattle.optimality.proofs.ProductBounds.{abs-within}
-use Rattle.optimality.proofs.StopLaws.{too-large-passed}
+use Rattle.optimality.proofs.PlaceFacts.{terms-step}
+use Rattle.optimality.proofs.PlaceSizeFacts.{more-within}
+use Rattle.optimality.proofs.ProductBoundFacts.{abs-within}
+use Rattle.optimality.proofs.StopFacts.{too-large-passed}
 use Rattle.optimality.proofs.sums.add_terms.Goals as goal
 
 pub loop-i-init : goal.loop-i-init

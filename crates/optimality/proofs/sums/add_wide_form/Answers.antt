@@ -2,10 +2,10 @@ use Rattle.std.proofs.Common.{get_or, pos, rules, arith, ◌≤◌, length}
 use Rattle.std.proofs.lemmas.Int.{to_z-of_z}
 use mir.Syntax.{w128}
 use mir.Val.{SFits}
-use Rattle.optimality.proofs.PlaceLaws.{form-step, form-end}
+use Rattle.optimality.proofs.PlaceFacts.{form-step, form-end}
 use Rattle.optimality.specs.inside.Adding.{number_at}
-use Rattle.optimality.proofs.SizeLaws.{form-step-within, reach}
-use Rattle.optimality.proofs.StopLaws.{too-large-passed}
+use Rattle.optimality.proofs.SizeFacts.{form-step-within, reach}
+use Rattle.optimality.proofs.StopFacts.{too-large-passed}
 use Rattle.optimality.proofs.sums.add_wide_form.Goals as goal
 
 pub loop-i-preserved : goal.loop-i-preserved

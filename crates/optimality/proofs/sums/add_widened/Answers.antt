@@ -4,9 +4,9 @@ use Rattle.std.proofs.lemmas.Int.{to_z-of_z}
 use mir.Syntax.{w64, w128}
 use mir.Val.{SFits}
 use Rattle.optimality.specs.inside.Adding.{AreGivenMore, at_place, number_at}
-use Rattle.optimality.proofs.PlaceLaws.{form-step, form-end}
-use Rattle.optimality.proofs.SizeLaws.{form-step-within, reach}
-use Rattle.optimality.proofs.StopLaws.{too-large-passed}
+use Rattle.optimality.proofs.PlaceFacts.{form-step, form-end}
+use Rattle.optimality.proofs.SizeFacts.{form-step-within, reach}
+use Rattle.optimality.proofs.StopFacts.{too-large-passed}
 use Rattle.optimality.proofs.sums.add_widened.Goals as goal
 
 pub loop-i-preserved : goal.loop-i-preserved

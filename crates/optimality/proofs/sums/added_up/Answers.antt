@@ -3,7 +3,7 @@ use Rattle.std.specs.Prelude.{unsigned_abs}
 use Rattle.std.proofs.lemmas.Int.{ints}
 use Rattle.optimality.specs.Certificates.{number_in}
 use Rattle.optimality.specs.inside.Adding.{number_at}
-use Rattle.optimality.proofs.PlaceSizes.{number-size}
+use Rattle.optimality.proofs.PlaceSizeFacts.{number-size}
 use Rattle.optimality.proofs.sums.added_up.Goals as goal
 
 pub returns-clause-size : goal.returns-clause-size

@@ -1,6 +1,6 @@
 use Rattle.std.proofs.Common.{◌≡◌, false, true, List, ℕ, subst, sym}
 use Rattle.optimality.specs.inside.Adding.{has_place}
-use Rattle.optimality.proofs.PlaceLaws.{place-pushed, pushed-keeps}
+use Rattle.optimality.proofs.PlaceFacts.{place-pushed, pushed-keeps}
 use Rattle.optimality.proofs.sums.list_new.Goals as goal
 
 pub returns-in_ok-push-clause-kept : goal.returns-in_ok-push-clause-kept

@@ -4,8 +4,8 @@ use Rattle.std.proofs.lemmas.Int.{to_z-of_z}
 use mir.Syntax.{w128}
 use mir.Val.{SFits}
 use Rattle.optimality.specs.inside.Adding.{number_at}
-use Rattle.optimality.proofs.PlaceLaws.{taken-pushed}
-use Rattle.optimality.proofs.PlaceSizes.{size-pushed}
+use Rattle.optimality.proofs.PlaceFacts.{taken-pushed}
+use Rattle.optimality.proofs.PlaceSizeFacts.{size-pushed}
 use Rattle.optimality.proofs.sums.taken.Goals as goal
 
 pub loop-place-preserved-in-Continue-1 : goal.loop-place-preserved-in-Continue-1

@@ -1,5 +1,5 @@
 use Rattle.std.proofs.Common.{arith}
-use Rattle.optimality.proofs.NameLaws.{column-found, column-missing}
+use Rattle.optimality.proofs.NameFacts.{column-found, column-missing}
 use Rattle.optimality.proofs.terms.column_place.Goals as goal
 
 pub returns-then-place-column_count : goal.returns-then-place-column_count

@@ -1,6 +1,6 @@
 use Rattle.std.proofs.Common.{◌∙◌, sym}
 use Rattle.program_rows.specs.Program.{TableColumn}
-use Rattle.program_rows.proofs.LookupLaws.{guessed}
+use Rattle.program_rows.proofs.LookupFacts.{guessed}
 use Rattle.optimality.proofs.terms.place_or_count.Goals as goal
 
 pub returns-then-is_same : goal.returns-then-is_same

@@ -4,7 +4,7 @@ use Rattle.std.proofs.lemmas.Option.{slice_get-map}
 use Rattle.std.proofs.lemmas.Map.Keys.{IsDistinct-tail}
 use Rattle.program_rows.specs.Program.{TableRow}
 use Rattle.program_rows.specs.ProgramNames.{row_names}
-use Rattle.program_rows.proofs.AddedNames.{one_more}
+use Rattle.program_rows.proofs.AddedNameFacts.{one_more}
 use Rattle.optimality.proofs.terms.row_names.Goals as goal
 
 pub loop-row-preserved : goal.loop-row-preserved

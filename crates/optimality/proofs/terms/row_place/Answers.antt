@@ -1,6 +1,6 @@
 use Rattle.std.proofs.Common.{◌∙◌, ap, sym, List, ℕ}
 use Rattle.std.specs.Prelude.{bytes_eq, position}
-use Rattle.optimality.proofs.TermLaws.{place-is}
+use Rattle.optimality.proofs.TermFacts.{place-is}
 use Rattle.optimality.proofs.terms.row_place.Goals as goal
 
 pub returns : goal.returns

@@ -1,6 +1,6 @@
 use Rattle.std.proofs.Common.{◌∙◌, sym}
 use Rattle.program_rows.specs.Program.{TableColumn}
-use Rattle.program_rows.proofs.LookupLaws.{step, found_here}
+use Rattle.program_rows.proofs.LookupFacts.{step, found_here}
 use Rattle.optimality.proofs.terms.search.Goals as goal
 
 pub returns-then-is_same : goal.returns-then-is_same

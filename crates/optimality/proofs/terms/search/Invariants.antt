@@ -1,6 +1,6 @@
 use Rattle.std.proofs.Common.{◌≡◌, ◌+◌, drop}
 use Rattle.program_rows.specs.Program.{TableColumn}
-use Rattle.program_rows.proofs.LookupLaws.{left}
+use Rattle.program_rows.proofs.LookupFacts.{left}
 use Rattle.optimality.proofs.terms.search.Given as goal
 
 -- none of the columns so far has the name

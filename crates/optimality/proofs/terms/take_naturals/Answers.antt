@@ -2,7 +2,7 @@ use Rattle.std.proofs.Common.{◌∷◌, [], ap, length, arith, length-append}
 use Rattle.std.proofs.lemmas.Result.{err_from_is_err_and}
 use Rattle.auction_terms.specs.LineFields.{fields}
 use Rattle.optimality.specs.declared.terms.Naturals.{Naturals}
-use Rattle.optimality.proofs.TermLaws.{naturals-next, naturals-stop, naturals-fault}
+use Rattle.optimality.proofs.TermFacts.{naturals-next, naturals-stop, naturals-fault}
 use Rattle.optimality.proofs.terms.take_naturals.Goals as goal
 
 pub returns-in_default-clause-parsed : goal.returns-in_default-clause-parsed

@@ -3,7 +3,7 @@ use Rattle.std.specs.Prelude.{Ok}
 use Rattle.auction_terms.specs.LineFields.{fields}
 use Rattle.auction_terms.specs.Stages.{and_then}
 use Rattle.optimality.specs.LineMeaning.{parsed_naturals}
-use Rattle.optimality.proofs.TermLaws.{Read}
+use Rattle.optimality.proofs.TermFacts.{Read}
 use Rattle.optimality.proofs.terms.take_naturals.Given as goal
 
 -- the numbers so far, and those of the fields that are left

@@ -4,7 +4,7 @@ use Rattle.std.specs.Prelude.{sum_by}
 use Rattle.auction_terms.specs.Allocations.{quantity_of}
 use Rattle.auction_terms.specs.Terms.{Terms}
 use Rattle.bid_desk.specs.Closing.{book_of}
-use Rattle.outcome.proofs.LeftLaws.{worth_from, one_further, whole_sum}
+use Rattle.outcome.proofs.LeftFacts.{worth_from, one_further, whole_sum}
 use Rattle.outcome.proofs.costs.worth_left.Goals as goal
 
 pub loop-category-preserved : goal.loop-category-preserved

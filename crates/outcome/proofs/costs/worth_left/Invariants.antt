@@ -3,7 +3,7 @@ use Rattle.std.specs.Prelude.{sum_by}
 use Rattle.auction_terms.specs.Allocations.{quantity_of}
 use Rattle.auction_terms.specs.declared.limits.TheConstants.{GREATEST_QUANTITY, GREATEST_VALUE}
 use Rattle.bid_desk.specs.Closing.{book_of}
-use Rattle.outcome.proofs.LeftLaws.{worth_from}
+use Rattle.outcome.proofs.LeftFacts.{worth_from}
 use Rattle.outcome.proofs.costs.worth_left.Given as goal
 
 -- with what the other categories leave it is the whole

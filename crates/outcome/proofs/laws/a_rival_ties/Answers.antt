@@ -1,5 +1,5 @@
-use Rattle.auction_terms.proofs.OnlyLaws.{rivals_do_as_well}
-use Rattle.outcome.proofs.TieLaws.{rivals_tie}
+use Rattle.auction_terms.proofs.OnlyFacts.{rivals_do_as_well}
+use Rattle.outcome.proofs.TieFacts.{rivals_tie}
 use Rattle.outcome.proofs.laws.a_rival_ties.Goals as goal
 
 pub returns : goal.returns

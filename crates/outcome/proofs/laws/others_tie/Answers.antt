@@ -1,4 +1,4 @@
-use Rattle.outcome.proofs.TieLaws.{others_tie}
+use Rattle.outcome.proofs.TieFacts.{others_tie}
 use Rattle.outcome.proofs.laws.others_tie.Goals as goal
 
 pub returns : goal.returns

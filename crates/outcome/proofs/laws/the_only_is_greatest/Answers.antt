@@ -1,4 +1,4 @@
-use Rattle.outcome.proofs.TieLaws.{the_only_is_greatest}
+use Rattle.outcome.proofs.TieFacts.{the_only_is_greatest}
 use Rattle.outcome.proofs.laws.the_only_is_greatest.Goals as goal
 
 pub returns : goal.returns

@@ -1,5 +1,5 @@
 use Rattle.std.proofs.Common.{◌≡◌, ◌∙◌, ◌++◌, ◌∷◌, [], Some, None, true, append_assoc, add-one, refl, ap, rules}
-use Rattle.outcome.proofs.BackLaws.{back_at, back_skips}
+use Rattle.outcome.proofs.BackFacts.{back_at, back_skips}
 use Rattle.outcome.proofs.mapping.add_bid_at.Goals as goal
 
 pub returns-then-not-value : goal.returns-then-not-value

@@ -5,7 +5,7 @@ use Rattle.auction_terms.specs.declared.choices.Choice.{Choice}
 use Rattle.auction_terms.specs.declared.limits.TheConstants.{MOST_BIDDERS}
 use Rattle.outcome.specs.inside.Winning.{by_bidder}
 use Rattle.outcome.specs.PointAllocation.{HasRisingBidders}
-use Rattle.outcome.proofs.BackLaws.{by_bidder-more, rises_all}
+use Rattle.outcome.proofs.BackFacts.{by_bidder-more, rises_all}
 use Rattle.outcome.proofs.mapping.by_rising_bidder.Goals as goal
 
 pub loop-k-preserved : goal.loop-k-preserved

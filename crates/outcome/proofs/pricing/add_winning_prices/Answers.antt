@@ -1,5 +1,5 @@
 use Rattle.std.proofs.Common.{rules}
-use Rattle.byte_sinks.proofs.Adding.{Adds-then, Adds-to}
+use Rattle.byte_sinks.proofs.AddingFacts.{Adds-then, Adds-to}
 use Rattle.outcome.proofs.pricing.add_winning_prices.Goals as goal
 
 pub returns : goal.returns

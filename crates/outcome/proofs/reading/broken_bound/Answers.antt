@@ -2,7 +2,7 @@ use Rattle.std.proofs.Common.{◌∙◌, get_or, true, false, sym, add-one}
 use Rattle.std.proofs.lemmas.Option.{slice_get-get_or}
 use Rattle.std.proofs.lemmas.Iterator.Adapters.{position_from-zero}
 use Rattle.std.specs.List.{zip}
-use Rattle.outcome.proofs.BoundLaws.{bound_at, breaks}
+use Rattle.outcome.proofs.BoundFacts.{bound_at, breaks}
 use Rattle.outcome.proofs.reading.broken_bound.Goals as goal
 
 pub loop-column-init : goal.loop-column-init

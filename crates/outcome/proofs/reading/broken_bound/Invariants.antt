@@ -1,7 +1,7 @@
 use Rattle.std.proofs.Common.{◌≡◌, drop}
 use Rattle.std.specs.List.{position_from, zip}
 use Rattle.std.specs.Prelude.{position}
-use Rattle.outcome.proofs.BoundLaws.{breaks}
+use Rattle.outcome.proofs.BoundFacts.{breaks}
 use Rattle.outcome.proofs.reading.broken_bound.Given as goal
 
 -- no bound before the column is broken

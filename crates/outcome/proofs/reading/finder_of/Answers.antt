@@ -2,7 +2,7 @@ use Rattle.std.proofs.Common.{◌∙◌}
 use Rattle.std.proofs.lemmas.Option.{slice_get-map}
 use Rattle.program_rows.specs.Program.{TableColumn}
 use Rattle.program_rows.specs.ProgramNames.{column_names}
-use Rattle.program_rows.proofs.AddedNames.{one_more}
+use Rattle.program_rows.proofs.AddedNameFacts.{one_more}
 use Rattle.outcome.proofs.reading.finder_of.Goals as goal
 
 pub loop-column-preserved : goal.loop-column-preserved

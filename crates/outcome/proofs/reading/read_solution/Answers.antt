@@ -1,6 +1,6 @@
 use Rattle.std.proofs.Common.{◌≡◌, Err, sym, rules}
-use Rattle.outcome.proofs.PointLaws.{solutions_are_points}
-use Rattle.outcome.proofs.ParsedLaws.{faulty_line, no_point, parsed_point, too_long}
+use Rattle.outcome.proofs.PointFacts.{solutions_are_points}
+use Rattle.outcome.proofs.ParsedFacts.{faulty_line, no_point, parsed_point, too_long}
 use Rattle.outcome.proofs.reading.read_solution.Goals as goal
 
 pub returns-then-bytes-gt-SOLUTION_LIMIT-clause-answer : goal.returns-then-bytes-gt-SOLUTION_LIMIT-clause-answer

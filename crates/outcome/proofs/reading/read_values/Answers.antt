@@ -6,8 +6,8 @@ use Rattle.program_rows.specs.Program.{TableColumn}
 use Rattle.program_rows.specs.ProgramNames.{column_names}
 use Rattle.outcome.specs.Solution.{is_one, solution_line_fault}
 use Rattle.outcome.specs.inside.Reading.{said_by}
-use Rattle.outcome.proofs.SaidLaws.{nothing_said, read_off}
-use Rattle.outcome.proofs.ParsedLaws.{unless_fine, fine_unless}
+use Rattle.outcome.proofs.SaidFacts.{nothing_said, read_off}
+use Rattle.outcome.proofs.ParsedFacts.{unless_fine, fine_unless}
 use Rattle.outcome.proofs.reading.read_values.Goals as goal
 
 pub take_solution-requires-clause-nothing : goal.take_solution-requires-clause-nothing

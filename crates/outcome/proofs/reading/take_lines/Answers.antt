@@ -1,9 +1,9 @@
 use Rattle.std.proofs.Common.{◌≡◌, ◌∷◌, ◌++◌, ◌∙◌, [], Err, length, ap, rules, arith, length-append}
 use Rattle.auction_terms.proofs.FirstFaultFacts.{checked-all, checked-fault, checked-more}
-use Rattle.auction_terms.proofs.LineCount.{lines-within}
+use Rattle.auction_terms.proofs.LineCountFacts.{lines-within}
 use Rattle.auction_terms.specs.Lines.{lines_of, bytes_of}
 use Rattle.outcome.specs.Solution.{solution_line_fault}
-use Rattle.outcome.proofs.ParsedLaws.{unless_fine, fine_unless, message_of, parsed_some}
+use Rattle.outcome.proofs.ParsedFacts.{unless_fine, fine_unless, message_of, parsed_some}
 use Rattle.outcome.proofs.reading.take_lines.Goals as goal
 
 pub overflow_add-place : goal.overflow_add-place

@@ -1,5 +1,5 @@
 use Rattle.std.proofs.Common.{◌∙◌, sym}
-use Rattle.outcome.proofs.SaidLaws.{noted, not_valued, repeated, unknown, valued}
+use Rattle.outcome.proofs.SaidFacts.{noted, not_valued, repeated, unknown, valued}
 use Rattle.outcome.proofs.reading.take_pair.Goals as goal
 
 pub returns-in_default-clause-answer : goal.returns-in_default-clause-answer

@@ -1,5 +1,5 @@
 use Rattle.std.proofs.Common.{rules}
-use Rattle.byte_sinks.proofs.Adding.{Adds-then, Adds-to}
+use Rattle.byte_sinks.proofs.AddingFacts.{Adds-then, Adds-to}
 use Rattle.outcome.proofs.report_lines.add_group.Goals as goal
 
 pub returns : goal.returns

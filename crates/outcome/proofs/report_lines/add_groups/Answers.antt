@@ -2,10 +2,10 @@ use Rattle.std.proofs.Common.{◌≡◌, ◌+◌, ◌-◌, ◌<◌, ℕ, [], tak
 use Rattle.std.specs.Prelude.{get_or}
 use Rattle.std.specs.List.{zip}
 use Rattle.std.proofs.lemmas.List.{get_or_default}
-use Rattle.byte_sinks.proofs.Adding.{Adds-then, Adds-to}
+use Rattle.byte_sinks.proofs.AddingFacts.{Adds-then, Adds-to}
 use Rattle.bid_desk.specs.Sale.{sale_of}
 use Rattle.outcome.specs.Report.{group_report, in_turn}
-use Rattle.outcome.proofs.ReportLaws.{more_at}
+use Rattle.outcome.proofs.ReportFacts.{more_at}
 use Rattle.outcome.proofs.report_lines.add_groups.Goals as goal
 
 pub loop-i-preserved : goal.loop-i-preserved

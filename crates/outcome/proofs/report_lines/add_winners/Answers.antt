@@ -1,6 +1,6 @@
 use Rattle.std.proofs.Common.{◌<◌, length, arith}
-use Rattle.byte_sinks.proofs.Adding.{Adds-then, Adds-to}
-use Rattle.byte_sinks.proofs.Known.{flat_map-next_or}
+use Rattle.byte_sinks.proofs.AddingFacts.{Adds-then, Adds-to}
+use Rattle.byte_sinks.proofs.KnownByteFacts.{flat_map-next_or}
 use Rattle.bid_desk.specs.Sale.{sale_of}
 use Rattle.outcome.specs.Report.{winner_line}
 use Rattle.outcome.proofs.report_lines.add_winners.Goals as goal

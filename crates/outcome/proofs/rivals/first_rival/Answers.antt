@@ -4,10 +4,10 @@ use Rattle.std.proofs.lemmas.List.{length-map}
 use Rattle.auction_terms.specs.declared.choices.Choice.{Choice}
 use Rattle.auction_terms.specs.declared.rules.Category.{Category}
 use Rattle.auction_terms.specs.Terms.{lots_in}
-use Rattle.auction_terms.proofs.AllocationLaws.{loads_length}
-use Rattle.auction_terms.proofs.LimitLaws.{sized}
+use Rattle.auction_terms.proofs.AllocationFacts.{loads_length}
+use Rattle.auction_terms.proofs.LimitFacts.{sized}
 use Rattle.bid_desk.specs.Closing.{book_of}
-use Rattle.outcome.proofs.RivalLaws.{rivals_at, rivals_from}
+use Rattle.outcome.proofs.RivalFacts.{rivals_at, rivals_from}
 use Rattle.outcome.proofs.rivals.first_rival.Goals as goal
 
 pub rival_of-requires : goal.rival_of-requires

@@ -9,7 +9,7 @@ use Rattle.auction_terms.specs.Domination.{net}
 use Rattle.auction_terms.specs.Packages.{left}
 use Rattle.auction_terms.specs.Terms.{Terms, lots_in}
 use Rattle.outcome.specs.inside.Rivals.{first_suiting}
-use Rattle.outcome.proofs.QuantityLaws.{left-length}
+use Rattle.outcome.proofs.QuantityFacts.{left-length}
 use Rattle.outcome.proofs.rivals.first_rival_number.Goals as goal
 
 pub first_suiting-requires-clause-others : goal.first_suiting-requires-clause-others

@@ -2,7 +2,7 @@ use Rattle.std.proofs.Common.{◌∙◌, sym, ap, ℤ, w64}
 use Rattle.std.proofs.lemmas.Int.{to_z-of_z}
 use Rattle.auction_terms.specs.Terms.{lots_in}
 use Rattle.outcome.specs.inside.Rivals.{first_suiting}
-use Rattle.outcome.proofs.RivalLaws.{own_skipped, suiting_here, suiting_later}
+use Rattle.outcome.proofs.RivalFacts.{own_skipped, suiting_here, suiting_later}
 use Rattle.outcome.proofs.rivals.first_suiting.Goals as goal
 use Rattle.outcome.proofs.rivals.first_suiting.Goals.{else-number-own-via-then-number-own+else-suits, else-number-own-via-else-number-own}
 

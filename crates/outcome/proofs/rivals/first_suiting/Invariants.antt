@@ -1,7 +1,7 @@
 use Rattle.std.proofs.Common.{◌≡◌}
 use Rattle.auction_terms.specs.Terms.{lots_in}
 use Rattle.outcome.specs.inside.Rivals.{first_suiting}
-use Rattle.outcome.proofs.RivalLaws.{suiting_from}
+use Rattle.outcome.proofs.RivalFacts.{suiting_from}
 use Rattle.outcome.proofs.rivals.first_suiting.Given as goal
 
 -- none of the numbers so far

@@ -1,7 +1,7 @@
 use Rattle.std.proofs.Common.{◌≡◌, ◌∙◌, length, sym, ap, arith}
 use Rattle.auction_terms.specs.Terms.{Terms, lots_in}
 use Rattle.outcome.specs.inside.Rivals.{both_packages}
-use Rattle.outcome.proofs.QuantityLaws.{both-length, large-fails}
+use Rattle.outcome.proofs.QuantityFacts.{both-length, large-fails}
 use Rattle.outcome.proofs.rivals.fits_with.Goals as goal
 
 pub fits-requires : goal.fits-requires

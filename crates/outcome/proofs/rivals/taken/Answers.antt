@@ -7,9 +7,9 @@ use Rattle.auction_terms.specs.Allocations.{loads, quantity_of}
 use Rattle.auction_terms.specs.Packages.{IsPackage, Lots}
 use Rattle.auction_terms.specs.Terms.{Terms, lots_in}
 use Rattle.auction_terms.specs.declared.rules.Category.{Category}
-use Rattle.auction_terms.proofs.AllocationLaws.{feasible_at, loads_length}
+use Rattle.auction_terms.proofs.AllocationFacts.{feasible_at, loads_length}
 use Rattle.bid_desk.specs.Closing.{book_of}
-use Rattle.outcome.proofs.QuantityLaws.{small-at, small-fits, small-package}
+use Rattle.outcome.proofs.QuantityFacts.{small-at, small-fits, small-package}
 use Rattle.outcome.proofs.rivals.taken.Goals as goal
 
 counted : (categories others : List Category) → others ≡ categories → length others ≡ length (map (λ (c : Category). c.supply) categories)

@@ -7,7 +7,7 @@ use Rattle.std.proofs.lemmas.List.Folds.{list_all_at, list_all_more}
 use Rattle.auction_terms.specs.declared.limits.TheConstants.{GREATEST_QUANTITY}
 use Rattle.auction_terms.specs.Packages.{IsPackage}
 use Rattle.outcome.specs.inside.Rivals.{both_packages}
-use Rattle.outcome.proofs.QuantityLaws.{are_small, both-at, both-length, package-both}
+use Rattle.outcome.proofs.QuantityFacts.{are_small, both-at, both-length, package-both}
 use Rattle.outcome.proofs.rivals.together.Goals as goal
 
 abbrev is_small : ℕ → Bool

@@ -1,6 +1,6 @@
 use Rattle.std.proofs.Common.{◌≡◌, true, take}
 use Rattle.outcome.specs.inside.Rivals.{both_packages}
-use Rattle.outcome.proofs.QuantityLaws.{are_small}
+use Rattle.outcome.proofs.QuantityFacts.{are_small}
 use Rattle.outcome.proofs.rivals.together.Given as goal
 
 -- both packages in the categories so far, none of which is too large

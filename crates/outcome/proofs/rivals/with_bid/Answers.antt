@@ -3,7 +3,7 @@ use Rattle.std.proofs.lemmas.List.{take_all}
 use Rattle.auction_terms.specs.declared.choices.Choice.{Choice}
 use Rattle.auction_terms.specs.Only.{with_bid}
 use Rattle.outcome.specs.PointAllocation.{HasRisingBidders}
-use Rattle.outcome.proofs.RivalLaws.{rising_with}
+use Rattle.outcome.proofs.RivalFacts.{rising_with}
 use Rattle.outcome.proofs.rivals.with_bid.Goals as goal
 
 pub new-requires : goal.new-requires

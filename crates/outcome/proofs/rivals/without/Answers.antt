@@ -1,7 +1,7 @@
 use Rattle.std.proofs.Common.{◌≡◌, ◌<◌, ◌≤◌, ◌∙◌, ◌++◌, ℕ, List, [], ◌∷◌, length, take, sym, ap, ap₂, subst, arith}
 use Rattle.std.proofs.lemmas.List.{take_more, take_all}
 use Rattle.auction_terms.specs.Packages.{IsPackage, left}
-use Rattle.outcome.proofs.QuantityLaws.{left-length, left-at, package-left}
+use Rattle.outcome.proofs.QuantityFacts.{left-length, left-at, package-left}
 use Rattle.outcome.proofs.rivals.without.Goals as goal
 
 pub loop-place-preserved : goal.loop-place-preserved

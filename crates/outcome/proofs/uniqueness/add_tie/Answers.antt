@@ -1,4 +1,4 @@
-use Rattle.byte_sinks.proofs.Adding.{Adds-then}
+use Rattle.byte_sinks.proofs.AddingFacts.{Adds-then}
 use Rattle.outcome.proofs.uniqueness.add_tie.Goals as goal
 
 pub returns : goal.returns

@@ -1,5 +1,5 @@
 use Rattle.std.proofs.Common.{sym, ◌∙◌, arith}
-use Rattle.outcome.proofs.NearLaws.{raised_near, lowered_near}
+use Rattle.outcome.proofs.NearFacts.{raised_near, lowered_near}
 use Rattle.outcome.proofs.values.near.Goals as goal
 
 pub returns-then-up-down : goal.returns-then-up-down

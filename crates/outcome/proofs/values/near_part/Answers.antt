@@ -1,5 +1,5 @@
 use Rattle.std.proofs.Common.{arith}
-use Rattle.outcome.proofs.NearLaws.{pow_above, zero_near}
+use Rattle.outcome.proofs.NearFacts.{pow_above, zero_near}
 use Rattle.outcome.proofs.values.near_part.Goals as goal
 
 pub returns-then-places-gt-GREATEST_POWER : goal.returns-then-places-gt-GREATEST_POWER

@@ -1,5 +1,5 @@
 use Rattle.std.proofs.Common.{arith}
-use Rattle.outcome.proofs.NearLaws.{minus_whole, many_digits, many_places}
+use Rattle.outcome.proofs.NearFacts.{minus_whole, many_digits, many_places}
 use Rattle.outcome.proofs.values.near_whole.Goals as goal
 
 pub returns-then-minus : goal.returns-then-minus

@@ -1,5 +1,5 @@
 use Rattle.std.proofs.Common.{◌≡◌, ◌<◌, ◌∷◌, [], List, length, slice_index_or, arith, subst, sym}
-use Rattle.byte_sinks.proofs.Adding.{Adds-then}
+use Rattle.byte_sinks.proofs.AddingFacts.{Adds-then}
 use Rattle.auction_terms.specs.declared.choices.Choice.{Choice}
 use Rattle.outcome.proofs.writing.add_report_with.Goals as goal
 

@@ -5,7 +5,7 @@ use Rattle.std.proofs.lemmas.List.Sums.{sum_by-cons}
 use Rattle.auction_terms.specs.Allocations.{form_of}
 use Rattle.auction_terms.specs.declared.bids.Bid.{Bid}
 use Rattle.bid_desk.specs.Closing.{book_of}
-use Rattle.presolve.proofs.KeepLaws.{length_book, next_form}
+use Rattle.presolve.proofs.KeepFacts.{length_book, next_form}
 use Rattle.presolve.proofs.few_bids.has_few_bids.Goals as goal
 
 pub loop-place-init : goal.loop-place-init

@@ -1,8 +1,8 @@
 use Rattle.std.proofs.Common.{rules, arith}
 use Rattle.std.proofs.lemmas.Fn.{always_returns_same}
 use Rattle.auction_terms.specs.declared.choices.Choice.{Choice}
-use Rattle.presolve.proofs.ChoiceLaws.{IsInOrder}
-use Rattle.presolve.proofs.SizeLaws.{all_pairs, up_to, up_to_trans}
+use Rattle.presolve.proofs.ChoiceFacts.{IsInOrder}
+use Rattle.presolve.proofs.SizeFacts.{all_pairs, up_to, up_to_trans}
 use Rattle.presolve.proofs.flags.by_rising_bid.Goals as goal
 
 pub returns-clause-rising : goal.returns-clause-rising

@@ -2,7 +2,7 @@ use Rattle.std.proofs.Common.{◌≡◌, ◌-◌, ℕ, ap, ap₂, ◌∙◌, sub
 use Rattle.std.specs.List.{AllZip, range_with_len}
 use Rattle.auction_terms.specs.Terms.{lots_in}
 use Rattle.bid_desk.specs.Closing.{book_of}
-use Rattle.presolve.proofs.KeepLaws.{IsMade, made_for_each}
+use Rattle.presolve.proofs.KeepFacts.{IsMade, made_for_each}
 use Rattle.presolve.specs.Flags.{flags_of_form}
 use Rattle.presolve.proofs.flags.flags_between.Goals as goal
 

@@ -5,7 +5,7 @@ use Rattle.auction_terms.specs.Terms.{lots_in}
 use Rattle.bid_desk.specs.Closing.{book_of}
 use Rattle.presolve.specs.Flags.{flags_of_form}
 use Rattle.presolve.specs.inside.Flags.{flags_of_bidders}
-use Rattle.presolve.proofs.KeepLaws.{length_book, made_for_all, made_in_two}
+use Rattle.presolve.proofs.KeepFacts.{length_book, made_for_all, made_in_two}
 use Rattle.presolve.proofs.flags.flags_by_bidder.Goals as goal
 
 pub returns : goal.returns

@@ -6,9 +6,9 @@ use Rattle.std.proofs.lemmas.List.{length-set}
 use Rattle.std.specs.List.{list_any}
 use Rattle.presolve.specs.declared.order.SizedBid.{SizedBid}
 use Rattle.presolve.specs.inside.Sizes.{IsOrdered, TellsItsNet, TellsItsSize, beats}
-use Rattle.presolve.proofs.FlagLaws.{all_fit, all_kept, are_rivals, rivals_suffice, stands}
-use Rattle.presolve.proofs.NumberLaws.{after_failing, after_passing, flags_by_number, is_numbered, none_left_over}
-use Rattle.presolve.proofs.SizeLaws.{no_more_fit}
+use Rattle.presolve.proofs.FlagFacts.{all_fit, all_kept, are_rivals, rivals_suffice, stands}
+use Rattle.presolve.proofs.NumberFacts.{after_failing, after_passing, flags_by_number, is_numbered, none_left_over}
+use Rattle.presolve.proofs.SizeFacts.{no_more_fit}
 use Rattle.presolve.proofs.flags.flags_of_form.Goals as goal
 use Rattle.presolve.proofs.flags.flags_of_form.Goals.{then-is_kept_beside, else-is_kept_beside}
 

@@ -1,8 +1,8 @@
 use Rattle.std.proofs.Common.{◌≡◌, ◌+◌, ◌<◌, ◌||◌, ℕ, false, drop, length, slice_index_or}
 use Rattle.std.specs.List.{list_any}
 use Rattle.auction_terms.specs.Terms.{lots_in}
-use Rattle.presolve.proofs.FlagLaws.{stands}
-use Rattle.presolve.proofs.NumberLaws.{passes}
+use Rattle.presolve.proofs.FlagFacts.{stands}
+use Rattle.presolve.proofs.NumberFacts.{passes}
 use Rattle.presolve.proofs.flags.flags_of_form.Given as goal
 
 -- each flag is set where a bid so far with its number is unbeaten, or one that is left makes it so

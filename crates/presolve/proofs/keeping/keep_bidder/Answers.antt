@@ -5,7 +5,7 @@ use Rattle.auction_terms.specs.Keeping.{Offer}
 use Rattle.auction_terms.specs.Offers.{offers}
 use Rattle.auction_terms.specs.Terms.{lots_in}
 use Rattle.bid_desk.specs.Closing.{book_of}
-use Rattle.presolve.proofs.KeepLaws.{kept_outside, none_inside}
+use Rattle.presolve.proofs.KeepFacts.{kept_outside, none_inside}
 use Rattle.presolve.proofs.keeping.keep_bidder.Goals as goal
 
 pub returns-then-has-clause-added : goal.returns-then-has-clause-added

@@ -2,7 +2,7 @@ use Rattle.std.proofs.Common.{◌<◌, length, refl, sym, subst, arith}
 use Rattle.std.proofs.lemmas.List.Elements.{All-push}
 use Rattle.auction_terms.specs.Bids.{IsKeptBid}
 use Rattle.bid_forms.specs.Offers.{IsBidWithinLimits}
-use Rattle.presolve.proofs.KeepLaws.{flagged_less, flagged_more}
+use Rattle.presolve.proofs.KeepFacts.{flagged_less, flagged_more}
 use Rattle.presolve.proofs.keeping.keep_flagged.Goals as goal
 use Rattle.presolve.proofs.keeping.keep_flagged.Goals.{then-flags-place+in_ok-push, else-flags-place}
 

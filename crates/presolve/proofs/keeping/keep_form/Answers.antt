@@ -6,7 +6,7 @@ use Rattle.auction_terms.specs.Offers.{offers}
 use Rattle.bid_desk.specs.Closing.{book_of}
 use Rattle.auction_terms.specs.Terms.{lots_in}
 use Rattle.presolve.specs.inside.Flags.{flagged_from}
-use Rattle.presolve.proofs.KeepLaws.{by_flags}
+use Rattle.presolve.proofs.KeepFacts.{by_flags}
 use Rattle.presolve.proofs.keeping.keep_form.Goals as goal
 
 pub returns-in-Some-clause-added : goal.returns-in-Some-clause-added

@@ -1,4 +1,4 @@
-use Rattle.presolve.proofs.ReasonLaws.{kept-without}
+use Rattle.presolve.proofs.ReasonFacts.{kept-without}
 use Rattle.presolve.proofs.laws.a_bid_is_kept_just_without_a_reason.Goals as goal
 
 pub returns : goal.returns

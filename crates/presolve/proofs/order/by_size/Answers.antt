@@ -3,7 +3,7 @@ use Rattle.auction_terms.specs.Terms.{lots_in}
 use Rattle.presolve.specs.Sizes.{IsBySize}
 use Rattle.presolve.specs.inside.Sizes.{IsOrdered}
 use Rattle.auction_terms.specs.declared.bids.Bid.{Bid}
-use Rattle.presolve.proofs.SizeLaws.{is_by_size, whole}
+use Rattle.presolve.proofs.SizeFacts.{is_by_size, whole}
 use Rattle.presolve.proofs.order.by_size.Goals as goal
 
 pub returns : goal.returns

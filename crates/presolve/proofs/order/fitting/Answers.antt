@@ -2,7 +2,7 @@ use Rattle.std.proofs.Common.{◌∙◌, sym}
 use Rattle.std.proofs.lemmas.List.Elements.{All-push}
 use Rattle.auction_terms.specs.Terms.{lots_in}
 use Rattle.presolve.specs.inside.Sizes.{TellsItsNet, TellsItsSize}
-use Rattle.presolve.proofs.SizeLaws.{fitting_less, fitting_more}
+use Rattle.presolve.proofs.SizeFacts.{fitting_less, fitting_more}
 use Rattle.presolve.proofs.order.fitting.Goals as goal
 use Rattle.presolve.proofs.order.fitting.Goals.{then-fits+in_ok-push, else-fits}
 

@@ -5,7 +5,7 @@ use Rattle.auction_terms.specs.Terms.{lots_in}
 use Rattle.presolve.specs.inside.Sizes.{TellsItsNet, TellsItsSize}
 use Rattle.presolve.specs.Sizes.{IsUpTo}
 use Rattle.presolve.specs.declared.order.SizedBid.{SizedBid}
-use Rattle.presolve.proofs.SizeLaws.{up_to, up_to_trans, all_pairs}
+use Rattle.presolve.proofs.SizeFacts.{up_to, up_to_trans, all_pairs}
 use Rattle.presolve.proofs.order.ordered.Goals as goal
 
 pub returns : goal.returns

@@ -1,7 +1,7 @@
 use Rattle.std.proofs.Common.{◌≡◌, ◌<◌, ◌≤◌, ◌^◌, ◌∷◌, ◌++◌, [], List, ℕ, arith, length, length-append, sym, subst, ap}
 use Rattle.std.specs.Prelude.{All}
 use Rattle.std.specs.List.Sorted.{IsNonDecreasing}
-use Rattle.presolve.proofs.SieveLaws.{next_rank}
+use Rattle.presolve.proofs.SieveFacts.{next_rank}
 use Rattle.presolve.proofs.ranks.ranks_by_counts.Goals.{then-middle-next_step+then-count-gt0, else-middle-next_step}
 use Rattle.presolve.proofs.ranks.ranks_by_counts.Goals as goal
 

@@ -1,5 +1,5 @@
 use Rattle.std.proofs.Common.{arith}
-use Rattle.presolve.proofs.SieveLaws.{ranked_by}
+use Rattle.presolve.proofs.SieveFacts.{ranked_by}
 use Rattle.presolve.proofs.ranks.ranks_of_counted.Goals as goal
 
 pub returns : goal.returns

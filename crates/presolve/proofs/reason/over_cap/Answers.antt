@@ -1,5 +1,5 @@
 use Rattle.std.proofs.Common.{◌∙◌}
-use Rattle.presolve.proofs.SearchLaws.{cap-found, cap-passed}
+use Rattle.presolve.proofs.SearchFacts.{cap-found, cap-passed}
 use Rattle.presolve.proofs.reason.over_cap.Goals as goal
 
 pub loop-pool-preserved : goal.loop-pool-preserved

@@ -1,7 +1,7 @@
 use Rattle.std.proofs.Common.{◌≤◌, ◌∙◌, rules}
 use Rattle.std.specs.Prelude.{slice_index}
 use Rattle.auction_terms.specs.Terms.{lots_in}
-use Rattle.presolve.proofs.SearchLaws.{supply-passed}
+use Rattle.presolve.proofs.SearchFacts.{supply-passed}
 use Rattle.presolve.proofs.reason.over_supply.Goals as goal
 
 pub loop-category-preserved : goal.loop-category-preserved

@@ -4,7 +4,7 @@ use Rattle.std.specs.Option.{option_or}
 use Rattle.auction_terms.specs.Terms.{lots_in}
 use Rattle.presolve.specs.Reasons.{over_cap, over_supply}
 use Rattle.presolve.specs.declared.reason.Reason.TheVariants as reason
-use Rattle.presolve.proofs.RivalLaws.{why-first}
+use Rattle.presolve.proofs.RivalFacts.{why-first}
 use Rattle.presolve.proofs.reason.why_left_out.Goals as goal
 
 pub returns-in_err-first : goal.returns-in_err-first

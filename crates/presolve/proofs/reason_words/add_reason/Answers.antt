@@ -1,7 +1,7 @@
 use Rattle.std.proofs.Common.{◌++◌, ℕ, List, ap}
 use Rattle.std.specs.Prelude.{codes, decimal}
 use Rattle.std.proofs.lemmas.List.{append-nil}
-use Rattle.byte_sinks.proofs.Adding.{Adds-to}
+use Rattle.byte_sinks.proofs.AddingFacts.{Adds-to}
 use Rattle.presolve.proofs.reason_words.add_reason.Goals as goal
 
 pub returns-in-Dominated : goal.returns-in-Dominated

@@ -4,7 +4,7 @@ use Rattle.std.proofs.lemmas.Result.{IfOk-weaker}
 use Rattle.auction_terms.specs.Terms.{lots_in}
 use Rattle.bid_desk.specs.Closing.{book_of}
 use Rattle.presolve.specs.Reasons.{reasons_of_form}
-use Rattle.presolve.proofs.KeepLaws.{IsMade, length_book, made_for_all, made_for_each}
+use Rattle.presolve.proofs.KeepFacts.{IsMade, length_book, made_for_all, made_for_each}
 use Rattle.presolve.proofs.reasons.reasons_by_bidder.Goals as goal
 
 pub returns : goal.returns

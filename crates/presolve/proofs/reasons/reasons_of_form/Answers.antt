@@ -4,7 +4,7 @@ use Rattle.auction_terms.specs.Terms.{lots_in}
 use Rattle.auction_terms.specs.declared.bids.Bid.{Bid}
 use Rattle.presolve.specs.Reasons.{why_left_out}
 use Rattle.presolve.specs.declared.reason.Reason.{Reason}
-use Rattle.presolve.proofs.RivalLaws.{numbered-all}
+use Rattle.presolve.proofs.RivalFacts.{numbered-all}
 use Rattle.presolve.proofs.reasons.reasons_of_form.Goals as goal
 
 pub sieves-requires-clause-sized : goal.sieves-requires-clause-sized

@@ -3,7 +3,7 @@ use Rattle.std.specs.Int.{bit_at, trailing_zeros, w64}
 use Rattle.std.proofs.lemmas.Bool.{both_ways, lt-ltb}
 use Rattle.std.proofs.lemmas.List.{get_or_default}
 use Rattle.std.proofs.lemmas.Nat.Bits.{bit_at-trailing_zeros}
-use Rattle.presolve.proofs.BitLaws.{lowest_taken}
+use Rattle.presolve.proofs.BitFacts.{lowest_taken}
 use Rattle.presolve.specs.inside.Sizes.{beats}
 use Rattle.presolve.proofs.search.first_among.Goals as goal
 use Rattle.presolve.proofs.search.first_among.Goals.{in-Some+else-does_beat, in_default}

@@ -1,5 +1,5 @@
 use Rattle.std.proofs.Common.{◌≡◌, ◌∙◌, arith, length, length-take, min}
-use Rattle.presolve.proofs.SieveLaws.{none_itself}
+use Rattle.presolve.proofs.SieveFacts.{none_itself}
 use Rattle.presolve.proofs.search.first_beating.Goals as goal
 
 pub first_sifted-requires-clause-sifts : goal.first_sifted-requires-clause-sifts

@@ -1,7 +1,7 @@
 use Rattle.std.proofs.Common.{None, arith}
 use Rattle.presolve.specs.inside.Sizes.{beats}
-use Rattle.presolve.proofs.RivalLaws.{first-is}
-use Rattle.presolve.proofs.SieveLaws.{none_marked, only_marked}
+use Rattle.presolve.proofs.RivalFacts.{first-is}
+use Rattle.presolve.proofs.SieveFacts.{none_marked, only_marked}
 use Rattle.presolve.proofs.search.first_sifted.Goals as goal
 
 pub sift-requires-clause-within : goal.sift-requires-clause-within

@@ -1,8 +1,8 @@
 use Rattle.std.proofs.Common.{ap, ◌∙◌, ℕ, Option}
 use Rattle.std.specs.Option.{is_some}
 use Rattle.presolve.specs.inside.Sizes.{beats}
-use Rattle.presolve.proofs.RivalLaws.{some-first}
-use Rattle.presolve.proofs.SieveLaws.{stands_before}
+use Rattle.presolve.proofs.RivalFacts.{some-first}
+use Rattle.presolve.proofs.SieveFacts.{stands_before}
 use Rattle.presolve.proofs.search.is_beaten.Goals as goal
 
 pub first_sifted-requires-clause-sifts : goal.first_sifted-requires-clause-sifts

@@ -4,8 +4,8 @@ use Rattle.std.specs.Int.Bits.{bit_and}
 use Rattle.std.proofs.lemmas.List.{get_or-set_other, get_or_default}
 use Rattle.std.proofs.lemmas.Bool.{eqb-true, not-false}
 use Rattle.std.proofs.lemmas.Nat.{le_or_l, le_or_r}
-use Rattle.presolve.proofs.BitLaws.{both_set}
-use Rattle.presolve.proofs.SieveLaws.{set_word}
+use Rattle.presolve.proofs.BitFacts.{both_set}
+use Rattle.presolve.proofs.SieveFacts.{set_word}
 use Rattle.presolve.proofs.search.narrow.Goals as goal
 
 pub loop-place-preserved : goal.loop-place-preserved

@@ -3,8 +3,8 @@ use Rattle.std.specs.Int.{bit_at}
 use Rattle.std.specs.Int.RustNames.{bit_or}
 use Rattle.std.proofs.lemmas.Grind.{same_number_lists}
 use Rattle.std.proofs.lemmas.List.{get_or-set_other, get_or-set_same, get_or_default}
-use Rattle.presolve.proofs.BitLaws.{first_set, second_set}
-use Rattle.presolve.proofs.SieveLaws.{set_word}
+use Rattle.presolve.proofs.BitFacts.{first_set, second_set}
+use Rattle.presolve.proofs.SieveFacts.{set_word}
 use Rattle.presolve.proofs.sieve.add_lower.Goals as goal
 
 pub loop-place-preserved : goal.loop-place-preserved

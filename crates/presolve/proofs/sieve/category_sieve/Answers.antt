@@ -2,7 +2,7 @@ use Rattle.std.proofs.Common.{◌≡◌, ◌∙◌, map, slice_index}
 use Rattle.std.proofs.lemmas.Result.{IfOk-weaker}
 use Rattle.presolve.specs.declared.order.SizedBid.{SizedBid}
 use Rattle.presolve.specs.inside.Sieves.{AreSieved, IsSieve}
-use Rattle.presolve.proofs.SieveLaws.{fewer_at, is_sieve}
+use Rattle.presolve.proofs.SieveFacts.{fewer_at, is_sieve}
 use Rattle.presolve.proofs.sieve.category_sieve.Goals as goal
 
 pub returns : goal.returns

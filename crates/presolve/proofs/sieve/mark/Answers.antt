@@ -2,8 +2,8 @@ use Rattle.std.proofs.Common.{◌≡◌, ◌/◌, ◌%◌, ℕ, w64, slice_index
 use Rattle.std.specs.Int.{bit_at}
 use Rattle.std.proofs.lemmas.List.{get_or-set_same, get_or_default}
 use Rattle.std.proofs.lemmas.Nat.Bits.{bit_at_set_same}
-use Rattle.presolve.proofs.BitLaws.{first_set}
-use Rattle.presolve.proofs.SieveLaws.{still_marked}
+use Rattle.presolve.proofs.BitFacts.{first_set}
+use Rattle.presolve.proofs.SieveFacts.{still_marked}
 use Rattle.presolve.proofs.sieve.mark.Goals as goal
 
 pub returns-clause-own : goal.returns-clause-own

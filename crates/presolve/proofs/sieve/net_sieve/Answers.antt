@@ -2,7 +2,7 @@ use Rattle.std.proofs.Common.{◌≡◌, ◌∙◌, map}
 use Rattle.std.proofs.lemmas.Result.{IfOk-weaker}
 use Rattle.presolve.specs.declared.order.SizedBid.{SizedBid}
 use Rattle.presolve.specs.inside.Sieves.{AreSieved, IsSieve, shortfall}
-use Rattle.presolve.proofs.SieveLaws.{is_sieve, no_shorter}
+use Rattle.presolve.proofs.SieveFacts.{is_sieve, no_shorter}
 use Rattle.presolve.proofs.sieve.net_sieve.Goals as goal
 
 pub returns : goal.returns

@@ -5,7 +5,7 @@ use Rattle.std.proofs.lemmas.List.{get_or-set_same, get_or_default}
 use Rattle.std.proofs.lemmas.List.Elements.{All-set}
 use Rattle.presolve.specs.declared.sieve.Level.{Level}
 use Rattle.presolve.specs.inside.Sieves.{IsMarked}
-use Rattle.presolve.proofs.SieveLaws.{still_on}
+use Rattle.presolve.proofs.SieveFacts.{still_on}
 use Rattle.presolve.proofs.sieve.own_levels.Goals as goal
 
 pub loop-place-preserved : goal.loop-place-preserved

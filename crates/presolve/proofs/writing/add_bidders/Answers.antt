@@ -2,10 +2,10 @@ use Rattle.std.proofs.Common.{◌++◌, ◌≡◌, ◌∙◌, ◌+◌, ℕ, List
 use Rattle.std.proofs.lemmas.List.{get_or-map, length-map}
 use Rattle.std.specs.declared.vec.Vec.{Vec}
 use Rattle.std.specs.Global.{Global}
-use Rattle.byte_sinks.proofs.Adding.{Adds-then, Adds-to}
+use Rattle.byte_sinks.proofs.AddingFacts.{Adds-then, Adds-to}
 use Rattle.presolve.specs.Lines.{form_lines, replaced_lines}
 use Rattle.presolve.specs.declared.reason.Reason.{Reason}
-use Rattle.presolve.proofs.LineLaws.{numbered-all, numbered-next}
+use Rattle.presolve.proofs.LineFacts.{numbered-all, numbered-next}
 use Rattle.presolve.proofs.writing.add_bidders.Goals as goal
 
 abbrev items : Vec (Option Reason) Global → List (Option Reason)

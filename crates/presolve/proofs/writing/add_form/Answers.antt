@@ -2,8 +2,8 @@ use Rattle.std.proofs.Common.{ℕ, [], Option, None}
 use Rattle.std.specs.Option.{option_map_or}
 use Rattle.presolve.specs.Lines.{left_out_line}
 use Rattle.presolve.specs.declared.reason.Reason.{Reason}
-use Rattle.presolve.proofs.LineLaws.{numbered-all, numbered-next}
-use Rattle.byte_sinks.proofs.Adding.{Adds-then, Adds-to}
+use Rattle.presolve.proofs.LineFacts.{numbered-all, numbered-next}
+use Rattle.byte_sinks.proofs.AddingFacts.{Adds-then, Adds-to}
 use Rattle.presolve.proofs.writing.add_form.Goals as goal
 
 pub loop-place-preserved : goal.loop-place-preserved

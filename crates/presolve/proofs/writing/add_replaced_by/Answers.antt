@@ -1,9 +1,9 @@
 use Rattle.std.proofs.Common.{◌==◌, ◌∙◌, ℕ, List, [], cond}
 use Rattle.std.specs.List.{enumerate_from}
 use Rattle.presolve.specs.Lines.{replaced_line}
-use Rattle.presolve.proofs.FormLaws.{own-lines}
-use Rattle.presolve.proofs.LineLaws.{numbered-all, numbered-next}
-use Rattle.byte_sinks.proofs.Adding.{Adds-then, Adds-to}
+use Rattle.presolve.proofs.FormFacts.{own-lines}
+use Rattle.presolve.proofs.LineFacts.{numbered-all, numbered-next}
+use Rattle.byte_sinks.proofs.AddingFacts.{Adds-then, Adds-to}
 use Rattle.presolve.proofs.writing.add_replaced_by.Goals as goal
 
 pub loop-place-preserved : goal.loop-place-preserved

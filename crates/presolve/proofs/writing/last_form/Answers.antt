@@ -1,5 +1,5 @@
 use Rattle.std.proofs.Common.{◌≡◌, ◌==◌, ◌∙◌, eq-eqb, false, get_or, ne_eqb, sym, true}
-use Rattle.presolve.proofs.FormLaws.{last-other, last-own}
+use Rattle.presolve.proofs.FormFacts.{last-other, last-own}
 use Rattle.presolve.proofs.writing.last_form.Goals as goal
 use Rattle.presolve.proofs.writing.last_form.Goals.{then-from-bidder, else-from-bidder}
 

@@ -1,5 +1,5 @@
 use Rattle.std.proofs.Common.{rules}
-use Rattle.byte_sinks.proofs.Adding.{tells-front, tells-quiet}
+use Rattle.byte_sinks.proofs.AddingFacts.{tells-front, tells-quiet}
 use Rattle.presolve.proofs.writing.write_left_out.Goals as goal
 
 pub returns-clause-err : goal.returns-clause-err

@@ -1,6 +1,6 @@
 use Rattle.bid_desk.specs.Closing.{book_of}
 use Rattle.auction_terms.specs.Terms.{lots_in}
-use Rattle.prices.proofs.CodeLaws.{amount_small}
+use Rattle.prices.proofs.CodeFacts.{amount_small}
 use Rattle.prices.proofs.amounts.amount_of.Goals as goal
 
 pub returns-clause-small : goal.returns-clause-small

@@ -15,8 +15,8 @@ use Rattle.program_rows.specs.Program.{Table, TableColumn}
 use Rattle.outcome.specs.Pricing.{price_in}
 use Rattle.prices.specs.Prices.{revenue, surplus}
 use Rattle.prices.specs.Raised.{raised, raised_program}
-use Rattle.prices.proofs.CodeLaws.{negated, small_costs}
-use Rattle.prices.proofs.RaisedLaws.{bound_covers}
+use Rattle.prices.proofs.CodeFacts.{negated, small_costs}
+use Rattle.prices.proofs.RaisedFacts.{bound_covers}
 use Rattle.prices.proofs.cover.check_cover.Goals as goal
 
 pub raised-requires-clause-small : goal.raised-requires-clause-small

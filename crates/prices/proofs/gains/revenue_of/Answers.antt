@@ -5,7 +5,7 @@ use Rattle.auction_terms.specs.declared.choices.Choice.{Choice}
 use Rattle.bid_desk.specs.Closing.{book_of}
 use Rattle.outcome.specs.Pricing.{price_in}
 use Rattle.prices.specs.Prices.{gain}
-use Rattle.prices.proofs.CodeLaws.{total_parts}
+use Rattle.prices.proofs.CodeFacts.{total_parts}
 use Rattle.prices.proofs.gains.revenue_of.Goals as goal
 
 pub overflow_sub-result : goal.overflow_sub-result

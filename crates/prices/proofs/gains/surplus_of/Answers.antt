@@ -2,7 +2,7 @@ use Rattle.std.proofs.Common.{◌∙◌, sym}
 use Rattle.bid_desk.specs.Closing.{book_of}
 use Rattle.outcome.specs.Pricing.{price_in}
 use Rattle.prices.specs.Prices.{gain}
-use Rattle.prices.proofs.CodeLaws.{found_at}
+use Rattle.prices.proofs.CodeFacts.{found_at}
 use Rattle.prices.proofs.gains.surplus_of.Goals as goal
 
 pub returns-then-choice-bidder-clause-surplus : goal.returns-then-choice-bidder-clause-surplus

@@ -1,4 +1,4 @@
-use Rattle.prices.proofs.RaisedLaws.{raised_bound_excludes}
+use Rattle.prices.proofs.RaisedFacts.{raised_bound_excludes}
 use Rattle.prices.proofs.laws.a_raised_bound_excludes_blocking.Goals as goal
 
 pub returns : goal.returns

@@ -1,4 +1,4 @@
-use Rattle.prices.proofs.ExistLaws.{every_group_has_a_cost}
+use Rattle.prices.proofs.ExistFacts.{every_group_has_a_cost}
 use Rattle.prices.proofs.laws.every_group_has_a_cost.Goals as goal
 
 pub returns : goal.returns

@@ -1,4 +1,4 @@
-use Rattle.prices.proofs.CoverLaws.{unblocked_covers}
+use Rattle.prices.proofs.CoverFacts.{unblocked_covers}
 use Rattle.prices.proofs.laws.unblocked_prices_cover.Goals as goal
 
 pub returns : goal.returns

@@ -1,4 +1,4 @@
-use Rattle.prices.proofs.WeightLaws.{shown_is_least_sum}
+use Rattle.prices.proofs.WeightFacts.{shown_is_least_sum}
 use Rattle.prices.proofs.laws.weights_show_the_least_sum.Goals as goal
 
 pub returns : goal.returns

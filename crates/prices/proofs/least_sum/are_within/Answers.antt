@@ -3,7 +3,7 @@ use Rattle.std.proofs.lemmas.Bool.{not-false}
 use Rattle.auction_terms.specs.declared.choices.Choice.{Choice}
 use Rattle.outcome.specs.Pricing.{price_in}
 use Rattle.prices.specs.inside.Weighing.{weight_by}
-use Rattle.prices.proofs.CodeLaws.{all_of, one_more}
+use Rattle.prices.proofs.CodeFacts.{all_of, one_more}
 use Rattle.prices.proofs.least_sum.are_within.Goals as goal
 
 pub loop-choice-preserved : goal.loop-choice-preserved

@@ -2,7 +2,7 @@ use Rattle.std.proofs.Common.{◌∙◌, ap, arith}
 use Rattle.auction_terms.specs.Terms.{lots_in}
 use Rattle.bid_desk.specs.Closing.{book_of}
 use Rattle.outcome.specs.Pricing.{paid, price_in}
-use Rattle.prices.proofs.FewLaws.{paid_few}
+use Rattle.prices.proofs.FewFacts.{paid_few}
 use Rattle.prices.proofs.least_sum.paid.Goals as goal
 
 pub returns-clause-small : goal.returns-clause-small

@@ -18,8 +18,8 @@ use Rattle.prices.specs.Listed.{weighted}
 use Rattle.prices.specs.inside.Weighing.{weight_by}
 use Rattle.prices.specs.Prices.{reserves_in}
 use Rattle.prices.specs.Weights.{Weighted, scaled_below, shows_least_sum, weighted_costs, weighted_reserves}
-use Rattle.prices.proofs.FewLaws.{all_greatest, as_many_won, few_winners, is_shown, not_within, reserves_few, within_asked, within_reported}
-use Rattle.prices.proofs.WeightLaws.{shown_is_least_sum}
+use Rattle.prices.proofs.FewFacts.{all_greatest, as_many_won, few_winners, is_shown, not_within, reserves_few, within_asked, within_reported}
+use Rattle.prices.proofs.WeightFacts.{shown_is_least_sum}
 use Rattle.prices.proofs.least_sum.shows_least_sum.Goals as goal
 
 pub weighted_reserves-reserves-requires-clause-few : goal.weighted_reserves-reserves-requires-clause-few

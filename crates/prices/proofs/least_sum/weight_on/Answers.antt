@@ -1,6 +1,6 @@
 use Rattle.std.proofs.Common.{◌<◌, ◌∙◌, ◌^◌, arith, rules}
 use Rattle.prices.specs.inside.Weighing.{weight_by}
-use Rattle.prices.proofs.FewLaws.{weights_preserved}
+use Rattle.prices.proofs.FewFacts.{weights_preserved}
 use Rattle.prices.proofs.least_sum.weight_on.Goals as goal
 
 pub loop-place-preserved : goal.loop-place-preserved

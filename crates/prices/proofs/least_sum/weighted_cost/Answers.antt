@@ -2,7 +2,7 @@ use Rattle.std.proofs.Common.{ℤ, pos, ◌≤◌, ◌≤ℤ◌, ◌^◌, arith}
 use Rattle.auction_terms.specs.Terms.{lots_in}
 use Rattle.bid_desk.specs.Closing.{book_of}
 use Rattle.outcome.specs.Report.{cost}
-use Rattle.prices.proofs.FewLaws.{cost_few, product_few, product_fits, product_is}
+use Rattle.prices.proofs.FewFacts.{cost_few, product_few, product_fits, product_is}
 use Rattle.prices.proofs.least_sum.weighted_cost.Goals as goal
 
 module _ (c : goal.After-from) where

@@ -5,7 +5,7 @@ use Rattle.auction_terms.specs.Terms.{lots_in}
 use Rattle.bid_desk.specs.Closing.{book_of}
 use Rattle.prices.specs.Listed.{weighted}
 use Rattle.prices.specs.Weights.{weighted_costs}
-use Rattle.prices.proofs.FewLaws.{as_many_won, costs_preserved, greatest_at, sum_is}
+use Rattle.prices.proofs.FewFacts.{as_many_won, costs_preserved, greatest_at, sum_is}
 use Rattle.prices.proofs.least_sum.weighted_costs.Goals as goal
 
 pub bounds-won-place : goal.bounds-won-place

@@ -4,7 +4,7 @@ use Rattle.program_rows.specs.Costed.{costed_program}
 use Rattle.program_rows.specs.Program.{TableColumn}
 use Rattle.outcome.specs.Pricing.{price_in}
 use Rattle.prices.specs.Prices.{surplus}
-use Rattle.prices.proofs.CodeLaws.{costed_is_raised}
+use Rattle.prices.proofs.CodeFacts.{costed_is_raised}
 use Rattle.prices.proofs.raised.raised.Goals as goal
 
 pub returns : goal.returns

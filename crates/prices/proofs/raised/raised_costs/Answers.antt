@@ -5,7 +5,7 @@ use Rattle.bid_desk.specs.Closing.{book_of}
 use Rattle.outcome.specs.Pricing.{price_in}
 use Rattle.prices.specs.Prices.{surplus}
 use Rattle.prices.specs.Raised.{raised_cost}
-use Rattle.prices.proofs.CodeLaws.{cost_pushed}
+use Rattle.prices.proofs.CodeFacts.{cost_pushed}
 use Rattle.prices.proofs.raised.raised_costs.Goals as goal
 
 pub loop-column-preserved : goal.loop-column-preserved

@@ -1,7 +1,7 @@
 use Rattle.std.proofs.Common.{arith, map}
 use Rattle.std.proofs.lemmas.List.{length-map}
 use Rattle.auction_terms.specs.declared.rules.Category.{Category}
-use Rattle.auction_terms.proofs.WeighedLaws.{weighed_end}
+use Rattle.auction_terms.proofs.WeighedFacts.{weighed_end}
 use Rattle.prices.proofs.reserves.weighed_reserve.Goals as goal
 
 pub returns : goal.returns

@@ -1,7 +1,7 @@
 use Rattle.std.proofs.Common.{◌∙◌, map, sym, arith}
 use Rattle.program_rows.specs.Parts.{shown_row, shown_column}
 use Rattle.program_rows.specs.inside.Comparing as comparing
-use Rattle.program_rows.proofs.LookupLaws.{all_step, all_fails, all_end}
+use Rattle.program_rows.proofs.LookupFacts.{all_step, all_fails, all_end}
 use Rattle.program_rows.proofs.agreeing.are_entries_of.Goals as goal
 
 pub returns-then-not-is_entry_of : goal.returns-then-not-is_entry_of

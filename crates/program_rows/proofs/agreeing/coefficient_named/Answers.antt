@@ -6,7 +6,7 @@ use mir.Val.{SFits}
 use Rattle.program_rows.specs.Program.{TableRow}
 use Rattle.program_rows.specs.Parts.{shown_row, shown_column}
 use Rattle.program_rows.specs.Points.{coefficient_at}
-use Rattle.program_rows.proofs.LookupLaws.{place_found, place_none}
+use Rattle.program_rows.proofs.LookupFacts.{place_found, place_none}
 use Rattle.program_rows.proofs.agreeing.coefficient_named.Goals as goal
 
 pub returns-then-place-rows : goal.returns-then-place-rows

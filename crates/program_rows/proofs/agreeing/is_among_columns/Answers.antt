@@ -3,7 +3,7 @@ use Rattle.std.specs.Prelude.{bytes_eq}
 use Rattle.program_rows.specs.Program.{TableColumn}
 use Rattle.program_rows.specs.Parts.{shown_row, shown_column}
 use Rattle.program_rows.specs.inside.Comparing.{column_agrees}
-use Rattle.program_rows.proofs.LookupLaws.{stand_found, stand_none}
+use Rattle.program_rows.proofs.LookupFacts.{stand_found, stand_none}
 use Rattle.program_rows.proofs.agreeing.is_among_columns.Goals as goal
 
 pub returns-then-place-len : goal.returns-then-place-len

@@ -5,7 +5,7 @@ use Rattle.std.proofs.lemmas.List.{length-map}
 use Rattle.program_rows.specs.Program.{TableRow}
 use Rattle.program_rows.specs.Parts.{shown_row}
 use Rattle.program_rows.specs.inside.Comparing.{row_agrees}
-use Rattle.program_rows.proofs.LookupLaws.{stand_found, stand_none}
+use Rattle.program_rows.proofs.LookupFacts.{stand_found, stand_none}
 use Rattle.program_rows.proofs.agreeing.is_among_rows.Goals as goal
 
 pub returns-then-place-others : goal.returns-then-place-others

@@ -5,7 +5,7 @@ use mir.Syntax.{w128}
 use mir.Val.{SFits}
 use Rattle.program_rows.specs.Points.{coefficient_at}
 use Rattle.program_rows.specs.inside.Ones.{ones_from, sum_at}
-use Rattle.program_rows.proofs.OneLaws.{ones-within, sum-at-ones}
+use Rattle.program_rows.proofs.OneFacts.{ones-within, sum-at-ones}
 use Rattle.program_rows.proofs.broken.sum_of.Goals as goal
 
 pub sum_at-requires-clause-within : goal.sum_at-requires-clause-within

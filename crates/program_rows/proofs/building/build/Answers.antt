@@ -2,10 +2,10 @@ use Rattle.std.proofs.Common.{◌∙◌, ◌++◌, ap, refl}
 use Rattle.auction_terms.specs.Offers.{offers}
 use Rattle.auction_terms.specs.Terms.{lots_in}
 use Rattle.program_rows.specs.Rows.{subjects, worth_column}
-use Rattle.program_rows.proofs.LegalLaws.{built_is_legal}
-use Rattle.auction_terms.proofs.LotsLaws.{are_lots}
-use Rattle.program_rows.proofs.KeptLaws.{are_offers}
-use Rattle.program_rows.proofs.BuiltLaws.{is_built, is_legal}
+use Rattle.program_rows.proofs.LegalFacts.{built_is_legal}
+use Rattle.auction_terms.proofs.LotsFacts.{are_lots}
+use Rattle.program_rows.proofs.KeptFacts.{are_offers}
+use Rattle.program_rows.proofs.BuiltFacts.{is_built, is_legal}
 use Rattle.program_rows.proofs.building.build.Goals as goal
 
 pub from_parts-requires : goal.from_parts-requires

@@ -3,8 +3,8 @@ use Rattle.auction_terms.specs.Offers.{offers}
 use Rattle.auction_terms.specs.Terms.{lots_in}
 use Rattle.std.proofs.lemmas.Result.{IfOk-weaker}
 use Rattle.program_rows.specs.Rows.{bidder_subjects, column_of, row_of, subjects}
-use Rattle.program_rows.proofs.KeptLaws.{are_offers}
-use Rattle.program_rows.proofs.BuiltLaws.{few_bidders, listed}
+use Rattle.program_rows.proofs.KeptFacts.{are_offers}
+use Rattle.program_rows.proofs.BuiltFacts.{few_bidders, listed}
 use Rattle.program_rows.proofs.building.build_bids.Goals as goal
 
 pub parts-requires-clause-rows : goal.parts-requires-clause-rows

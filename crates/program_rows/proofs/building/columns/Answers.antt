@@ -3,8 +3,8 @@ use Rattle.auction_terms.specs.Offers.{offer_of, offers}
 use Rattle.auction_terms.specs.Terms.{lots_in}
 use Rattle.program_rows.specs.Program.{TableColumn}
 use Rattle.program_rows.specs.Rows.{column_of, weight}
-use Rattle.program_rows.proofs.KeptLaws.{are_offers}
-use Rattle.program_rows.proofs.BuiltLaws.{at_most_next, column_step, last_is_there, last_within, place_found, stands_first, stands_next}
+use Rattle.program_rows.proofs.KeptFacts.{are_offers}
+use Rattle.program_rows.proofs.BuiltFacts.{at_most_next, column_step, last_is_there, last_within, place_found, stands_first, stands_next}
 use Rattle.program_rows.proofs.building.columns.Goals as goal
 
 pub loop-bid-init : goal.loop-bid-init

@@ -1,5 +1,5 @@
 use Rattle.auction_terms.specs.Terms.{lots_in}
-use Rattle.program_rows.proofs.BuiltLaws.{each_there}
+use Rattle.program_rows.proofs.BuiltFacts.{each_there}
 use Rattle.auction_terms.specs.Offers.{offers}
 use Rattle.program_rows.proofs.building.parts.Goals as goal
 

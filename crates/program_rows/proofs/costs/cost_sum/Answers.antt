@@ -3,7 +3,7 @@ use Rattle.std.proofs.lemmas.Int.{to_z-of_z}
 use mir.Syntax.{w128}
 use mir.Val.{SFits, to_z, of_z}
 use Rattle.program_rows.specs.Program.{TableColumn}
-use Rattle.program_rows.proofs.SumLaws.{sum_step, sum_bounds}
+use Rattle.program_rows.proofs.SumFacts.{sum_step, sum_bounds}
 use Rattle.program_rows.proofs.costs.cost_sum.Goals as goal
 
 pub loop-i-preserved : goal.loop-i-preserved

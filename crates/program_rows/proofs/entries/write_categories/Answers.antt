@@ -6,7 +6,7 @@ use Rattle.auction_terms.specs.Offers.{offer_of}
 use Rattle.auction_terms.specs.Terms.{lots_in}
 use Rattle.program_rows.specs.declared.subject.Subject.TheVariants.{Category}
 use Rattle.program_rows.specs.Rows.{entries_from}
-use Rattle.program_rows.proofs.BuildLaws.{entry_end, entry_step}
+use Rattle.program_rows.proofs.BuildFacts.{entry_end, entry_step}
 use Rattle.program_rows.proofs.entries.write_categories.Goals as goal
 
 pub loop-place-init : goal.loop-place-init

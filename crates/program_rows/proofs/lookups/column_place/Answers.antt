@@ -1,6 +1,6 @@
 use Rattle.std.proofs.Common.{◌∙◌, sym}
 use Rattle.program_rows.specs.Program.{TableColumn}
-use Rattle.program_rows.proofs.LookupLaws.{guessed}
+use Rattle.program_rows.proofs.LookupFacts.{guessed}
 use Rattle.program_rows.proofs.lookups.column_place.Goals as goal
 
 pub returns-then-is_same_name : goal.returns-then-is_same_name

@@ -1,7 +1,7 @@
 use Rattle.std.proofs.Common.{◌∙◌, map, sym}
 use Rattle.program_rows.specs.Parts.{shown_row}
 use Rattle.program_rows.specs.Program.{TableRow}
-use Rattle.program_rows.proofs.LookupLaws.{guessed}
+use Rattle.program_rows.proofs.LookupFacts.{guessed}
 use Rattle.program_rows.proofs.lookups.row_place.Goals as goal
 
 pub returns-then-is_same_name : goal.returns-then-is_same_name

@@ -1,6 +1,6 @@
 use Rattle.std.proofs.Common.{◌∙◌, sym}
 use Rattle.program_rows.specs.Program.{TableColumn}
-use Rattle.program_rows.proofs.LookupLaws.{step, found_here}
+use Rattle.program_rows.proofs.LookupFacts.{step, found_here}
 use Rattle.program_rows.proofs.lookups.search_column.Goals as goal
 
 pub returns-then-is_same_name : goal.returns-then-is_same_name

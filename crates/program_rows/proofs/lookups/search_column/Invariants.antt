@@ -1,6 +1,6 @@
 use Rattle.std.proofs.Common.{◌≡◌, ◌+◌, drop}
 use Rattle.program_rows.specs.Program.{TableColumn}
-use Rattle.program_rows.proofs.LookupLaws.{left}
+use Rattle.program_rows.proofs.LookupFacts.{left}
 use Rattle.program_rows.proofs.lookups.search_column.Given as goal
 
 -- none of the items so far has the name

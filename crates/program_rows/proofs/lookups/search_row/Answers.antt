@@ -1,7 +1,7 @@
 use Rattle.std.proofs.Common.{◌∙◌, map, sym}
 use Rattle.program_rows.specs.Parts.{shown_row}
 use Rattle.program_rows.specs.Program.{TableRow}
-use Rattle.program_rows.proofs.LookupLaws.{step, found_here}
+use Rattle.program_rows.proofs.LookupFacts.{step, found_here}
 use Rattle.program_rows.proofs.lookups.search_row.Goals as goal
 
 pub returns-then-is_same_name : goal.returns-then-is_same_name

@@ -1,7 +1,7 @@
 use Rattle.std.proofs.Common.{◌≡◌, ◌+◌, drop, map}
 use Rattle.program_rows.specs.Parts.{shown_row}
 use Rattle.program_rows.specs.Program.{TableRow}
-use Rattle.program_rows.proofs.LookupLaws.{left}
+use Rattle.program_rows.proofs.LookupFacts.{left}
 use Rattle.program_rows.proofs.lookups.search_row.Given as goal
 
 -- none of the items so far has the name

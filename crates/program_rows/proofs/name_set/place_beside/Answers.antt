@@ -1,5 +1,5 @@
 use Rattle.std.proofs.Common.{◌∙◌, sym}
-use Rattle.program_rows.proofs.NameSetLaws.{is_place}
+use Rattle.program_rows.proofs.NameSetFacts.{is_place}
 use Rattle.program_rows.proofs.name_set.place_beside.Goals as goal
 
 pub returns-then-is_at : goal.returns-then-is_at

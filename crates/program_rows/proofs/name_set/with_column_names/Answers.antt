@@ -2,7 +2,7 @@ use Rattle.std.proofs.Common.{◌∙◌, ap, drop, fold, map, sym, ◌+◌}
 use Rattle.std.proofs.lemmas.Option.{slice_get-map}
 use Rattle.std.specs.Hash.DefaultHasher as sip
 use Rattle.program_rows.specs.Program.{TableColumn}
-use Rattle.program_rows.proofs.NameSetLaws.{folds_on}
+use Rattle.program_rows.proofs.NameSetFacts.{folds_on}
 use Rattle.program_rows.proofs.name_set.with_column_names.Goals as goal
 
 pub loop-column-preserved : goal.loop-column-preserved

@@ -1,6 +1,6 @@
 use Rattle.std.proofs.Common.{arith}
 use Rattle.std.proofs.lemmas.Fmt.{length-decimal-le, decimal_nonempty}
-use Rattle.program_rows.proofs.BuildLaws.{numbered_written}
+use Rattle.program_rows.proofs.BuildFacts.{numbered_written}
 use Rattle.program_rows.proofs.names.write_numbered.Goals as goal
 
 pub write_digits-at-requires : goal.write_digits-at-requires

@@ -1,7 +1,7 @@
 use Rattle.std.proofs.Common.{◌+◌, ◌++◌, ◌∙◌, List, Bool, false, ℕ, drop, refl, slice_index_or, sym, ap, append-nil}
 use Rattle.std.proofs.lemmas.List.{drop_all}
 use Rattle.program_rows.specs.inside.Ones.{ones_from}
-use Rattle.program_rows.proofs.OneLaws.{ones-step}
+use Rattle.program_rows.proofs.OneFacts.{ones-step}
 use Rattle.program_rows.proofs.ones.ones_of.Goals as goal
 
 pub loop-place-init : goal.loop-place-init

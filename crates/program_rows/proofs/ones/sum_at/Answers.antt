@@ -3,8 +3,8 @@ use Rattle.std.proofs.lemmas.Int.{to_z-of_z}
 use mir.Syntax.{w128}
 use mir.Val.{SFits, to_z, of_z}
 use Rattle.program_rows.specs.Points.{coefficient_at}
-use Rattle.program_rows.proofs.OneLaws.{at-step, place-within}
-use Rattle.program_rows.proofs.SumLaws.{number_there, near_low, near_high}
+use Rattle.program_rows.proofs.OneFacts.{at-step, place-within}
+use Rattle.program_rows.proofs.SumFacts.{number_there, near_low, near_high}
 use Rattle.program_rows.proofs.ones.sum_at.Goals as goal
 
 pub add_coefficient-sum-requires-clause-within : goal.add_coefficient-sum-requires-clause-within

@@ -4,7 +4,7 @@ use Rattle.std.proofs.lemmas.Int.{to_z-of_z}
 use mir.Syntax.{w128}
 use mir.Val.{SFits, to_z, of_z}
 use Rattle.program_rows.specs.Points.{coefficient_at}
-use Rattle.program_rows.proofs.SumLaws.{added_one, added_none}
+use Rattle.program_rows.proofs.SumFacts.{added_one, added_none}
 use Rattle.program_rows.proofs.row_sums.add_coefficient.Goals as goal
 
 pub returns-then-value : goal.returns-then-value

@@ -3,7 +3,7 @@ use Rattle.std.proofs.lemmas.Int.{to_z-of_z}
 use mir.Syntax.{w128}
 use mir.Val.{SFits, to_z, of_z}
 use Rattle.program_rows.specs.Points.{coefficient_at}
-use Rattle.program_rows.proofs.SumLaws.{sum_step, number_there, near_low, near_high}
+use Rattle.program_rows.proofs.SumFacts.{sum_step, number_there, near_low, near_high}
 use Rattle.program_rows.proofs.row_sums.row_sum.Goals as goal
 
 pub loop-i-preserved : goal.loop-i-preserved

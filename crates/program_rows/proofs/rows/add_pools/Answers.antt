@@ -1,5 +1,5 @@
 use Rattle.program_rows.specs.declared.subject.Subject.TheVariants.{Pool}
-use Rattle.program_rows.proofs.BuildLaws.{one_more}
+use Rattle.program_rows.proofs.BuildFacts.{one_more}
 use Rattle.program_rows.proofs.rows.add_pools.Goals as goal
 
 pub loop-place-preserved : goal.loop-place-preserved

@@ -1,5 +1,5 @@
 use Rattle.std.proofs.Common.{◌∙◌, arith}
-use Rattle.program_rows.proofs.BuiltLaws.{bidders_are, bidders_end}
+use Rattle.program_rows.proofs.BuiltFacts.{bidders_are, bidders_end}
 use Rattle.program_rows.proofs.rows.bidders.Goals as goal
 
 pub returns : goal.returns

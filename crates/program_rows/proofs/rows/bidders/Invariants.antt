@@ -1,7 +1,7 @@
 use Rattle.std.proofs.Common.{◌≡◌, ◌++◌, map, drop}
 use Rattle.auction_terms.specs.Offers.{offers}
 use Rattle.program_rows.specs.declared.subject.Subject.TheVariants.{Bidder}
-use Rattle.program_rows.proofs.BuiltLaws.{next_bidders}
+use Rattle.program_rows.proofs.BuiltFacts.{next_bidders}
 use Rattle.program_rows.proofs.rows.bidders.Given as goal
 
 -- the bidders so far, and those that are left, are all

@@ -1,7 +1,7 @@
 use Rattle.std.proofs.Common.{◌∙◌, map, sym, arith}
 use Rattle.program_rows.specs.Parts.{shown_row, shown_column}
 use Rattle.program_rows.specs.inside.Comparing as comparing
-use Rattle.program_rows.proofs.LookupLaws.{all_step, all_fails, all_end}
+use Rattle.program_rows.proofs.LookupFacts.{all_step, all_fails, all_end}
 use Rattle.program_rows.proofs.same.are_columns_among.Goals as goal
 
 pub returns-then-not-is_among_columns : goal.returns-then-not-is_among_columns

@@ -1,6 +1,6 @@
 use Rattle.std.proofs.Common.{◌≡◌, ◌∙◌, ap₂, sym}
 use Rattle.program_rows.specs.inside.Comparing as comparing
-use Rattle.program_rows.proofs.SameLaws.{same_by_test, test_by_same}
+use Rattle.program_rows.proofs.SameFacts.{same_by_test, test_by_same}
 use Rattle.program_rows.proofs.same.same_program.Goals as goal
 
 pub returns : goal.returns

@@ -2,7 +2,7 @@ use Rattle.std.proofs.Common.{ap, get_or, pos, rules, w64}
 use Rattle.std.proofs.lemmas.Int.{to_z-of_z}
 use Rattle.std.specs.Option.{option_map}
 use mir.Val.{SFits}
-use Rattle.program_rows.proofs.SeenLaws.{numbered-entry, own-entry}
+use Rattle.program_rows.proofs.SeenFacts.{numbered-entry, own-entry}
 use Rattle.program_rows.proofs.selected_entries.entry_at.Goals as goal
 
 pub returns-in-None : goal.returns-in-None

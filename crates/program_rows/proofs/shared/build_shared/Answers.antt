@@ -1,10 +1,10 @@
 use Rattle.std.proofs.Common.{◌++◌, ◌∙◌, None, Some, ap, map}
 use Rattle.auction_terms.specs.Offers.{offers}
 use Rattle.auction_terms.specs.Terms.{lots_in}
-use Rattle.auction_terms.proofs.LotsLaws.{are_lots}
+use Rattle.auction_terms.proofs.LotsFacts.{are_lots}
 use Rattle.program_rows.specs.Rows.{subjects, worth_column}
 use Rattle.program_rows.specs.Selections.{owner_of, shared}
-use Rattle.program_rows.proofs.KeptLaws.{are_offers}
+use Rattle.program_rows.proofs.KeptFacts.{are_offers}
 use Rattle.program_rows.proofs.shared.build_shared.Goals as goal
 
 pub invariant_of-result : goal.invariant_of-result

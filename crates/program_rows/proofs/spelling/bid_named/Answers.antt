@@ -1,6 +1,6 @@
 use Rattle.std.proofs.Common.{◌∙◌, ◌<◌, ◌^◌, sym, rules}
 use Rattle.std.proofs.lemmas.Bool.{eqb-true}
-use Rattle.program_rows.proofs.NumeralLaws.{is_some, no_name, other_letter, without_bar, other_bidder, other_bid, is_named, read_as, out_of_range, front_is, back_is, bar_at_end, bar_within}
+use Rattle.program_rows.proofs.NumeralFacts.{is_some, no_name, other_letter, without_bar, other_bidder, other_bid, is_named, read_as, out_of_range, front_is, back_is, bar_at_end, bar_within}
 use Rattle.program_rows.proofs.spelling.bid_named.Goals as goal
 
 pub returns-then-is_empty : goal.returns-then-is_empty

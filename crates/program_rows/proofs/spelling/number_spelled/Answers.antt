@@ -1,7 +1,7 @@
 use Rattle.std.proofs.Common.{◌∙◌, sym, ap}
 use Rattle.std.specs.Prelude.{decimal}
 use Rattle.std.proofs.lemmas.Bool.{eqb-true}
-use Rattle.program_rows.proofs.NumeralLaws.{spelled, below_four, is_some, not_empty, not_long, no_zero_first, only_digits}
+use Rattle.program_rows.proofs.NumeralFacts.{spelled, below_four, is_some, not_empty, not_long, no_zero_first, only_digits}
 use Rattle.program_rows.proofs.spelling.number_spelled.Goals as goal
 
 pub returns-then-is_empty : goal.returns-then-is_empty

@@ -1,7 +1,7 @@
 use Rattle.auction_terms.specs.Groups.{has}
 use Rattle.auction_terms.specs.Terms.{lots_in}
 use Rattle.bid_desk.specs.Closing.{book_of}
-use Rattle.mps_text.proofs.FaithfulTexts.{presolved_text_is_faithful}
+use Rattle.mps_text.proofs.FaithfulTextFacts.{presolved_text_is_faithful}
 use Rattle.std.specs.Prelude.{slice_index_or}
 use Rattle.answers.proofs.commands.compile.run_compile.Goals as goal
 

@@ -5,7 +5,7 @@ use Rattle.answers.proofs.CommandFacts.{state}
 use Rattle.answers.proofs.ExplainingFacts.{as-unasked, bids-as, bids-refused}
 use Rattle.auction_input.specs.Settled.{held}
 use Rattle.auction_input.specs.declared.refusal.Refusal.{Refusal}
-use Rattle.byte_sinks.proofs.Known.{Appends-nothing}
+use Rattle.byte_sinks.proofs.KnownByteFacts.{Appends-nothing}
 use Rattle.auction_input.proofs.StepFacts.{if-err-of}
 use Rattle.auction_input.specs.declared.request.Request.TheVariants as request
 use Rattle.answers.proofs.commands.explain.write_bids_of.Goals as goal

@@ -4,7 +4,7 @@ use Rattle.auction_terms.specs.Groups.{has}
 use Rattle.auction_terms.specs.Terms.{lots_in}
 use Rattle.bid_desk.specs.Closing.{book_of}
 use Rattle.group_compiler.specs.Compiled.{program_without}
-use Rattle.mps_text.proofs.FaithfulTexts.{presolved_text_is_faithful}
+use Rattle.mps_text.proofs.FaithfulTextFacts.{presolved_text_is_faithful}
 use Rattle.byte_sinks.specs.Sinks.{SentFront, written_of}
 use Rattle.mps_text.specs.Text.{text}
 use Rattle.answers.specs.Answer.{output_of}

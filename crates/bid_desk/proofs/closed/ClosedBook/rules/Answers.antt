@@ -1,6 +1,6 @@
 use Rattle.std.proofs.Common.{length}
 use Rattle.std.proofs.lemmas.List.FromFn.{length-map-range_with_len}
-use Rattle.auction_terms.proofs.LotsLaws.{are_lots}
+use Rattle.auction_terms.proofs.LotsFacts.{are_lots}
 use Rattle.bid_desk.specs.Closing.{bids_in, closing, form_standing}
 use Rattle.bid_desk.proofs.ClosingFacts.{IsBook-book_of}
 use Rattle.bid_desk.proofs.closed.ClosedBook.rules.Goals as goal

@@ -2,7 +2,7 @@ use Rattle.std.proofs.Common.{◌≡◌, ◌+◌, ◌∙◌, ℕ, List, length, 
 use Rattle.group_compiler.specs.Claimed.{Claimed}
 use Rattle.group_compiler.specs.Claims.{IsEachBelow}
 use Rattle.group_compiler.specs.declared.limits.TheConstants.{ALL_DRAWS}
-use Rattle.group_compiler.proofs.ClaimLaws.{closes}
+use Rattle.group_compiler.proofs.ClaimFacts.{closes}
 use Rattle.group_compiler.proofs.claims.Claims.close.Goals as goal
 
 pub returns : goal.returns

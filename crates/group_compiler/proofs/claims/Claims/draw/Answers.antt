@@ -1,6 +1,6 @@
 use Rattle.std.proofs.Common.{arith, ◌≡◌, ◌<◌, ◌∙◌, ap, sym}
 use Rattle.group_compiler.specs.Claimed.{Claimed}
-use Rattle.group_compiler.proofs.ClaimLaws.{draws}
+use Rattle.group_compiler.proofs.ClaimFacts.{draws}
 use Rattle.group_compiler.proofs.claims.Claims.draw.Goals as goal
 
 pub fetch_add-requires : goal.fetch_add-requires

@@ -1,6 +1,6 @@
 use Rattle.std.proofs.Common.{arith, ◌≡◌, ◌<◌, ◌∙◌, ap, sym}
 use Rattle.group_compiler.specs.Claimed.{Claimed}
-use Rattle.group_compiler.proofs.ClaimLaws.{joins}
+use Rattle.group_compiler.proofs.ClaimFacts.{joins}
 use Rattle.group_compiler.proofs.claims.Claims.join.Goals as goal
 
 pub join_seat-requires : goal.join_seat-requires

@@ -1,6 +1,6 @@
 use Rattle.std.proofs.Common.{arith, ◌≡◌, ◌<◌, ◌∙◌, ap, sym}
 use Rattle.group_compiler.specs.Claimed.{Claimed}
-use Rattle.group_compiler.proofs.ClaimLaws.{splits}
+use Rattle.group_compiler.proofs.ClaimFacts.{splits}
 use Rattle.group_compiler.proofs.claims.Claims.split.Goals as goal
 
 pub split_seat-seat-requires : goal.split_seat-seat-requires

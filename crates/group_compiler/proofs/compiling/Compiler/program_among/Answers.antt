@@ -10,7 +10,7 @@ use Rattle.bid_desk.specs.Closing.{book_of}
 use Rattle.program_rows.specs.Program.{Table}
 use Rattle.program_rows.specs.Rows.{program_of}
 use Rattle.group_compiler.specs.Compiled.{Compiling, program_among}
-use Rattle.group_compiler.proofs.CompileLaws.{among_are_sized}
+use Rattle.group_compiler.proofs.CompileFacts.{among_are_sized}
 use Rattle.group_compiler.proofs.compiling.Compiler.program_among.Goals as goal
 
 pub build-requires : goal.build-requires

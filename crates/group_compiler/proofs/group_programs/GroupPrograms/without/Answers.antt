@@ -5,7 +5,7 @@ use Rattle.bid_desk.specs.Closing.{Closing}
 use Rattle.program_rows.specs.Program.{Table}
 use Rattle.program_rows.specs.Selections.{Shared, selection_without}
 use Rattle.group_compiler.specs.Compiled.{program_without}
-use Rattle.group_compiler.proofs.CompileLaws.{selection_is}
+use Rattle.group_compiler.proofs.CompileFacts.{selection_is}
 use Rattle.group_compiler.proofs.group_programs.GroupPrograms.without.Goals as goal
 
 pub returns : goal.returns

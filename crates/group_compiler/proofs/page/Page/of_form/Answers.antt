@@ -6,9 +6,9 @@ use Rattle.auction_terms.specs.Offers.{offers}
 use Rattle.auction_terms.specs.Terms.{Terms, lots_in}
 use Rattle.auction_terms.specs.declared.bids.KeptBid.{KeptBid}
 use Rattle.bid_desk.specs.Closing.{book_of}
-use Rattle.group_compiler.proofs.CompileLaws.{offers_are_sized}
-use Rattle.presolve.proofs.KeepLaws.{form_offers}
-use Rattle.group_compiler.proofs.PageLines.{count_lots, form_page, length_rows}
+use Rattle.group_compiler.proofs.CompileFacts.{offers_are_sized}
+use Rattle.presolve.proofs.KeepFacts.{form_offers}
+use Rattle.group_compiler.proofs.PageLineFacts.{count_lots, form_page, length_rows}
 use Rattle.group_compiler.proofs.page.Page.of_form.Goals as goal
 
 pub build_bids-requires : goal.build_bids-requires

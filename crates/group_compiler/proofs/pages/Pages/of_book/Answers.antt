@@ -3,8 +3,8 @@ use Rattle.auction_terms.specs.Terms.{lots_in}
 use Rattle.auction_terms.specs.declared.limits.TheConstants.{MOST_BIDDERS}
 use Rattle.bid_desk.specs.Closing.{book_of}
 use Rattle.group_compiler.specs.Pages.{PageText, all_pages, page_of_lots}
-use Rattle.group_compiler.proofs.InOrder.{pages_in_order}
-use Rattle.group_compiler.proofs.Joined.{length_pages}
+use Rattle.group_compiler.proofs.OrderFacts.{pages_in_order}
+use Rattle.group_compiler.proofs.JoinedFacts.{length_pages}
 use Rattle.group_compiler.proofs.pages.Pages.of_book.Goals as goal
 
 pub returns-clause-pages : goal.returns-clause-pages

@@ -1,7 +1,7 @@
 use Rattle.auction_terms.specs.Groups.{has}
 use Rattle.auction_terms.specs.Terms.{lots_in}
 use Rattle.bid_desk.specs.Closing.{book_of}
-use Rattle.outcome.proofs.BackLaws.{points_come_back}
+use Rattle.outcome.proofs.BackFacts.{points_come_back}
 use Rattle.answers.proofs.WinningFacts.{allowed-length}
 use Rattle.library_tests.proofs.workers.refused.wins.Goals as goal
 

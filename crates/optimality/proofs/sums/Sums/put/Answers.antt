@@ -4,7 +4,7 @@ use Rattle.std.proofs.lemmas.Int.{ints, to_z-of_z}
 use mir.Syntax.{w128}
 use mir.Val.{SFits}
 use Rattle.optimality.specs.inside.Adding.{AreListed, AreGivenMore, at_place, number_at}
-use Rattle.optimality.proofs.PlaceLaws.{more-set, listed-too}
+use Rattle.optimality.proofs.PlaceFacts.{more-set, listed-too}
 use Rattle.optimality.proofs.sums.Sums.put.Goals as goal
 
 pub invariant_of-self-2 : goal.invariant_of-self-2

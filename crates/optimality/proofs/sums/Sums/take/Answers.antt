@@ -1,6 +1,6 @@
 use Rattle.std.proofs.Common.{List, ℕ, ℤ, subst, sym}
 use Rattle.optimality.specs.inside.Adding.{AreListed}
-use Rattle.optimality.proofs.PlaceLaws.{listed-taken}
+use Rattle.optimality.proofs.PlaceFacts.{listed-taken}
 use Rattle.optimality.proofs.sums.Sums.take.Goals as goal
 
 pub invariant_of-self-2 : goal.invariant_of-self-2

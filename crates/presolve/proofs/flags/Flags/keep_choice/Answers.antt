@@ -11,8 +11,8 @@ use Rattle.auction_terms.specs.declared.bids.Bid.{Bid}
 use Rattle.auction_terms.specs.declared.bids.KeptBid.{KeptBid}
 use Rattle.bid_desk.specs.Closing.{book_of}
 use Rattle.bid_forms.specs.Offers.{IsBidWithinLimits}
-use Rattle.presolve.proofs.ChoiceLaws.{bidder_within, dropped, left_out, no_bid, no_bid_of_none, not_there, one_of, stays}
-use Rattle.presolve.proofs.KeepLaws.{its_flag, its_flags}
+use Rattle.presolve.proofs.ChoiceFacts.{bidder_within, dropped, left_out, no_bid, no_bid_of_none, not_there, one_of, stays}
+use Rattle.presolve.proofs.KeepFacts.{its_flag, its_flags}
 use Rattle.presolve.proofs.flags.Flags.keep_choice.Goals.{then-bid-eq0-via-then-bid-eq0, then-bid-eq0-via-else-bid-eq0+then-from-bids}
 use Rattle.presolve.proofs.flags.Flags.keep_choice.Goals as goal
 

@@ -3,9 +3,9 @@ use Rattle.auction_terms.specs.Groups.{has}
 use Rattle.auction_terms.specs.Offers.{offers}
 use Rattle.auction_terms.specs.declared.bids.KeptBid.{KeptBid}
 use Rattle.auction_terms.specs.Terms.{lots_in}
-use Rattle.auction_terms.proofs.LimitLaws.{kept_are_offers}
+use Rattle.auction_terms.proofs.LimitFacts.{kept_are_offers}
 use Rattle.bid_desk.specs.Closing.{book_of}
-use Rattle.presolve.proofs.KeepLaws.{flags_at, kept_more, all_kept, are_kept, length_book, length_flags}
+use Rattle.presolve.proofs.KeepFacts.{flags_at, kept_more, all_kept, are_kept, length_book, length_flags}
 use Rattle.presolve.proofs.flags.Flags.kept.Goals as goal
 
 pub index-requires : goal.index-requires

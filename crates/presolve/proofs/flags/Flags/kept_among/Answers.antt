@@ -7,12 +7,12 @@ use Rattle.auction_terms.specs.Offers.{offers}
 use Rattle.auction_terms.specs.Terms.{lots_in}
 use Rattle.auction_terms.specs.declared.bids.KeptBid.{KeptBid}
 use Rattle.auction_terms.specs.declared.choices.Choice.{Choice}
-use Rattle.auction_terms.proofs.LimitLaws.{kept_are_offers, offers_left}
+use Rattle.auction_terms.proofs.LimitFacts.{kept_are_offers, offers_left}
 use Rattle.bid_desk.specs.Closing.{book_of}
 use Rattle.presolve.specs.Flags.{has_choice}
 use Rattle.presolve.specs.inside.Flags.{is_offer_of}
-use Rattle.presolve.proofs.ChoiceLaws.{at_end, at_start, behind_all, not_repeated, one_again_at, one_more, repeated}
-use Rattle.presolve.proofs.KeepLaws.{are_kept}
+use Rattle.presolve.proofs.ChoiceFacts.{at_end, at_start, behind_all, not_repeated, one_again_at, one_more, repeated}
+use Rattle.presolve.proofs.KeepFacts.{are_kept}
 use Rattle.presolve.proofs.flags.Flags.kept_among.Goals.{then-not-is_repeated+in_ok-keep_choice, else-not-is_repeated}
 use Rattle.presolve.proofs.flags.Flags.kept_among.Goals as goal
 

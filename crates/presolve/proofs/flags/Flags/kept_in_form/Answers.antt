@@ -6,7 +6,7 @@ use Rattle.auction_terms.specs.declared.bids.KeptBid.{KeptBid}
 use Rattle.auction_terms.specs.Terms.{lots_in}
 use Rattle.bid_desk.specs.Closing.{book_of}
 use Rattle.presolve.specs.Flags.{kept_in_form}
-use Rattle.presolve.proofs.KeepLaws.{are_kept, flags_at, form_offers, length_flags}
+use Rattle.presolve.proofs.KeepFacts.{are_kept, flags_at, form_offers, length_flags}
 use Rattle.presolve.proofs.flags.Flags.kept_in_form.Goals as goal
 
 pub index-flags-requires : goal.index-flags-requires

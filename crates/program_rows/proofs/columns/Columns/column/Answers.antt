@@ -1,7 +1,7 @@
 use Rattle.std.proofs.Common.{◌∙◌, ℤ, Some, ap, sym, slice_get, rules, w64}
 use Rattle.std.proofs.lemmas.Int.{to_z-of_z}
 use mir.Val.{SFits}
-use Rattle.program_rows.proofs.ColumnLemmas.{column_parts}
+use Rattle.program_rows.proofs.ColumnFacts.{column_parts}
 use Rattle.program_rows.proofs.columns.Columns.column.Goals as goal
 
 pub returns : goal.returns

@@ -1,6 +1,6 @@
 use Rattle.std.proofs.Common.{arith}
 use Rattle.program_rows.specs.Program.{TableColumn}
-use Rattle.program_rows.proofs.ColumnLemmas.{as_many, joined_costed, parts_of}
+use Rattle.program_rows.proofs.ColumnFacts.{as_many, joined_costed, parts_of}
 use Rattle.program_rows.proofs.columns.Columns.with_costs.Goals as goal
 
 pub invariant_of-result : goal.invariant_of-result

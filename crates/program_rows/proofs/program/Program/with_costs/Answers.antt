@@ -1,7 +1,7 @@
 use Rattle.std.proofs.Common.{ap, sym, ◌∙◌, length}
 use Rattle.program_rows.specs.Parts.{table_of}
 use Rattle.program_rows.specs.Program.{Table}
-use Rattle.program_rows.proofs.CostedLaws.{costed_is_program}
+use Rattle.program_rows.proofs.CostedFacts.{costed_is_program}
 use Rattle.program_rows.proofs.program.Program.with_costs.Goals as goal
 
 pub invariant_of-result : goal.invariant_of-result

@@ -1,6 +1,6 @@
 use Rattle.std.proofs.Common.{ap, arith, length}
 use Rattle.std.specs.Option.{option_map}
-use Rattle.program_rows.proofs.SeenLaws.{length-seen}
+use Rattle.program_rows.proofs.SeenFacts.{length-seen}
 use Rattle.program_rows.proofs.selected_entries.Entries.entry.Goals as goal
 
 pub entry_at-requires : goal.entry_at-requires

@@ -3,7 +3,7 @@ use Rattle.std.specs.List.{AllByRecursion}
 use Rattle.auction_terms.specs.Groups.{has}
 use Rattle.program_rows.specs.Parts.{IsProgram}
 use Rattle.program_rows.specs.Selections.{numbers_left, places_left, selection_of, shared}
-use Rattle.program_rows.proofs.SelectionLaws.{places_there, selection_is_legal}
+use Rattle.program_rows.proofs.SelectionFacts.{places_there, selection_is_legal}
 use Rattle.program_rows.proofs.shared.SharedProgram.without.Goals as goal
 
 pub of-requires-clause-program : goal.of-requires-clause-program

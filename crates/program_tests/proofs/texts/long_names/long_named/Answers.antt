@@ -1,6 +1,6 @@
 use Rattle.std.proofs.Common.{◌≡◌, ◌∷◌, [], map, ap, replicate, rules}
 use Rattle.program_rows.specs.Parts.{shown_row, table_of}
-use Rattle.outcome.proofs.Worked.{at_most}
+use Rattle.outcome.proofs.WorkedPrograms.{at_most}
 use Rattle.program_tests.proofs.LongName.{is_long_program, long}
 use Rattle.program_tests.proofs.texts.long_names.long_named.Goals as goal
 

@@ -1,0 +1,109 @@
+-- An only least point of the program of the kept bids wins the only allocation.
+use Rattle.std.proofs.Common.{◌≡◌, ℕ, ◌+◌, ◌≤◌, Bool, true, false, ◌==◌, cond, List, [], ◌∷◌, ◌++◌, map, refl, sym, ap, ap₂, ◌∙◌, subst, arith, eqb-true, eq-eqb, pos, neg_ℤ, ◌≤ℤ◌}
+use Rattle.std.specs.Prelude.{IsPermutation, sum_by}
+use Rattle.std.proofs.lemmas.Int.{ints}
+use Rattle.std.proofs.lemmas.Bool.{and_parts, and_from}
+use Rattle.std.proofs.lemmas.List.Sums.{sum_by-append, sum_by-cons}
+use Rattle.std.proofs.lemmas.List.Elements.{recursion_from_All}
+use Rattle.std.proofs.lemmas.List.Sorted.{IsPermutation-cons, IsPermutation-middle, IsPermutation-refl, IsPermutation-sym, IsPermutation-trans}
+use Rattle.auction_terms.specs.declared.choices.Choice.{Choice}
+use Rattle.auction_terms.specs.Allocations.{total}
+use Rattle.auction_terms.specs.Keeping.{kept_of, is_kept_choice}
+use Rattle.auction_terms.specs.inside.Keeping.{choice_of}
+use Rattle.auction_terms.proofs.LimitFacts.{kept_are_offers, sized}
+use Rattle.auction_terms.proofs.OnlyFacts.{feasible_permuted, only_among_all, total_permuted}
+use Rattle.program_rows.specs.Points.{objective}
+use Rattle.program_rows.specs.Rows.{program_of, subjects}
+use Rattle.program_rows.specs.Faithful.{back}
+use Rattle.program_rows.specs.Only.{OnlyLeastIsOnly}
+use Rattle.program_rows.proofs.EachFacts.{each}
+use Rattle.program_rows.proofs.FaithfulFacts.{back_is, chosen, counted_members, exact_point, measured, numbered, presolved_is_faithful, same_choice, values_of}
+
+-- ---------- lists that have each choice as often ----------
+
+abbrev pub times : Choice → List Choice → ℕ
+times c xs = sum_by (λ d. cond (same_choice c d) 1 0) xs
+
+same-itself : (c : Choice) → same_choice c c ≡ true
+same-itself c = and_from (c.bidder == c.bidder) (c.bid == c.bid) (eq-eqb c.bidder c.bidder refl) (eq-eqb c.bid c.bid refl)
+
+are-same : (c d : Choice) → same_choice c d ≡ true → c ≡ d
+are-same c d e =
+    let parts = and_parts (c.bidder == d.bidder) (c.bid == d.bid) e in
+    let bidder : c.bidder ≡ d.bidder = eqb-true c.bidder d.bidder parts.0 in
+    let bid : c.bid ≡ d.bid = eqb-true c.bid d.bid parts.1 in
+    ap₂ (λ (b j : ℕ). record { bidder = b; bid = j }) bidder bid
+
+-- a choice, and the list before and after it
+record Stands (c : Choice) (xs : List Choice) : Type 0 where
+  before : List Choice
+  behind : List Choice
+  is : xs ≡ before ++ c ∷ behind
+
+stands-here-or-later : (c x : Choice) (xs : List Choice) (b : Bool) → same_choice c x ≡ b → 1 ≤ times c (x ∷ xs) → (1 ≤ times c xs → Stands c xs) → Stands c (x ∷ xs)
+stands-here-or-later c x xs true e h later = record { before = []; behind = xs; is = ap (λ (d : Choice). d ∷ xs) (sym (are-same c x e)) }
+stands-here-or-later c x xs false e h later =
+    let n : ℕ = cond (same_choice c x) 1 0 in
+    let none : n ≡ 0 = ap (λ (b : Bool). cond b 1 0) e in
+    let more : times c (x ∷ xs) ≡ n + times c xs = sum_by-cons (λ d. cond (same_choice c d) 1 0) x xs in
+    let r = later (omega arith) in
+    record { before = x ∷ r.before; behind = r.behind; is = ap (λ (ys : List Choice). x ∷ ys) r.is }
+
+stands : (c : Choice) (xs : List Choice) → 1 ≤ times c xs → Stands c xs
+stands c [] h = absurd (omega arith)
+stands c (x ∷ xs) h = stands-here-or-later c x xs (same_choice c x) refl h (stands c xs)
+
+pub as-often : (xs ys : List Choice) → ((c : Choice) → times c xs ≡ times c ys) → IsPermutation xs ys
+as-often [] [] h = IsPermutation-refl []
+as-often [] (y ∷ ys) h =
+    let here : times y [] ≡ times y (y ∷ ys) = h y in
+    let n : ℕ = cond (same_choice y y) 1 0 in
+    let one : n ≡ 1 = ap (λ (b : Bool). cond b 1 0) (same-itself y) in
+    let more : times y (y ∷ ys) ≡ n + times y ys = sum_by-cons (λ d. cond (same_choice y d) 1 0) y ys in
+    absurd (omega arith)
+as-often (x ∷ xs) ys h =
+    let n : ℕ = cond (same_choice x x) 1 0 in
+    let one : n ≡ 1 = ap (λ (b : Bool). cond b 1 0) (same-itself x) in
+    let more : times x (x ∷ xs) ≡ n + times x xs = sum_by-cons (λ d. cond (same_choice x d) 1 0) x xs in
+    let here : times x (x ∷ xs) ≡ times x ys = h x in
+    let r = stands x ys (omega arith) in
+    let others : (c : Choice) → times c xs ≡ times c (r.before ++ r.behind) = λ c.
+    let m : ℕ = cond (same_choice c x) 1 0 in
+    let first : times c (x ∷ xs) ≡ m + times c xs = sum_by-cons (λ d. cond (same_choice c d) 1 0) x xs in
+    let whole : times c ys ≡ times c (r.before ++ x ∷ r.behind) = ap (times c) r.is in
+    let parts : times c (r.before ++ x ∷ r.behind) ≡ times c r.before + times c (x ∷ r.behind) = sum_by-append (λ d. cond (same_choice c d) 1 0) r.before (x ∷ r.behind) in
+    let next : times c (x ∷ r.behind) ≡ m + times c r.behind = sum_by-cons (λ d. cond (same_choice c d) 1 0) x r.behind in
+    let together : times c (r.before ++ r.behind) ≡ times c r.before + times c r.behind = sum_by-append (λ d. cond (same_choice c d) 1 0) r.before r.behind in
+    let both : times c (x ∷ xs) ≡ times c ys = h c in
+    omega arith in
+    let moved = IsPermutation-cons x xs (r.before ++ r.behind) (as-often xs (r.before ++ r.behind) others) in
+    let back_in = IsPermutation-sym (r.before ++ x ∷ r.behind) (x ∷ (r.before ++ r.behind)) (IsPermutation-middle r.before x r.behind) in
+    subst (λ (zs : List Choice). IsPermutation (x ∷ xs) zs) (sym r.is) (IsPermutation-trans (x ∷ xs) (x ∷ (r.before ++ r.behind)) (r.before ++ x ∷ r.behind) moved back_in)
+
+-- ---------- the law ----------
+
+pub only_least_is_only : OnlyLeastIsOnly
+only_least_is_only lots book group values a within is_point only moved none =
+    let all = kept_of lots book group in
+    let p = program_of lots all in
+    let fits = sized lots book within in
+    let won = back p.columns values in
+    let parsed = (presolved_is_faithful lots book group within).maps_back values is_point in
+    only_among_all lots book group a fits (feasible_permuted lots book group won a moved parsed.feasible)
+    (λ other feasible kept no_less.
+    let k = recursion_from_All (λ c. is_kept_choice lots book group c ≡ true) other kept in
+    let exact = exact_point lots book group fits other k feasible in
+    let v = values_of lots book group fits other in
+    let same_as_won : total lots book a ≡ total lots book won = total_permuted lots book won a moved in
+    let of_won : pos (total lots book won) ≡ neg_ℤ (objective p values) = parsed.same_total in
+    let of_other : pos (total lots book other) ≡ neg_ℤ (objective p v) = exact.1 in
+    let lower : objective p v ≤ℤ objective p values = omega (arith, ints) in
+    let same : v ≡ values = only v exact.0 lower in
+    let chosen_is : won ≡ map choice_of (chosen all values) = back_is lots (subjects lots all) all values (numbered lots all (kept_are_offers lots book group within)) in
+    let often : (c : Choice) → times c won ≡ times c other = λ c.
+    ap (times c) chosen_is
+    ∙ measured (λ d. cond (same_choice c d) 1 0) (λ o. cond (same_choice c (choice_of o)) 1 0) (chosen all values) (each _ (chosen all values) (λ o. refl))
+    ∙ ap (λ (vs : List Bool). sum_by (λ o. cond (same_choice c (choice_of o)) 1 0) (chosen all vs)) (sym same)
+    ∙ counted_members lots book group fits (λ d. cond (same_choice c d) 1 0) other k feasible.one_bid_each in
+    IsPermutation-trans a won other (IsPermutation-sym won a moved) (as-often won other often))
+    none
