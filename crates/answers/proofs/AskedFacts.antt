@@ -83,7 +83,7 @@ pub parsed-words : {Z : Type 0} (slice items from : List (String Z)) (texts agai
 parsed-words {Z} slice items from texts again is_slice is_from is_spelled is_again =
     ap (λ (xs : List (Bor Text)). map (λ text. text.now) xs) is_again ∙ is_spelled ∙ ap (λ (ws : List (String Z)). spelled (map text_of ws)) (is_slice ∙ is_from)
 
--- a kind among faults is one among those behind which others come
+-- a kind among faults is one among those after which others come
 among-or : (k : ErrorKind) (xs ys : Kinds) → IsAmong k xs → IsAmong k (or_else xs ys)
 among-or k [] ys among = absurd among
 among-or k (x ∷ xs) ys among = among

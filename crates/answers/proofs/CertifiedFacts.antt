@@ -40,7 +40,7 @@ ok = Ok tt
 shown-ok : (book : Closing) (n : ℕ) (b : code.ClaimedBound) → IsJudged book b ok → shown n (bound_held book b) ≡ Ok tt
 shown-ok book n b judged = ap (λ (f : Option (ℕ × CertificateFaultKind)). unless (option_map (λ (f : ℕ × CertificateFaultKind). refusal.Certificate n (record { line = f.0; kind = f.1 })) f) (Ok tt)) judged.is
 
--- where the certificates behind the first are fine too
+-- where the certificates after the first are fine too
 fine-behind : (book : Closing) (b : code.ClaimedBound) (bounds : List code.ClaimedBound) (count : ℕ) → AreFine book (b ∷ bounds) (suc count) → AreFine book bounds count
 fine-behind book b bounds count fine = λ k d small. fine (suc k) d (omega arith)
 

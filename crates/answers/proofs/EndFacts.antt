@@ -7,7 +7,7 @@ use Rattle.outcome.specs.Pricing.{Priced, least_line, price_line, pricing_text, 
 use Rattle.outcome.specs.Report.{allocation_text, cost, group_report, heading, in_turn, report_text}
 use Rattle.bid_desk.specs.Sale.{Sale}
 
--- a digit, and a line feed behind it
+-- a digit, and a line feed after it
 record EndsInDigit (text : List ℕ) : Type 0 where
   front : List ℕ
   digit : ℕ

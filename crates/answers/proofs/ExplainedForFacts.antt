@@ -252,7 +252,7 @@ many-claims auction first (text ∷ []) (other ∷ more) many = refl
 many-claims auction first (text ∷ other ∷ more) [] many = refl
 many-claims auction first (text ∷ other ∷ more) (tie ∷ ties) many = refl
 
--- what comes behind prices, claims and certificates
+-- what comes after prices, claims and certificates
 abbrev behind_pricing : Auction → List (List Choice) → Uniqueness → Option Priced → Result (List ℕ) Refusal
 behind_pricing auction won claim pricing = Ok (report_text auction.sale auction.groups won ++ (pricing_text auction.sale (slice_index_or won 0 []) pricing ++ uniqueness_text auction.sale claim))
 

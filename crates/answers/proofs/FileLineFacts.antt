@@ -7,7 +7,7 @@ use Rattle.auction_input.specs.declared.files.FileFault.TheVariants as fault
 use Rattle.input_faults.specs.FileNames.{shown_name}
 use Rattle.answers.specs.FileLines.{file_text, words_with}
 
--- no other file stands behind them
+-- no other file comes after them
 pub words-alone : (f : FileFault) (other : List ℕ) → ((n : ℕ) → f ≡ fault.ReadAlready n → ⊥) → fault_words f ++ [] ≡ words_with f other
 words-alone (fault.ReadAlready n) other not = absurd (not n refl)
 words-alone f other not = append-nil (fault_words f)

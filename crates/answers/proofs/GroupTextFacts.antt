@@ -45,7 +45,7 @@ pub in_turn-rest : {X : Type 0} (f : ℕ → X → List ℕ) (k : ℕ) (xs : Lis
     → in_turn f k xs ≡ in_turn f k (take i xs) ++ in_turn f (k + length (take i xs)) (drop i xs)
 in_turn-rest f k xs i = ap (in_turn f k) (sym (take-append-drop i xs)) ∙ in_turn-append f k (take i xs) (drop i xs)
 
--- where the output ended: behind what had gone out, and within the bytes that were being added
+-- where the output ended: after what had gone out, and within the bytes that were being added
 abbrev pub EndsWithin : Option (List ℕ) → Option (List ℕ) → List ℕ → List ℕ → List ℕ → ℕ → Type 0
 EndsWithin None after whole done upto written = Unit {0}
 EndsWithin (Some before) None whole done upto written = ⊥

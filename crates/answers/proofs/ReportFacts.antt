@@ -27,7 +27,7 @@ IsMade c texts n found = IfSome found (λ a. winners_at (sale_of c.book) c.group
 abbrev pub MadeFrom : Compiling → List (List ℕ) → ℕ → ℕ → List (Option (List Choice)) → Type 0
 MadeFrom c texts a count made = AllZip (IsMade c texts) (range_with_len a count) made
 
--- the next number, and those behind it
+-- the next number, and those after it
 pub made-next : (c : Compiling) (texts : List (List ℕ)) (a count : ℕ) (found : Option (List Choice)) (rest : List (Option (List Choice))) → MadeFrom c texts a count (found ∷ rest)
     → (0 < count) × IsMade c texts a found × MadeFrom c texts (a + 1) (count - 1) rest
 made-next c texts a zero found rest each = absurd each

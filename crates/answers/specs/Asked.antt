@@ -154,7 +154,7 @@ abbrev pub by_faults : Kinds → CommandLine → Asked
 by_faults [] line = for_answer line
 by_faults (first ∷ more) line = by_fault first
 
--- the words as the parser takes them: `help` in front of others stands as `--help` behind them
+-- the words as the parser takes them: `help` in front of others is put as `--help` after them
 abbrev pub spelled : List Text → List Text
 spelled (program ∷ first ∷ more) = if bytes_eq first (codes "help") then program ∷ (more ++ codes "--help" ∷ []) else program ∷ first ∷ more
 spelled words = words

@@ -37,7 +37,7 @@ certified auction won =
     if has_certificates (numbers_of auction) then and_then (each_in_turn shown 1 (bounds_of auction won)) (λ all. Ok won)
     else Err (refusal.PartCount part.Certificate)
 
--- behind some certificates that show what they are to comes one that isn't judged, since the leaf at this line has a size of 2^126 or more
+-- after some certificates that show what they are to comes one that isn't judged, since the leaf at this line has a size of 2^126 or more
 abbrev pub IsTooWide : List (Table × ℤ × List ℕ) → Refusal → Type 0
 IsTooWide bounds r =
     (before : ℕ) × (line : ℕ) × (bound : Table × ℤ × List ℕ) × (slice_get bounds before ≡ Some bound) × ((all : List (Unit {0})) × (each_in_turn shown 1 (take before bounds) ≡ Ok all))

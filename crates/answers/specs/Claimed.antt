@@ -1,4 +1,4 @@
--- What is claimed of other outcomes behind the solutions and certificates of the groups: that nobody else can win as much, or a tie.
+-- What is claimed of other outcomes after the solutions and certificates of the groups: that nobody else can win as much, or a tie.
 use Rattle.std.specs.Prelude.{◌≡◌, ◌∷◌, ℕ, Bool, List, [], Result, Ok, Err, nat_le, not, slice_index_or}
 use Rattle.std.specs.Option.{option_map, option_map_or}
 use Rattle.auction_input.specs.Auction.{Auction}

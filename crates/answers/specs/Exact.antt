@@ -23,7 +23,7 @@ use Rattle.answers.specs.SolutionWinners.{winners_of_groups}
 abbrev pub Writes : Result (List ℕ) Refusal → Option (List ℕ) → Option (List ℕ) → Type 0
 Writes parsed taken taken' = (out : List ℕ) × (parsed ≡ Ok out) × Appends taken taken' out
 
--- how a command ends without its output: it is refused; or a put failed, behind the first bytes of the output, as many as the refusal says
+-- how a command ends without its output: it is refused; or a put failed, after the first bytes of the output, as many as the refusal says
 pub data Ends (parsed : Result (List ℕ) Refusal) (before after : SinkState) : Refusal → Type 0 where
   by_refusal : {r : Refusal} → Refuses parsed r → after.taken ≡ before.taken → Ends parsed before after r
   by_put : {written : ℕ} → (out : List ℕ) → parsed ≡ Ok out → SentFront before.taken after.taken out written → HasFailed before.failures after.failures → Ends parsed before after (refusal.Write (write.Sink written))

@@ -24,7 +24,7 @@ abbrev pub other_file : CommandLine → FileFault → List ℕ
 other_file command (fault.ReadAlready n) = slice_index_or command.files n []
 other_file command f = []
 
--- the words on a file, and behind them the other one
+-- the words on a file, and after them the other one
 abbrev pub words_with : FileFault → List ℕ → List ℕ
 words_with (fault.ReadAlready n) other = fault_words (fault.ReadAlready n) ++ shown_name other
 words_with f other = fault_words f

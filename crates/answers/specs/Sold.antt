@@ -1,4 +1,4 @@
--- What stands behind the programs of an answer: the auction of a closed round, and texts that are faithful to it.
+-- What comes after the programs of an answer: the auction of a closed round, and texts that are faithful to it.
 use Rattle.std.specs.Prelude.{⊤, ℕ, List}
 use Rattle.auction_input.specs.Input.{Input}
 use Rattle.auction_input.specs.Auction.{Auction}

@@ -132,7 +132,7 @@ fn check_each(
     first_refused(alloc, programs, bounds, verdicts.as_slice())
 }
 
-// What each certificate comes to, but for those behind one that is known to be faulty. Checking one is worth a thread, however
+// What each certificate comes to, but for those after one that is known to be faulty. Checking one is worth a thread, however
 // few there are; its program takes what it needs from the one that is made for all.
 fn verdicts_of(
     rt: &(impl Threads + Sync),
@@ -208,7 +208,7 @@ fn settled(
     }
 }
 
-// The first fault among verdicts, with its number from 1. Behind it may be certificates without one, and none before it.
+// The first fault among verdicts, with its number from 1. After it may be certificates without one, and none before it.
 fn first_refused(
     alloc: Global,
     programs: &GroupPrograms<'_>,

@@ -1,4 +1,4 @@
-//! What is claimed of other outcomes behind a report, and what comes of it.
+//! What is claimed of other outcomes after a report, and what comes of it.
 
 ghost use Rattle.std.specs.Prelude.{◌≡◌, ◌⊎◌, [], Err, IfErr, IfOk, Ok, false, length, slice_index_or};
 ghost use Rattle.auction_terms.specs.Allocations.{IsFeasible};

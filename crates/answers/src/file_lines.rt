@@ -22,7 +22,7 @@ fn add_words<S: Sink>(writer: &mut Writer<'_, S>, fault: FileFault)
     writer.add_pieces(&pieces);
 }
 
-// Adds the words on a file, and behind them the other one, where it is read already.
+// Adds the words on a file, and after them the other one, where it is read already.
 fn add_words_with<S: Sink>(writer: &mut Writer<'_, S>, fault: FileFault, other: &[u8])
     ensures { Adds S.taken S.failures writer.old writer.new (words_with fault other.now) }
 {

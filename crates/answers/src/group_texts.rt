@@ -31,7 +31,7 @@ pub enum RunFault {
     Sink { group: usize, written: u64 },
 }
 
-// Adds what stands before the names in the line of group k.
+// Adds what comes before the names in the line of group k.
 fn add_number<S: Sink>(writer: &mut Writer<'_, S>, k: usize)
     ensures { Adds S.taken S.failures writer.old writer.new (codes "* program " ++ (decimal k ++ 32 ∷ [])) }
 {

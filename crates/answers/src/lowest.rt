@@ -1,4 +1,4 @@
-//! The lowest number of which a fault is known, so that workers begin nothing that stands behind it.
+//! The lowest number of which a fault is known, so that workers begin nothing that comes after it.
 //!
 //! It is a hint, and no answer rests on it: whoever goes over what workers made, in order, makes what is missing, and comes to
 //! the fault first.

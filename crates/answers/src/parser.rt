@@ -12,7 +12,7 @@ use std::alloc::{AllocError, Global};
 /// The program's version.
 pub const VERSION: &str = "1.2.0";
 
-// What the help says of a command: its name, what it does, and what stands below its options.
+// What the help says of a command: its name, what it does, and what comes below its options.
 #[derive(Clone, Copy)]
 struct Page {
     name: &'static str,
@@ -77,7 +77,7 @@ fn described<'a>(alloc: Global, page: Page) -> Command<'a>
         .after_help(page.below)
 }
 
-// The words of `help` are spelled otherwise before they are parsed: it stands here to be listed among the commands.
+// The words of `help` are spelled otherwise before they are parsed: it is here to be listed among the commands.
 fn help_command<'a>(alloc: Global) -> Command<'a>
     ensures { app_of result ≡ new_app (codes "help") }
 {

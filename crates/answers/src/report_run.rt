@@ -21,7 +21,7 @@ use std::sync::Wait;
 use std::thread::Threads;
 
 /// Finds what the solution of each group's program wins, by the program of the bids that it names. A solution that this
-/// refuses is left to be read against the program of all bids, and nothing is begun behind it: so only one such program
+/// refuses is left to be read against the program of all bids, and nothing is begun after it: so only one such program
 /// stands at a time, however many workers there are.
 #[derive(Drop)]
 pub struct Winning<'a, 'b, 'g, 't> {
@@ -56,7 +56,7 @@ impl<'a, 'b, 'g, 't> Maker for Winning<'a, 'b, 'g, 't> {
         if self.left.is_below(number) {
             return Ok(None);
         }
-        // Its contract says how many groups there may be, so that the number behind this one is none too great.
+        // Its contract says how many groups there may be, so that the number after this one is none too great.
         let _few = self.compiler.count();
         let group = self.compiler.group(number + 1);
         let text = text_at(self.solutions, number);

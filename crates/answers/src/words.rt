@@ -267,7 +267,7 @@ fn texts_of<'a>(alloc: Global, words: &'a [String]) -> Result<Vec<&'a str>, Allo
         .collect(alloc)
 }
 
-// Puts `--help` behind the words in place of `help` in front of them.
+// Puts `--help` after the words in place of `help` in front of them.
 fn spell_help(texts: &mut Vec<&str>) -> Result<(), AllocError>
     ensures { OnOk result (map (λ text. text.now) texts.new.items
         ≡ asked.spelled (map (λ text. text.now) texts.old.items)) }
@@ -279,7 +279,7 @@ fn spell_help(texts: &mut Vec<&str>) -> Result<(), AllocError>
     Ok(())
 }
 
-// The words as the parser takes them: `help` in front of others stands as `--help` behind them.
+// The words as the parser takes them: `help` in front of others is put as `--help` after them.
 fn spelled<'a>(alloc: Global, words: &'a [String]) -> Result<Vec<&'a str>, AllocError>
     ensures { IfOk result (λ texts. map (λ text. text.now) texts.items
         ≡ asked.spelled (map text_of words.entry.now)) }

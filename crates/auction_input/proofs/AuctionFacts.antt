@@ -56,7 +56,7 @@ pub parts-refused : (asked : Request) (input : Input) (f : PartFault) → TellsP
 parts-refused asked input fault.OutOfMemory parsed = inr refl
 parts-refused asked input f parsed = inl (ap (λ (found : Option PartFault). and_then (refused_as refusal.Parts (unless found (Ok (input_parts input)))) (count-stage asked)) parsed)
 
--- ---- the stages behind the parts
+-- ---- the stages after the parts
 
 -- the texts that no round is run by
 pub record Rest : Type 0 where
@@ -160,7 +160,7 @@ sale-is book forms submitted =
 abbrev pub sold : Terms → Sale → List ℕ → List (List ℕ) → Rest → Auction
 sold t sale bidders groups rest = record { rules = t; sale = sale; form_bidders = bidders; groups = groups; solutions = rest.solutions; certificates = rest.certificates; uniques = rest.uniques; ties = rest.ties; prices = rest.prices; covers = rest.covers; weights = rest.weights }
 
--- the auction that a settled book and groups are, with the texts behind them
+-- the auction that a settled book and groups are, with the texts after them
 pub auction-held : (book : Closing) (t : Terms) (forms : List Offers) (groups : List (List ℕ)) (rest : Rest) → book.rules ≡ t → AreSubmitted forms book
     → auction_of t forms groups rest ≡ sold book.rules (sale_of book) (bidders_of forms) groups rest
 auction-held book t forms groups rest rules submitted =

@@ -46,7 +46,7 @@ pub option_or-none : {F : Type 0} (a : Option F) → option_or a None ≡ a
 option_or-none None = refl
 option_or-none (Some fault) = refl
 
--- the first fault of items, and of those behind them
+-- the first fault of items, and of those after them
 pub first-append : {R F : Type 0} (fault_of : List R → R → Option F) (before items more : List R) → first_fault fault_of before (items ++ more) ≡ option_or (first_fault fault_of before items) (first_fault fault_of (before ++ items) more)
 unfolding first_fault
 first-append fault_of before [] more = ap (λ xs. first_fault fault_of xs more) (sym (append-nil before))

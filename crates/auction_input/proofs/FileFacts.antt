@@ -1,4 +1,4 @@
--- What is read by names, one behind the other.
+-- What is read by names, one after the other.
 use Rattle.std.proofs.Common.{◌≡◌, ◌≤◌, ◌+◌, ◌-◌, ◌++◌, ◌∷◌, ◌∙◌, ℕ, Bool, true, false, List, [], Option, None, Some, ap, arith, length, refl, subst, sym}
 use Rattle.std.proofs.lemmas.List.{append-nil}
 use Rattle.std.proofs.lemmas.List.Sums.{sum_by-append}
@@ -48,14 +48,14 @@ module _ (content : List ℕ → Option (List ℕ)) where
   read-more (name ∷ names) left mid left' texts given (bytes, more, between, are, first, rest) text =
       (bytes, more ++ given ∷ [], between, ap (λ (xs : List Given). xs ++ given ∷ []) are, first, read-more names between mid left' more given rest text)
 
--- behind texts that are read one isn't
+-- after texts that are read one isn't
 pub unread-behind : (f : Unread) (a b c : Option (List ℕ)) (reads mid reads' : ℕ) → IsReadInPart a b → mid ≡ reads → IsUnreadOf f b c mid reads' → IsUnreadOf f a c reads reads'
 unread-behind (unread.Input input.ReadFailed) a b c reads mid reads' part same (failed, rest) = (rw same at failed, part-then a b c part rest)
 unread-behind (unread.Input input.TooLarge) a b c reads mid reads' part same (kept, rest) = (kept ∙ same, part-then a b c part rest)
 unread-behind (unread.Input input.OutOfMemory) a b c reads mid reads' part same (kept, rest) = (kept ∙ same, part-then a b c part rest)
 unread-behind (unread.File r) a b c reads mid reads' part same (kept, rest) = (kept ∙ same, part-then a b c part rest)
 
--- how many bytes are left behind one text more
+-- how many bytes are left after one text more
 abbrev pub bytes_in : List Given → ℕ
 bytes_in texts = sum_by (λ (given : Given). length given.bytes) texts
 

@@ -15,7 +15,7 @@ use Rattle.auction_input.specs.ParsedTexts.{parsed_form}
 use Rattle.auction_input.proofs.InputTextFacts.{Text}
 use Rattle.auction_input.proofs.StageFacts.{IsLeft, each-count, left-first, left-none, left-stage, left-stage-refused}
 
--- the forms are what so many texts describe, and what the others describe comes behind them
+-- the forms are what so many texts describe, and what the others describe comes after them
 abbrev pub AreRead : Terms → List Text → ℕ → List Offers → Type 0
 AreRead t texts count forms = (count ≤ length texts) × (length forms ≡ count) × IsLeft (parsed_form t) (count + 1) (bytes_of texts) forms (bytes_of (drop count texts)) × All (Meets t) forms
 
@@ -29,7 +29,7 @@ stage-count texts start end order within =
     let left = length-drop start texts in
     omega arith
 
--- a stage of the texts, and those behind it
+-- a stage of the texts, and those after it
 left-of : (t : Terms) (texts : List Text) (start end : ℕ) (forms : List Offers) → start ≤ end → IsLeft (parsed_form t) (start + 1) (bytes_of texts) forms (bytes_of (drop start texts))
     → IsLeft (parsed_form t) (start + 1) (bytes_of texts) forms (bytes_of (slice_range texts start end) ++ bytes_of (drop end texts))
 left-of t texts start end forms order left =

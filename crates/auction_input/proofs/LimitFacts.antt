@@ -30,7 +30,7 @@ use Rattle.auction_input.proofs.RecordFacts.{few-of-kind, kind-checks-hold, neit
 
 -- ---- rules
 
--- behind records of bidders there is room for the one that has no fault
+-- after records of bidders there is room for the one that has no fault
 bidder-room : (v : Version) (before : List Record) (r : Record) → record_kind v r ≡ Some kind.Bidder → entry_fault v before r ≡ None → length (of_kind v kind.Bidder before) < MOST_BIDDERS
 bidder-room v before r is free =
     let checks = kind-checks-hold v kind.Bidder before r is free in

@@ -142,7 +142,7 @@ none-at (given ∷ texts) (suc place) d within none = none-at texts place d (ome
 pub nothing-before : (given : Given) → has_bytes_before given ≡ false → bytes_before (cut_lines given.bytes) ≡ []
 nothing-before given is = nil_from_length _ ((Decides-eqb (length (bytes_before (cut_lines given.bytes))) 0).0 (not-false _ is))
 
--- behind the old parts these of all have no fault, and the rest is left
+-- after the old parts these of all have no fault, and the rest is left
 pub record CheckedBehind (asked : Request) (old all before rest : List Part) : Type 0 where
   pub all_is : old ++ all ≡ before ++ rest
   pub fault_is : first_fault (part_fault asked) old all ≡ first_fault (part_fault asked) before rest
@@ -168,7 +168,7 @@ pub behind-all : (asked : Request) (old all before : List Part) → CheckedBehin
 unfolding first_fault
 behind-all asked old all before so_far = record { sound = so_far.fault_is; held = sym (so_far.all_is ∙ append-nil before) }
 
--- the parts of a whole text behind those that are checked
+-- the parts of a whole text after those that are checked
 module _ (asked : Request) (all before more rest : List Part) (held : List Part) (so_far : CheckedSoFar (part_fault asked) all before (more ++ rest)) where
   pub text-more : HaveAdded asked before held more → CheckedSoFar (part_fault asked) all held rest
   text-more added = record {
@@ -190,7 +190,7 @@ text-refused asked input before more rest fault.OutOfMemory none so_far found = 
 text-refused asked input before more rest fault.BeforeFirst none so_far found = fault-of-parts asked input none ∙ text-fault asked (input_parts input) before more rest [] so_far fault.BeforeFirst found
 text-refused asked input before more rest (fault.PartName n) none so_far found = fault-of-parts asked input none ∙ text-fault asked (input_parts input) before more rest [] so_far (fault.PartName n) found
 
--- the text that is next, and those behind it
+-- the text that is next, and those after it
 pub next-text : (texts : List Given) (place : ℕ) (d : Given) → place < length texts
     → parts_from place (drop place texts) ≡ parts_in place (cut_lines (slice_index_or texts place d).bytes) ++ parts_from (place + 1) (drop (place + 1) texts)
 next-text texts place d within = ap (parts_from place) (drop_more texts place d within)

@@ -10,7 +10,7 @@ use Rattle.auction_input.specs.inside.Places.{is_counted}
 use Rattle.auction_input.specs.declared.part_kind.PartKind.{PartKind}
 use Rattle.auction_input.specs.declared.places.Spot.{Spot}
 
--- a spot among texts behind so many others
+-- a spot among texts after so many others
 abbrev pub shifted : ℕ → Option Spot → Option Spot
 shifted k found = option_map (λ (at : Spot). record { text = at.text + k; number = at.number }) found
 
@@ -29,7 +29,7 @@ shifted-more k (Some at) = (let e : at.text + 1 + k ≡ at.text + (k + 1) = omeg
 pub located-here : (k n count : ℕ) (more : List ℕ) → n ≤ count → shifted k (located (count ∷ more) n) ≡ Some (record { text = k; number = n })
 located-here k n count more within = elim (leb_tells n count) [ inl (is, _) ↦ rw is (let e : 0 + k ≡ k = omega arith in ap (λ (t : ℕ). Some (spot t n)) e) | inr (_, above) ↦ absurd (omega arith) ]
 
--- or behind them
+-- or after them
 pub located-behind : (k n count : ℕ) (more : List ℕ) → count < n → shifted k (located (count ∷ more) n) ≡ shifted (k + 1) (located more (n - count))
 located-behind k n count more above = elim (leb_tells n count) [ inl (_, within) ↦ absurd (omega arith) | inr (is, _) ↦ rw is (shifted-more k (located more (n - count))) ]
 

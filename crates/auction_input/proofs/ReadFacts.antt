@@ -1,4 +1,4 @@
--- What reads consume, one behind the other.
+-- What reads consume, one after the other.
 use Rattle.std.proofs.Common.{◌++◌, ◌∙◌, ℕ, List, Option, Some, None, ap, sym, append_assoc}
 use Rattle.std.specs.Io.KnownBytes.{Consumes}
 

@@ -31,7 +31,7 @@ neither (Some f) b none = cc
 
 -- ---- records of a kind
 
--- each check of a record holds that is without a fault behind others
+-- each check of a record holds that is without a fault after others
 pub kind-checks-hold : (v : Version) (k : RecordKind) (before : List Record) (r : Record) → record_kind v r ≡ Some k → entry_fault v before r ≡ None
     → AllByRecursion (λ check. check.0 ≡ true) ((length r == rules_text.field_count v, rules_fault.FieldCount (length before + 2)) ∷ rules_text.kind_checks v (length before + 2) (entries_of v before) r k)
 kind-checks-hold v k before r is free =
@@ -47,7 +47,7 @@ kind-is kind.Member (Some kind.Member) e = refl
 kind-is k o e = cc
 
 module _ (v : Version) (k : RecordKind) where
-  -- what a record of the kind has that is without a fault behind others, all of them have
+  -- what a record of the kind has that is without a fault after others, all of them have
   pub each-of-kind : (P : Record → Type 0) → ((before : List Record) (r : Record) → record_kind v r ≡ Some k → entry_fault v before r ≡ None → P r) → (before more : List Record)
       → first_fault (entry_fault v) before more ≡ None → AllByRecursion P (of_kind v k more)
   unfolding first_fault
@@ -57,7 +57,7 @@ module _ (v : Version) (k : RecordKind) where
       let rest = each-of-kind P has (before ++ r ∷ []) more none_more in
       elim (cases_Bool (is_kind k (record_kind v r))) [ inl is ↦ rw is (has before r (kind-is k (record_kind v r) is) free, rest) | inr is ↦ rw is rest ]
 
-  -- where there is room for a record of the kind behind others, there are at most so many
+  -- where there is room for a record of the kind after others, there are at most so many
   pub few-of-kind : (most : ℕ) → ((before : List Record) (r : Record) → record_kind v r ≡ Some k → entry_fault v before r ≡ None → length (of_kind v k before) < most) → (before more : List Record)
       → first_fault (entry_fault v) before more ≡ None → length (of_kind v k before) ≤ most → length (of_kind v k (before ++ more)) ≤ most
   unfolding first_fault

@@ -4,7 +4,7 @@ use Rattle.auction_input.specs.Refused.{Refuses}
 use Rattle.auction_input.specs.declared.refusal.Refusal.{Refusal}
 use Rattle.auction_terms.specs.Stages.{and_then, each_in_turn}
 
--- a stage that gives a value, and the stages behind it
+-- a stage that gives a value, and the stages after it
 pub next : {A B E : Type 0} (r : Result A E) (x : A) (k : A → Result B E) (y : Result B E) → r ≡ Ok x → k x ≡ y → and_then r k ≡ y
 next r x k y tells goes = ap (λ q. and_then q k) tells ∙ goes
 
@@ -13,7 +13,7 @@ pub stop : {A B : Type 0} (r : Result A Refusal) (k : A → Result B Refusal) (e
 stop r k e (inl parsed) = inl (ap (λ q. and_then q k) parsed)
 stop r k e (inr memory) = inr memory
 
--- a stage behind one that gives a value
+-- a stage after one that gives a value
 pub behind : {A B : Type 0} (r : Result A Refusal) (x : A) (k : A → Result B Refusal) (e : Refusal) → r ≡ Ok x → Refuses (k x) e → Refuses (and_then r k) e
 behind r x k e tells (inl parsed) = inl (ap (λ q. and_then q k) tells ∙ parsed)
 behind r x k e tells (inr memory) = inr memory

@@ -10,7 +10,7 @@ use Rattle.auction_terms.specs.FirstFault.{first_failed}
 use Rattle.auction_terms.specs.Stages.{unless}
 use Rattle.auction_input.specs.declared.request.Target.{Target}
 
--- tests behind others
+-- tests after others
 pub failed-behind : (first second : List (Bool × Unmet)) → first_failed (refused_unless (first ++ second)) ≡ option_or (first_failed (refused_unless first)) (first_failed (refused_unless second))
 failed-behind [] second = refl
 failed-behind ((true, u) ∷ more) second = failed-behind more second

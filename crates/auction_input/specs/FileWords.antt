@@ -11,7 +11,7 @@ kind_words kind.Pipe = codes "a named pipe"
 kind_words kind.Device = codes "a device"
 kind_words kind.Socket = codes "a socket"
 
--- behind the last ones stands the name of another file
+-- after the last ones stands the name of another file
 abbrev pub fault_words : FileFault → List ℕ
 fault_words fault.NotFound = codes "no such file or directory"
 fault_words fault.Denied = codes "permission denied"

@@ -99,7 +99,7 @@ refused_unless tests = map (λ (test : Bool × Unmet). (test.0, unmet_refusal te
 abbrev pub wanted : Option Target → Auction → Result Auction Refusal
 wanted command auction = unless (first_failed (refused_unless (wants command (numbers_of auction)))) (Ok auction)
 
--- the same, behind what an input describes; where no command is named nothing is wanted
+-- the same, after what an input describes; where no command is named nothing is wanted
 abbrev pub with_wanted : Option Target → Result Auction Refusal → Result Auction Refusal
 with_wanted None parsed = parsed
 with_wanted (Some command) parsed = and_then parsed (wanted (Some command))

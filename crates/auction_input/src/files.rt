@@ -86,7 +86,7 @@ impl FileKind {
 }
 
 impl FileFault {
-    /// What is reported of it; behind the last words of a file that is read already stands the name of the other one.
+    /// What is reported of it; after the last words of a file that is read already stands the name of the other one.
     pub fn words(self) -> [&'static str; 3]
         ensures { flat_map (λ w. w.now) result ≡ fault_words self }
     {

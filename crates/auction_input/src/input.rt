@@ -110,7 +110,7 @@ fn read_file<D: Files>(
     }
 }
 
-/// Whether a name stands for standard input.
+/// Whether a name means standard input.
 pub fn is_standard_input(name: &str) -> bool
     ensures { result ≡ is_standard_input name.now }
 {

@@ -15,7 +15,7 @@ use auction_terms::LineReader;
 use memchr::memmem;
 use std::alloc::{AllocError, Global};
 
-/// A part of the input: the number of its text, from 0, its kind, and the bytes behind the line that heads it.
+/// A part of the input: the number of its text, from 0, its kind, and the bytes after the line that heads it.
 #[derive(Clone, Copy)]
 pub struct Part<'t> {
     pub text: usize,

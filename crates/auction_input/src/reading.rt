@@ -66,7 +66,7 @@ pub fn only_text<'t>(texts: &[&'t [u8]]) -> &'t [u8]
 }
 
 // How many forms are read side by side before the first fault among them is reported: enough that the threads of a stage are
-// worth their start, and few enough that no more than a moment's work is done on forms behind a faulty one.
+// worth their start, and few enough that no more than a moment's work is done on forms after a faulty one.
 const STAGE_LEN: usize = 4_096;
 
 /// Reads forms, side by side in stages, up to the first stage with a faulty one.
@@ -92,7 +92,7 @@ pub fn read_forms(
     Ok(forms)
 }
 
-// Reads the forms of a stage, behind those that are read.
+// Reads the forms of a stage, after those that are read.
 fn read_more(
     rt: &(impl Threads + Sync),
     alloc: Global,

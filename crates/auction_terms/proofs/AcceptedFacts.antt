@@ -37,7 +37,7 @@ module _ {R F : Type 0} (faults_of : ℕ → List R → R → List F) where
       let rest : all_faults faults_of (n + 1) (accepted ++ x ∷ []) xs ≡ [] = rw first at e.1 in
       rw first (all-accepted (n + 1) (accepted ++ x ∷ []) xs rest ∙ append_assoc accepted (x ∷ []) xs)
 
-  -- what is found behind the accepted ones
+  -- what is found after the accepted ones
   record IsBehind (n : ℕ) (accepted items : List R) (fault : F) : Type 0 where
     before : List R
     item : R
@@ -74,7 +74,7 @@ module _ {R F : Type 0} (faults_of : ℕ → List R → R → List F) where
       subst (λ fs. Contains fs fault) (sym whole) (Contains-append_right (all_faults faults_of n [] it.before) (own ++ rest) fault (Contains-append_left own rest fault it.fault_is))
 
   module _ (stays : StaysFaultless faults_of) where
-    -- items behind accepted ones without a fault, whose numbers are as high at least
+    -- items after accepted ones without a fault, whose numbers are as high at least
     none-of-accepted : (n k : ℕ) (accepted items : List R) → n + length accepted ≤ k → all_faults faults_of n [] accepted ≡ [] → all_faults faults_of n [] (accepted_of faults_of k accepted items) ≡ []
     unfolding all_faults accepted_of
     none-of-accepted n k accepted [] low none = none

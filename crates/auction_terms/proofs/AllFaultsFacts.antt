@@ -147,7 +147,7 @@ pub kept-some : {F : Type 0} (held : Faults F) (faults others : List (Found F)) 
 kept-some held [] others keeps some = absurd (some (let n = ap length keeps.kept in omega arith))
 kept-some held (fault ∷ more) others keeps some = keeps
 
--- and of which none is kept, so that what rests on it comes behind
+-- and of which none is kept, so that what rests on it comes after
 pub kept-none : {F : Type 0} (held new : Faults F) (faults others : List (Found F)) → Keeps held faults → length held.kept.items ≡ 0 → KeepsMore held new others → Keeps new (or_else faults others)
 kept-none held new faults others keeps none more =
     let empty = none-kept held faults keeps none in

@@ -1,4 +1,4 @@
--- What the loop keeps that goes on behind a faulty record, and that all faults of rules begin with the first one.
+-- What the loop keeps that goes on after a faulty record, and that all faults of rules begin with the first one.
 use Rattle.std.proofs.Common.{◌≡◌, ◌+◌, ◌∷◌, ◌++◌, ◌∙◌, ℕ, List, [], length, refl, sym, ap, arith, length-append, append_assoc, append-nil}
 use Rattle.std.specs.Prelude.{Option, Some, None, Ok, ok_or}
 use Rattle.std.specs.Option.{option_map_or, option_or}

@@ -1,4 +1,4 @@
--- The kept bids of a book within the limits stand within the limits, in order.
+-- The kept bids of a book within the limits are within the limits, in order.
 use Rattle.std.proofs.Common.{◌≡◌, ℕ, zero, suc, ◌+◌, ◌<◌, ◌≤◌, inl, inr, Bool, List, [], ◌∷◌, ◌++◌, Some, slice_get, slice_index_or, length, sym, refl, subst, arith}
 use Rattle.std.specs.Prelude.{filter}
 use Rattle.std.specs.List.{AllByRecursion}

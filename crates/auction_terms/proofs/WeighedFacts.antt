@@ -130,7 +130,7 @@ module _ (lots : Lots) (book : Book) (sized : IsSized lots book) where
       ∙ ap (λ (n : ℕ). weighed_choice w book c + n) (weighed_loads w a)
       ∙ sym (sum_by-cons (weighed_choice w book) c a)
 
--- behind the end of the weights or of the quantities nothing is weighed
+-- after the end of the weights or of the quantities nothing is weighed
 pub weighed_end : (w q : List ℕ) (n : ℕ) → min (length q) (length w) ≤ n → weighed (drop n w) (drop n q) ≡ 0
 weighed_end [] q zero l = refl
 weighed_end [] q (suc n) l = refl

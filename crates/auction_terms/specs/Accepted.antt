@@ -3,7 +3,7 @@ use Rattle.std.specs.Prelude.{◌≡◌, ◌≤◌, ◌+◌, ◌++◌, ◌↔◌
 use Rattle.std.specs.List.{Contains}
 use Rattle.auction_terms.specs.AllFaults.{accepted_with, all_faults}
 
--- the accepted ones: a list without the items that have a fault, numbered from n on, behind those that were accepted before
+-- the accepted ones: a list without the items that have a fault, numbered from n on, after those that were accepted before
 unfoldable pub accepted_of : {R F : Type 0} → (ℕ → List R → R → List F) → ℕ → List R → List R → List R
 accepted_of faults_of n accepted [] = accepted
 accepted_of faults_of n accepted (item ∷ more) = accepted_of faults_of (n + 1) (accepted_with (faults_of n accepted item) accepted item) more
@@ -20,7 +20,7 @@ pub record IsOfItem {R F : Type 0} (faults_of : ℕ → List R → R → List F)
 abbrev pub StaysFaultless : {R F : Type 0} → (ℕ → List R → R → List F) → Type 0
 StaysFaultless {R} {F} faults_of = (m n : ℕ) (before : List R) (item : R) → m ≤ n → faults_of n before item ≡ [] → faults_of m before item ≡ []
 
--- each fault of a list is an item's, and each fault of an item is one of the list; the accepted ones have none; and with one more item behind these the list has just that item's
+-- each fault of a list is an item's, and each fault of an item is one of the list; the accepted ones have none; and with one more item after these the list has just that item's
 pub record AreOfItems {R F : Type 0} (faults_of : ℕ → List R → R → List F) : Type 0 where
   pub each : (n : ℕ) (items : List R) (fault : F) → Contains (all_faults faults_of n [] items) fault ↔ IsOfItem faults_of n items fault
   pub none : (n : ℕ) (items : List R) → all_faults faults_of n [] (accepted_of faults_of n [] items) ≡ []

@@ -23,7 +23,7 @@ abbrev pub each_failed : {X F : Type 0} → (X → Bool) → F → ℕ → List 
 each_failed test fault n [] = []
 each_failed test fault n (x ∷ more) = if test x then each_failed test fault (n + 1) more else found n fault ∷ each_failed test fault (n + 1) more
 
--- faults, and behind them what is checked only where there is none of them
+-- faults, and after them what is checked only where there is none of them
 abbrev pub or_else : {F : Type 0} → List F → List F → List F
 or_else [] rest = rest
 or_else (fault ∷ more) rest = fault ∷ more
@@ -43,7 +43,7 @@ unfoldable pub all_faults : {R F : Type 0} → (ℕ → List R → R → List F)
 all_faults faults_of n accepted [] = []
 all_faults faults_of n accepted (item ∷ more) = faults_of n accepted item ++ all_faults faults_of (n + 1) (accepted_with (faults_of n accepted item) accepted item) more
 
--- these are the faults behind what is reported: there is none where there is a value, and else the one that is reported comes first
+-- these are the faults after what is reported: there is none where there is a value, and else the one that is reported comes first
 abbrev pub AreFaultsOf : {A F : Type 0} → List (Found F) → Result A F → Type 0
 AreFaultsOf faults (Ok x) = faults ≡ []
 AreFaultsOf {A} {F} faults (Err fault) = (field : ℕ) × (more : List (Found F)) × (faults ≡ found field fault ∷ more)
@@ -53,6 +53,6 @@ pub record Keeps {F : Type 0} (held : Faults F) (faults : List (Found F)) : Type
   pub kept : held.kept.items ≡ take MOST_FAULTS faults
   pub more : held.more ≡ min (length faults - MOST_FAULTS) (2 ^ 64 - 1)
 
--- behind the faults that were found before, these were found
+-- after the faults that were found before, these were found
 abbrev pub KeepsMore : {F : Type 0} → Faults F → Faults F → List (Found F) → Type 0
 KeepsMore {F} old new more = (faults : List (Found F)) → Keeps old faults → Keeps new (faults ++ more)

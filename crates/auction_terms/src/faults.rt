@@ -6,7 +6,7 @@ ghost use Rattle.auction_terms.specs.AllFaults.{Keeps, KeepsMore, found};
 use crate::limits::MOST_FAULTS;
 use std::alloc::{AllocError, Global};
 
-/// A fault of a text, and where in its record or line it stands.
+/// A fault of a text, and where in its record or line it is.
 #[derive(Clone, Copy, Debug)]
 pub struct Found<F> {
     /// The number, from 1, of the field, or of the name in a line of groups; 0 where the fault is that of the whole record.
@@ -41,7 +41,7 @@ impl<F: Copy> Faults<F> {
         Ok(faults)
     }
 
-    /// Adds a fault behind those that were found.
+    /// Adds a fault after those that were found.
     pub fn add(&mut self, field: usize, fault: F) -> Result<(), AllocError>
         ensures { OnOk result (KeepsMore self.old self.new (found field fault ∷ [])) }
     {

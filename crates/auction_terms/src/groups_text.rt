@@ -131,7 +131,7 @@ pub(crate) fn empty_fault(place: u32, line: &[u8]) -> Option<GroupFault>
     None
 }
 
-// The fault of a line behind the last one that may be.
+// The fault of a line after the last one that may be.
 pub(crate) fn room_fault(place: u32) -> Option<GroupFault>
     ensures { result ≡ first_failed (room_checks place) }
 {

@@ -20,7 +20,7 @@ ghost use Rattle.auction_terms.specs.declared.record_kinds.Version.{Version};
 ghost use Rattle.auction_terms.specs.declared.rules.Bidder.{Bidder};
 ghost use Rattle.auction_terms.specs.declared.limits.TheConstants.{GREATEST_AMOUNT, GREATEST_POINTS, GREATEST_QUANTITY, GREATEST_VALUE, GREATEST_WEIGHT, MOST_BIDDERS, MOST_BIDS, MOST_CATEGORIES, MOST_FAULTS, MOST_GROUPS, MOST_POOLS, MOST_SESSIONS, MOST_WORKERS, TEXT_LIMIT};
 
-/// The records behind the header of rules have the fault of the first of them with a fault.
+/// The records after the header of rules have the fault of the first of them with a fault.
 pub fn records_of_rules_tell_their_first_fault()
     ensures { (version : Version) → TellsTheFirst (entry_fault version) }
 {}
@@ -53,7 +53,7 @@ pub fn faults_of_a_list_are_of_its_items<R, F>()
         → AreOfItems faults_of }
 {}
 
-/// Behind a header that gives a version, the faults of rules are those of their records, by the accepted ones before them.
+/// After a header that gives a version, the faults of rules are those of their records, by the accepted ones before them.
 pub fn faults_of_rules_are_of_their_records()
     ensures rules { (version : Version) (header : Record) (entries : List Record)
         → version_of header ≡ Some version → RulesFaultsAreOfRecords version header entries }
@@ -106,7 +106,7 @@ pub fn smaller_sizes_are_enough()
     ensures { SmallerSizesSuffice }
 {}
 
-/// The kept bids of a book within the limits stand within the limits, by rising bidder, then bid.
+/// The kept bids of a book within the limits are within the limits, by rising bidder, then bid.
 pub fn kept_bids_are_offers()
     ensures { KeptAreOffers }
 {}

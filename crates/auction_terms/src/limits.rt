@@ -1,4 +1,4 @@
-//! The limits of an auction, each by its name. Contracts and definitions cite these constants, so each number stands
+//! The limits of an auction, each by its name. Contracts and definitions cite these constants, so each number is
 //! here alone.
 
 /// The most categories of rules, and the most quantities of a package.

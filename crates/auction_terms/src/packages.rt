@@ -5,7 +5,7 @@ use crate::rules::{Category, Pool, Rules};
 use arrayvec::ArrayVec;
 use std::marker::Model;
 
-/// Room for a quantity of each category, in two bytes each. It stands in the package itself, so that a bid
+/// Room for a quantity of each category, in two bytes each. It is in the package itself, so that a bid
 /// takes no memory of its own.
 pub type Quantities = ArrayVec<u16, MOST_CATEGORIES>;
 

@@ -18,7 +18,7 @@ pub enum Wording {
 }
 
 impl Wording {
-    /// Words, and the number of a place behind them.
+    /// Words, and the number of a place after them.
     pub fn at(words: &'static str, place: u32) -> Wording
         ensures { wording_text result ≡ words.now ++ decimal place }
     {

@@ -1,4 +1,4 @@
--- What the loop keeps that goes on behind a faulty record, and that all faults of a form begin with the first one.
+-- What the loop keeps that goes on after a faulty record, and that all faults of a form begin with the first one.
 use Rattle.std.proofs.Common.{subst, ◌≡◌, ◌+◌, ◌∷◌, ◌++◌, ◌∙◌, Bool, ℕ, List, [], length, map, refl, sym, ap, arith, append_assoc, Option, Some, None, Result, Ok, Err, drop, option_map, option_to_list, MatchOption, inl, inr}
 use Rattle.std.specs.List.{list_all}
 use Rattle.std.specs.Option.{option_map_or, option_or}
@@ -24,7 +24,7 @@ use Rattle.bid_forms.proofs.FormFacts.{checks-parts}
 
 -- ---------- fields one after the other ----------
 
--- the fault of the next item, and those behind it
+-- the fault of the next item, and those after it
 pub each-more : {X : Type 0} (test : X → Bool) (f : FormFault) (n : ℕ) (x : X) (more : List X)
     → each_failed test f n (x ∷ more) ≡ option_to_list (option_map (found n) (first_failed ((test x, f) ∷ []))) ++ each_failed test f (n + 1) more
 each-more test f n x more = elim (cases_Bool (test x)) [ inl is ↦ rw is refl | inr is ↦ rw is refl ]
@@ -73,7 +73,7 @@ begin-package t eligibility place before r none =
     (begin-both (one_failed 1 of_reserve) (one_failed 0 of_repeat) (first_failed of_reserve) (first_failed of_repeat) (begin-one_failed 1 of_reserve)
     (begin-one_failed 0 of_repeat)))
 
--- where faults come before them, those behind don't matter
+-- where faults come before them, those after don't matter
 begin-if : {F : Type 0} (some others : List (Found F)) (first second : Option F) → BeginAs some first
     → (first ≡ None → BeginAs others second) → BeginAs (some ++ others) (option_or first second)
 begin-if some others None second is rest = rw is (rest refl)

@@ -12,7 +12,7 @@ use Rattle.bid_forms.specs.FormText.{parsed_bidder}
 use Rattle.bid_forms.specs.Offers.{eligibility_of}
 use Rattle.bid_forms.specs.declared.form_text.FormFault.{FormFault}
 
--- the records behind a header, of a bidder with this eligibility, without those that have a fault
+-- the records after a header, of a bidder with this eligibility, without those that have a fault
 abbrev pub accepted_bids : Terms → ℕ → List Record → List Record
 accepted_bids t eligibility entries = accepted_of (faults_by_record t eligibility) 2 [] entries
 

@@ -39,7 +39,7 @@ all_bid_faults t eligibility place before r =
 abbrev pub faults_by_record : Terms → ℕ → ℕ → List Record → Record → List (Found FormFault)
 faults_by_record t eligibility place before r = all_bid_faults t eligibility place (map parsed_bid before) r
 
--- the faults of the records behind a header, of a bidder with this eligibility
+-- the faults of the records after a header, of a bidder with this eligibility
 abbrev pub all_bids_faults : Terms → ℕ → List Record → List (Found FormFault)
 all_bids_faults t eligibility entries = all_faults (faults_by_record t eligibility) 2 [] entries
 

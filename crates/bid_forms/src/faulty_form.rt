@@ -18,7 +18,7 @@ use auction_terms::{Faults, GREATEST_AMOUNT, RecordReader, Rules, TEXT_LIMIT};
 use csv::ByteRecord;
 use std::alloc::{AllocError, Global};
 
-// Adds the faults of the records behind the header, of a bidder with this eligibility.
+// Adds the faults of the records after the header, of a bidder with this eligibility.
 fn add_bids(
     alloc: Global,
     faults: &mut Faults<FormFault>,
@@ -60,7 +60,7 @@ fn is_unknown_bidder(fault: FormFault) -> bool
     }
 }
 
-// Adds the faults of a text behind the fault of its header.
+// Adds the faults of a text after the fault of its header.
 fn add_behind(
     alloc: Global,
     faults: &mut Faults<FormFault>,

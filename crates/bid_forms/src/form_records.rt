@@ -190,7 +190,7 @@ pub(crate) fn repeat_fault(
     }
 }
 
-// The fault of a bid behind the last one that may be.
+// The fault of a bid after the last one that may be.
 pub(crate) fn room_fault(place: u32, before: &[Bid]) -> Option<FormFault>
     ensures { result ≡ first_failed (form_room_checks place before.now) }
 {
@@ -208,7 +208,7 @@ macro_rules! refuse_if {
     };
 }
 
-// Tests the quantities and the amount of a record, behind the bids before it. The package is among those seen from now on.
+// Tests the quantities and the amount of a record, after the bids before it. The package is among those seen from now on.
 fn check_lots(
     rules: &Rules,
     eligibility: u64,

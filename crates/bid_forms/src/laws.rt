@@ -10,7 +10,7 @@ ghost use Rattle.bid_forms.specs.AcceptedForms.{FormFaultsAreOfRecords};
 ghost use Rattle.bid_forms.specs.AllFormFaults.{all_form_faults, faults_by_record};
 ghost use Rattle.bid_forms.specs.FormText.{bid_fault, form_of_records};
 
-/// The records behind the header of a form have the fault of the first of them with a fault.
+/// The records after the header of a form have the fault of the first of them with a fault.
 pub fn records_of_forms_tell_their_first_fault()
     ensures { (terms : Terms) (eligibility : ℕ) → TellsTheFirst (bid_fault terms eligibility) }
 {}

@@ -28,7 +28,7 @@ pub begin-fault : {A F G H : Type 0} (part : F → G) (whole : G → H) (fault :
 begin-fault part whole None x = refl
 begin-fault part whole (Some f) x = (0, [], refl)
 
--- a stage, and what is reported behind it
+-- a stage, and what is reported after it
 pub begin-next : {A B F G : Type 0} (whole : F → G) (some others : List (Found F)) (reported : Result A G) (next : A → Result B G) → AreFaultsOf (faults_as whole some) reported
     → ((x : A) → reported ≡ Ok x → AreFaultsOf (faults_as whole others) (next x)) → AreFaultsOf (faults_as whole (some ++ others)) (and_then reported next)
 begin-next whole [] others (Ok x) next are behind = behind x refl

@@ -17,7 +17,7 @@ next-item n items rest item ahead =
     let is = numbered-next n items in
     (cc, cc)
 
--- behind the last one
+-- after the last one
 pub no-item : {X : Type 0} (n : ℕ) (items : List (List X)) → drop n items ≡ [] → ([] ≡ drop (n + 1) items) × ([] ≡ numbered (n + 1) items)
 no-item n items none =
     let size = length-drop n items in

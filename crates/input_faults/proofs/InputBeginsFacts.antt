@@ -87,7 +87,7 @@ module _ (last_wins : Bool) (numbers : List ℕ) where
       begin-next refusal_of (faults_of_rules text) _ (parsed_terms text) _ (begin-terms text) (λ t is.
       subst (λ (r : Result Terms Refusal). AreFaultsOf (faults_as refusal_of (where_read r (faults_under last_wins numbers forms groups))) (under (make t) forms groups t)) (sym is) (begin-under (make t) forms groups t))
 
--- behind the parts, whose fault is alone
+-- after the parts, whose fault is alone
 begin-parts : (asked : Request) (parts : List Part) (found : Option PartFault) (others : List (Found Fault)) (next : List Part → Result Auction Refusal) → AreFaultsOf (faults_as refusal_of others) (next parts)
     → AreFaultsOf (faults_as refusal_of (or_else (or_else (fault_as fault.Parts found) (fault_as fault.PartCount (miscounted asked parts))) others))
     (and_then (and_then (refused_as refusal.Parts (unless found (Ok parts))) (λ ps. refused_as refusal.PartCount (unless (miscounted asked ps) (Ok ps)))) next)
@@ -146,7 +146,7 @@ nothing-wanted : (reported : Result Auction Refusal) → and_then reported (want
 nothing-wanted (Ok auction) = refl
 nothing-wanted (Err r) = refl
 
--- what is wanted is looked at behind what is reported
+-- what is wanted is looked at after what is reported
 begin-taken : (command : Option Target) (some others : List (Found Fault)) (reported : Result Auction Refusal) → AreFaultsOf (faults_as refusal_of some) reported
     → ((auction : Auction) → reported ≡ Ok auction → AreFaultsOf (faults_as refusal_of others) (wanted command auction)) → AreFaultsOf (faults_as refusal_of (some ++ others)) (with_wanted command reported)
 begin-taken (Some command) some others reported are behind = begin-next refusal_of some others reported (wanted (Some command)) are behind

@@ -1,4 +1,4 @@
--- What stands behind what is reported of a refusal.
+-- What comes after what is reported of a refusal.
 use Rattle.std.proofs.Common.{◌≡◌, ◌++◌, ℕ, List, [], refl}
 use Rattle.std.proofs.lemmas.List.{append-nil}
 use Rattle.auction_input.specs.Input.{Given}

@@ -14,7 +14,7 @@ use Rattle.input_faults.specs.declared.fault.Fault.TheVariants as fault
 abbrev pub unmet_of : List (Bool × Unmet) → List (Found Fault)
 unmet_of tests = faults_as fault.Unmet (all_failed 0 tests)
 
--- tests behind others
+-- tests after others
 pub unmet-both : (first second : List (Bool × Unmet)) → unmet_of (first ++ second) ≡ unmet_of first ++ unmet_of second
 unmet-both [] second = refl
 unmet-both ((true, u) ∷ more) second = unmet-both more second

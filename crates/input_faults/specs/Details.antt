@@ -1,4 +1,4 @@
--- What is reported of a fault behind its refusal: at which field or name it is, what stands there, and what was wanted.
+-- What is reported of a fault after its refusal: at which field or name it is, what is there, and what was wanted.
 use Rattle.std.specs.Prelude.{◌+◌, ◌++◌, ◌==◌, not, ℕ, List, [], ◌∷◌, Option, None, Some, codes, decimal, if◌then◌else◌, length}
 use Rattle.std.specs.Option.{option_map_or}
 use Rattle.std.specs.Str.{bytes_eq}
@@ -31,7 +31,7 @@ use Rattle.auction_input.specs.declared.request.Target.TheVariants as target
 
 -- ---------- words ----------
 
--- the number of a field, what stands there, and what is wrong with it
+-- the number of a field, what is there, and what is wrong with it
 abbrev pub field_message : ℕ → Record → List ℕ → List ℕ
 field_message n r wrong = codes ", field " ++ (decimal n ++ (codes ": " ++ (shown_text (record_field n r) ++ wrong)))
 

@@ -1,4 +1,4 @@
--- All faults of an input, in the order in which they are reported. Behind faulty parts nothing is looked at, and behind faulty rules no form and no groups; each form is, whatever the others are; whose forms are in several texts, and how many calls they take, is looked at where every form is read; what a command wants of the groups and of the numbers of parts, where the groups are.
+-- All faults of an input, in the order in which they are reported. After faulty parts nothing is looked at, and after faulty rules no form and no groups; each form is, whatever the others are; whose forms are in several texts, and how many calls they take, is looked at where every form is read; what a command wants of the groups and of the numbers of parts, where the groups are.
 use Rattle.std.specs.Prelude.{◌++◌, ℕ, Bool, List, [], Option, None, Result, Ok, Err, codes}
 use Rattle.auction_input.specs.Calls.{one_too_many}
 use Rattle.auction_input.specs.FormTexts.{form_elsewhere}

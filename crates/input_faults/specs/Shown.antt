@@ -6,7 +6,7 @@ use Rattle.auction_terms.specs.RulesText.{is_between}
 abbrev pub hex_digit : ℕ → ℕ
 hex_digit n = if nat_lt n 10 then n + 48 else n + 87
 
--- a quotation mark and a backslash stand behind a backslash, a printable byte of ASCII stands for itself, and of any other byte its two digits
+-- a quotation mark and a backslash come after a backslash, a printable byte of ASCII stands for itself, and of any other byte its two digits
 abbrev pub shown_byte : ℕ → List ℕ
 shown_byte b =
     if b == 39 || b == 92 then 92 ∷ b ∷ []

@@ -1,4 +1,4 @@
-//! What stands at a fault, and what was wanted there.
+//! What is at a fault, and what was wanted there.
 
 ghost use Rattle.std.specs.Prelude.{◌≡◌, ◌++◌, codes, decimal};
 ghost use Rattle.csv.specs.Records.{fields_of};
@@ -15,7 +15,7 @@ use auction_terms::{Wording, field};
 use byte_sinks::{Sink, Writer};
 use csv::ByteRecord;
 
-/// What stands at a fault, and what was wanted there.
+/// What is at a fault, and what was wanted there.
 #[derive(Clone, Copy)]
 pub enum Detail<'d> {
     Nothing,
@@ -25,9 +25,9 @@ pub enum Detail<'d> {
     Whole(Wording),
     /// Words with more than two numbers.
     Both(Wording, Wording),
-    /// The number of a field, what stands there, and what is wrong with it.
+    /// The number of a field, what is there, and what is wrong with it.
     Field(usize, &'d [u8], Wording),
-    /// The number of a field, what stands there, and the name of the category that was wanted.
+    /// The number of a field, what is there, and the name of the category that was wanted.
     Column(usize, &'d [u8], &'d [u8]),
     /// The number of a name in a line, the name, and what is wrong with it.
     Name(usize, &'d [u8], Wording),
@@ -51,7 +51,7 @@ pub fn of_field<'d>(row: &'d ByteRecord, number: usize, wrong: Wording) -> Detai
     Detail::Field(number, field_at(row, number), wrong)
 }
 
-// Adds the number of a field or name, what stands there, and what is wrong with it.
+// Adds the number of a field or name, what is there, and what is wrong with it.
 fn add_value<S: Sink>(
     writer: &mut Writer<'_, S>,
     words: &'static str,
@@ -68,7 +68,7 @@ fn add_value<S: Sink>(
     add_wording(writer, wrong);
 }
 
-// Adds the number of a field, what stands there, and the name that was wanted.
+// Adds the number of a field, what is there, and the name that was wanted.
 fn add_column<S: Sink>(writer: &mut Writer<'_, S>, number: usize, value: &[u8], name: &[u8])
     ensures { Adds S.taken S.failures writer.old writer.new
         (codes ", field " ++ (decimal number ++ (codes ": " ++ (shown_text value.now

@@ -6,7 +6,7 @@ ghost use Rattle.input_faults.specs.inside.Cursors.{StandsAtName};
 
 use auction_terms::{LineReader, NameReader};
 
-/// The line of a number of a text, the name of a number in it, both counted from 1, and what stands behind each.
+/// The line of a number of a text, the name of a number in it, both counted from 1, and what comes after each.
 #[derive(Drop)]
 pub struct NameCursor<'t> {
     pub text: &'t [u8],
@@ -39,7 +39,7 @@ fn take_name<'t>(names: &mut NameReader<'t>) -> &'t [u8]
     match names.next() {
         Some(name) => name,
         None => {
-            // Of what is left behind the last name nothing is known.
+            // Of what is left after the last name nothing is known.
             *names = NameReader::new(b"-");
             b""
         }

@@ -60,7 +60,7 @@ fn file_name(texts: &[Given], text: usize) -> &[u8]
     }
 }
 
-// Adds behind what is reported of a form, if it is in another text than its bidder's first form, the name of that text's file.
+// Adds after what is reported of a form, if it is in another text than its bidder's first form, the name of that text's file.
 fn add_other<S: Sink>(writer: &mut Writer<'_, S>, texts: &[Given], refusal: &Refusal)
     ensures { Adds S.taken S.failures writer.old writer.new
         (with_other texts.now refusal.now []) }

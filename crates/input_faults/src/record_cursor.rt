@@ -10,7 +10,7 @@ use auction_terms::RecordReader;
 use csv::ByteRecord;
 use std::alloc::{AllocError, Global};
 
-/// The record of a number of a text, counted from 1, and those behind it.
+/// The record of a number of a text, counted from 1, and those after it.
 #[derive(Drop)]
 pub struct RecordCursor<'t> {
     pub text: &'t [u8],

@@ -54,7 +54,7 @@ fn front(text: &[u8]) -> &[u8]
     }
 }
 
-// What stands behind them.
+// What comes after them.
 fn closing(text: &[u8]) -> &'static [u8]
     ensures { result.now ≡ (if nat_lt 40 (length text.now) then codes "'..." else codes "'") }
 {

@@ -323,7 +323,7 @@ fn fails_at<R: Threads + Wait + Sync>(
     Ok(is_reported(ended.err(), room) && is_front(out.bytes(), room))
 }
 
-/// Whether a fault names the group whose program has the byte behind so many.
+/// Whether a fault names the group whose program has the byte after so many.
 fn is_reported(fault: Option<RunFault>, room: usize) -> bool {
     let group = if room < 90 { 1 } else { 2 };
     let written = room as u64;

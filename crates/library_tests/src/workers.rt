@@ -271,7 +271,7 @@ impl Row {
     }
 }
 
-/// 1,024 groups, where no form stands.
+/// 1,024 groups, without a form.
 const WITHOUT_FORMS: Row = Row {
     forms: &[],
     lines: b"-\n",

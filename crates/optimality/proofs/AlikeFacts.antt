@@ -163,7 +163,7 @@ cuts-above-alike (At is_second form most ∷ above) (At other_second other other
     cuts-joined (cuts_above above) (cuts_above others) (side is_second form most ∷ []) (side other_second other other_most ∷ []) (cuts-above-alike above others alike.4) last
 cuts-above-alike _ _ alike = absurd alike
 
--- ---------- behind a line ----------
+-- ---------- after a line ----------
 
 abbrev Opened : Type 0
 Opened = Result (Option (List Branch)) CertificateFaultKind

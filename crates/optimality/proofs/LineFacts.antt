@@ -1,4 +1,4 @@
--- What a line tells, by its word and by what stands behind it.
+-- What a line tells, by its word and by what comes after it.
 use Rattle.std.proofs.Common.{◌≡◌, ℕ, Bool, false, List, [], ◌∷◌, Result, Err, refl}
 use Rattle.std.specs.Prelude.{bytes_eq, codes, if◌then◌else◌}
 use Rattle.program_rows.specs.Program.{Table}

@@ -1,4 +1,4 @@
--- A certificate judged behind the split from a point bounds all others.
+-- A certificate judged after the split from a point bounds all others.
 use Rattle.std.proofs.Common.{◌≡◌, ℕ, zero, suc, ◌+◌, Bool, true, false, cond, List, [], ◌∷◌, ◌++◌, Some, slice_get, slice_index_or, drop, refl, sym, ap, ap₂, ◌∙◌, arith, ℤ, pos, neg_ℤ, ◌+ℤ◌, ◌≤ℤ◌}
 use Rattle.std.specs.Prelude.{◌&&◌, if◌then◌else◌}
 use Rattle.std.specs.Option.{option_map}
@@ -94,7 +94,7 @@ chosen : (b : Bool) (t : ℕ × ℤ) (form : Form) → (if b then t ∷ form els
 chosen true t form = refl
 chosen false t form = refl
 
--- the term of the column at a place, and then those behind it
+-- the term of the column at a place, and then those after it
 pub distance-at : (i place : ℕ) (cs : List TableColumn) (vs : List Bool) (b : Bounds) (v : Bool) → option_map (λ c. c.bounds) (slice_get cs i) ≡ Some b → slice_get vs i ≡ Some v
     → distance place (drop i cs) (drop i vs) ≡ (if is_zero_or_one b then term place v ∷ [] else []) ++ distance (suc place) (drop (suc i) cs) (drop (suc i) vs)
 distance-at zero place (c ∷ cs) [] b v e f = cc f
@@ -117,7 +117,7 @@ free_ones-at (suc i) (c ∷ cs) [] b v e f = cc f
 free_ones-at (suc i) (c ∷ cs) (w ∷ vs) b v e f = free_ones-at i cs vs b v e f
 free_ones-at _ [] vs b v e f = cc e
 
--- the cost of the column at a place, if it is 1, and those behind it
+-- the cost of the column at a place, if it is 1, and those after it
 pub cost-at : (i : ℕ) (cs : List TableColumn) (vs : List Bool) (n : ℤ) (v : Bool) → option_map (λ c. c.cost) (slice_get cs i) ≡ Some n → slice_get vs i ≡ Some v
     → sum_at_one (λ c. c.cost) (drop i cs) (drop i vs) ≡ cond v n (pos 0) +ℤ sum_at_one (λ c. c.cost) (drop (suc i) cs) (drop (suc i) vs)
 cost-at zero (c ∷ cs) (w ∷ vs) n v of_cost of_value =

@@ -98,7 +98,7 @@ listed-taken places numbers place listed q none = zero-at numbers place q ∙ by
 
 -- ---------- steps of loops ----------
 
--- what is left at a place is its element and what is left behind it
+-- what is left at a place is its element and what is left after it
 pub rest : {A : Type 0} → (xs : List A) (i : ℕ) (d : A) → i < length xs → drop i xs ≡ get_or xs i d ∷ drop (i + 1) xs
 rest xs i d h = let next : i + 1 ≡ suc i = omega arith in rw (next, drop-cons xs i d) refl
 
@@ -106,7 +106,7 @@ pub times-at : (k n : ℤ) (b : Bool) → cond b (k *ℤ n) (pos 0) ≡ k *ℤ c
 times-at k n true = refl
 times-at k n false = sym (*ℤ-zero k)
 
--- the multiple of a form's term, and that of the terms behind it
+-- the multiple of a form's term, and that of the terms after it
 pub form-rest : (k : ℤ) (form : Form) (i : ℕ) (d : ℕ × ℤ) (q : ℕ) → i < length form → form_given k (drop i form) q ≡ at_place (get_or form i d).0 (k *ℤ (get_or form i d).1) q +ℤ form_given k (drop (i + 1) form) q
 form-rest k form i d q h =
     let t = get_or form i d in

@@ -84,7 +84,7 @@ entries-at place (e ∷ es) forms row i h =
     let both = exchanged (e.0 == row) (place == i) e.1 (number_in es row) in
     omega (arith, ints, entries-at place es (with_term e.0 (place, e.1) forms) row i longer, term-at e.0 (place, e.1) forms row i h)
 
--- columns behind a place give it nothing
+-- columns after a place give it nothing
 passed : (place : ℕ) (cs : List TableColumn) (forms : List Form) (row i : ℕ) → row < length forms → i < place → given (with_columns place cs forms) row i ≡ given forms row i
 passed place [] forms row i h l = refl
 passed place (c ∷ cs) forms row i h l =
@@ -131,7 +131,7 @@ entry-is m row (e ∷ es) h = by (entry-is m row es h.3) (e.0 == row) refl
         omega (arith, ints, none-later row e.0 es same h.2)
     by rest false q = omega (arith, ints)
 
--- no entry stands behind the last row
+-- no entry comes after the last row
 none-behind : (m row : ℕ) (es : List (ℕ × ℤ)) → AreEntries m es → m ≤ row → number_in es row ≡ pos 0
 none-behind m row [] h l = refl
 none-behind m row (e ∷ es) h l =

@@ -33,7 +33,7 @@ pub side-given : (high : Bool) (k : ℤ) (form : Form) (most : ℤ) (q : ℕ) �
 side-given true k form most q = turned k (number_in form q) ∙ ap (λ (n : ℤ). k *ℤ n) (sym (negated-in form most q))
 side-given false k form most q = refl
 
--- the cut at a place, and those behind it
+-- the cut at a place, and those after it
 pub cuts-rest : (ys : List ℕ) (splits : List OpenSplit) (i : ℕ) (e : ℕ) (d : OpenSplit) (q : ℕ) → i < length ys → i < length splits
     → cuts_given (drop i ys) (cuts_of (drop i splits)) q ≡ form_given (pos (get_or ys i e)) (cut_of (get_or splits i d)).form q +ℤ cuts_given (drop (i + 1) ys) (cuts_of (drop (i + 1) splits)) q
 cuts-rest ys splits i e d q l m = ap₂ (λ (ms : List ℕ) (ss : List OpenSplit). cuts_given ms (cuts_of ss) q) (rest ys i e l) (rest splits i d m)

@@ -1,4 +1,4 @@
--- A text has no fault exactly where it tells a certificate that shows least.
+-- A text has no fault if and only if it describes a certificate that shows least.
 use Rattle.std.proofs.Common.{◌≡◌, ℕ, suc, Bool, true, false, cond, List, [], ◌∷◌, ◌++◌, Option, Some, None, Result, Ok, Err, length, refl, sym, subst, ◌∙◌, arith, ℤ, pos, ◌+ℤ◌, inl, inr}
 use Rattle.std.specs.Prelude.{OnOk, IfErr, not, ◌↔◌, ◌⊎◌, ◌<ℤ◌, ◌*ℤ◌, ◌-ℤ◌, int_lt, if◌then◌else◌, bytes_eq, codes}
 use Rattle.std.specs.List.{list_all}
@@ -29,14 +29,14 @@ use Rattle.program_rows.specs.Points.{objective}
 
 -- ---------- what lines still have to tell ----------
 
--- behind a subtree: the second sides that are to come
+-- after a subtree: the second sides that are to come
 abbrev Completes : Table → ℤ → List Branch → List (List ℕ) → Type 0
 Completes p least [] lines = lines ≡ []
 Completes p least (At true form most ∷ above) lines = Completes p least above lines
 Completes p least (At false form most ∷ above) lines =
     (t : Certificate) × (left : List (List ℕ)) × TellsCertificate p (suc (length above)) t lines left × ShowsWithin p least (cuts_above above ++ side true form most ∷ []) t × Completes p least above left
 
--- within open splits: a subtree, and what is to come behind it
+-- within open splits: a subtree, and what is to come after it
 abbrev Awaits : Table → ℤ → List Branch → List (List ℕ) → Type 0
 Awaits p least branches lines =
     (t : Certificate) × (left : List (List ℕ)) × TellsCertificate p (length branches) t lines left × ShowsWithin p least (cuts_above branches) t × Completes p least branches left
@@ -187,7 +187,7 @@ verdict p least text =
       (λ h. all.1 (h.0, [], h.1, h.2, refl)),
     )
 
--- the same behind the split from a point
+-- the same after the split from a point
 pub only-verdict : (p : Table) (values : List Bool) (text : List ℕ) → (only_fault p values text ≡ None) ↔ IsShownOnlyBy p values text
 only-verdict p values text =
     let all = stands p (objective p values +ℤ pos 1) (lines_of text) (Some (all_others p values ∷ [])) 0 in (

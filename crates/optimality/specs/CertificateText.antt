@@ -1,4 +1,4 @@
--- The certificate that a text tells: its lines in preorder.
+-- The certificate that a text describes: its lines in preorder.
 use Rattle.std.specs.Prelude.{◌≡◌, ℕ, suc, List, [], ◌∷◌, ℤ, Ok}
 use Rattle.auction_terms.specs.Lines.{lines_of}
 use Rattle.program_rows.specs.Program.{Table}
@@ -15,6 +15,6 @@ TellsCertificate p depth (Bound scale ys rows) (line ∷ lines) left = (parsed_c
 TellsCertificate p depth (Split form most low high) (line ∷ lines) left =
     (parsed_certificate_line p depth (fields line) ≡ Ok (SplitLine form most)) × ((middle : List (List ℕ)) × TellsCertificate p (suc depth) low lines middle × TellsCertificate p (suc depth) high middle left)
 
--- the text tells a certificate that shows `least`
+-- the text describes a certificate that shows `least`
 abbrev pub IsShownBy : Table → ℤ → List ℕ → Type 0
 IsShownBy p least text = (certificate : Certificate) × TellsCertificate p 0 certificate (certificate_lines (lines_of text)) [] × Shows p least certificate

@@ -27,6 +27,6 @@ abbrev pub ShownIsGreatest : Type 0
 ShownIsGreatest = (lots : Lots) (book : Book) (group : ℕ → Bool) (program : Table) → IsFaithful lots book group program
     → (values : List Bool) → IsPoint program values → (certificate : Certificate) → Shows program (objective program values) certificate → IsGreatest lots book group (back program.columns values)
 
--- a text has no fault exactly where it tells a certificate that shows `least`
+-- a text has no fault if and only if it describes a certificate that shows `least`
 abbrev pub FirstFaultIsExact : Type 0
 FirstFaultIsExact = (p : Table) (least : ℤ) (text : List ℕ) → (certificate_fault p least text ≡ None) ↔ IsShownBy p least text

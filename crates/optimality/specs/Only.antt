@@ -1,4 +1,4 @@
--- Certificates that no other point has an objective as low as that of a point. Each is judged behind a split whose first side holds that point alone.
+-- Certificates that no other point has an objective as low as that of a point. Each is judged after a split whose first side holds that point alone.
 use Rattle.std.specs.Prelude.{◌≡◌, ◌↔◌, ℕ, suc, ◌+◌, ◌&&◌, Bool, true, false, List, [], ◌∷◌, Option, Some, None, Ok, pos, neg_ℤ, ◌+ℤ◌, if◌then◌else◌}
 use Rattle.auction_terms.specs.Lines.{lines_of}
 use Rattle.program_rows.specs.declared.bounds.Bounds.{Bounds}
@@ -43,7 +43,7 @@ ShowsOnly p values certificate = ShowsWithin p (objective p values +ℤ pos 1) (
 abbrev pub ShownIsOnly : Type 0
 ShownIsOnly = (p : Table) (values : List Bool) (certificate : Certificate) → IsPoint p values → ShowsOnly p values certificate → IsOnlyLeast p values
 
--- the text tells a certificate that shows it
+-- the text describes a certificate that shows it
 abbrev pub IsShownOnlyBy : Table → List Bool → List ℕ → Type 0
 IsShownOnlyBy p values text = (certificate : Certificate) × TellsCertificate p 1 certificate (certificate_lines (lines_of text)) [] × ShowsOnly p values certificate
 
@@ -55,6 +55,6 @@ only_fault p values text = fault_from p (objective p values +ℤ pos 1) (Ok (Som
 abbrev pub IsLargeOnlyAt : Table → List Bool → List ℕ → ℕ → Type 0
 IsLargeOnlyAt p values text number = IsLargeFrom p (objective p values +ℤ pos 1) (Ok (Some (all_others p values ∷ []))) 0 (lines_of text) number
 
--- a text has no fault exactly where it tells a certificate that shows it
+-- a text has no fault if and only if it describes a certificate that shows it
 abbrev pub OnlyFaultIsExact : Type 0
 OnlyFaultIsExact = (p : Table) (values : List Bool) (text : List ℕ) → (only_fault p values text ≡ None) ↔ IsShownOnlyBy p values text

@@ -11,18 +11,18 @@ use Rattle.auction_terms.specs.Stages.{and_then}
 use Rattle.optimality.specs.LineMeaning.{ParsedLine, BoundLine, SplitLine, parsed_certificate_line}
 use Rattle.optimality.specs.Branches.{Branch, At, cuts_above, closed}
 
--- what is open behind what a line tells: a split opens its first side, and a leaf that shows `least` closes its subtree
+-- what is open after what a line tells: a split opens its first side, and a leaf that shows `least` closes its subtree
 abbrev pub taken : Table → ℤ → List Branch → ParsedLine → Result (Option (List Branch)) CertificateFaultKind
 taken p least branches (SplitLine form most) = Ok (Some (At false form most ∷ branches))
 taken p least branches (BoundLine scale ys rows) =
     if int_lt (pos scale *ℤ (least -ℤ pos 1)) (leaf_value p (cuts_above branches) scale ys rows) then Ok (closed branches) else Err NotShown
 
--- what is open behind a line; nothing may follow the last subtree
+-- what is open after a line; nothing may follow the last subtree
 abbrev pub behind : Table → ℤ → Option (List Branch) → List ℕ → Result (Option (List Branch)) CertificateFaultKind
 behind p least branches line =
     if is_skipped line then Ok branches else and_then (ok_or branches Beyond) (λ above. and_then (parsed_certificate_line p (length above) (fields line)) (taken p least above))
 
--- the fault of the line at this place, or else the first one behind it; the text may not end before the last subtree
+-- the fault of the line at this place, or else the first one after it; the text may not end before the last subtree
 abbrev pub fault_from : Table → ℤ → Result (Option (List Branch)) CertificateFaultKind → ℕ → List (List ℕ) → Option (ℕ × CertificateFaultKind)
 fault_from p least (Err kind) place lines = Some (place, kind)
 fault_from p least (Ok branches) place [] = option_map (λ b. (place, NoEnd)) branches

@@ -196,7 +196,7 @@ pub fn add_rows(sums: &mut Sums, forms: &[RowForm], rows: &[(usize, i128)]) -> R
     Ok(())
 }
 
-/// The right side of the row at a place, 0 behind the last one.
+/// The right side of the row at a place, 0 after the last one.
 fn right_side_at(program: &Selection<'_>, row: usize) -> i64
     ensures { result ≡ reduced.right_side_at program.now.rows row }
 {

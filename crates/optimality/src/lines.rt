@@ -27,14 +27,14 @@ use auction_terms::next_field;
 use program_rows::{CertificateFaultKind, RowKind, Selection};
 use std::alloc::Global;
 
-/// A split as its line tells it.
+/// A split as its line describes it.
 #[derive(Drop)]
 pub struct ParsedSplit {
     pub form: Form,
     pub most: i64,
 }
 
-/// The split that a text tells.
+/// The split that a text describes.
 fn take_split(checker: &Checker, text: &[u8]) -> Result<ParsedSplit, Refusal>
     requires { IsPrepared checker.now }
     ensures { AnswersSeen (λ split. SplitLine split.form.items split.most) result
@@ -84,7 +84,7 @@ fn are_signed(program: &Selection<'_>, rows: &[(usize, i64)]) -> bool
     rows.iter().all(|t| may_have(program, t.0, t.1))
 }
 
-/// The leaf that a text tells, below as many splits as `depth`.
+/// The leaf that a text describes, below as many splits as `depth`.
 fn take_leaf(checker: &Checker, depth: usize, text: &[u8]) -> Result<Leaf, Refusal>
     requires { IsPrepared checker.now }
     ensures parsed { AnswersSeen (λ leaf. BoundLine leaf.scale leaf.multipliers.items leaf.rows.items)

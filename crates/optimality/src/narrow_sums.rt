@@ -167,7 +167,7 @@ fn add_row(sums: &mut [i64], forms: &[RowForm], row: usize, multiplier: i128) ->
     add_form(sums, factor, form.rest.as_slice())
 }
 
-/// Adds rows that stand as forms, each times its multiplier.
+/// Adds rows, which are forms, each times its multiplier.
 pub fn add_rows(sums: &mut [i64], forms: &[RowForm], rows: &[(usize, i128)]) -> Option<()>
     ensures { IfSome result (λ _. AreGivenMore (rows_given rows.now (forms_held forms.now)) sums.old
         sums.new) }

@@ -180,8 +180,8 @@ fn behind_split<'p>(
     Ok(BehindSplit { checker, splits })
 }
 
-/// Checks that a text tells a certificate that each other point of the program has a higher objective than these values. It is
-/// judged behind a split that parts the values from all others, so that the first multiplier of each leaf is that split's.
+/// Checks that a text describes a certificate that each other point of the program has a higher objective than these values. It is
+/// judged after a split that parts the values from all others, so that the first multiplier of each leaf is that split's.
 pub fn check_only(
     alloc: Global,
     text: &[u8],

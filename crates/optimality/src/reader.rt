@@ -36,7 +36,7 @@ pub fn refused(line: usize, refusal: Refusal) -> CertificateFault
     CertificateFault { line, kind }
 }
 
-/// Checks that a text tells a certificate below the splits that are open.
+/// Checks that a text describes a certificate below the splits that are open.
 pub fn check_lines(
     checker: &Checker,
     open_splits: Vec<OpenSplit>,
@@ -116,7 +116,7 @@ pub fn new_checker<'p>(
     })
 }
 
-/// Checks that a text tells a certificate that no point of a program has an objective below `least`, where the program is a selection
+/// Checks that a text describes a certificate that no point of a program has an objective below `least`, where the program is a selection
 /// of another one.
 pub fn check_selection(
     alloc: Global,
@@ -138,7 +138,7 @@ pub fn check_selection(
     }
 }
 
-/// Checks that a text tells a certificate that no point of the program has an objective below `least`.
+/// Checks that a text describes a certificate that no point of the program has an objective below `least`.
 pub fn check_certificate(
     alloc: Global,
     text: &[u8],
@@ -157,7 +157,7 @@ pub fn check_certificate(
     check_selection(alloc, text, &selection, least)
 }
 
-/// Checks that a text tells a certificate that no point of the program has a lower objective than these values.
+/// Checks that a text describes a certificate that no point of the program has a lower objective than these values.
 pub fn check_optimum(
     alloc: Global,
     text: &[u8],

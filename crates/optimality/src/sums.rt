@@ -89,7 +89,7 @@ impl Sums {
     }
 }
 
-/// The number at a place, which is 0 behind the last one.
+/// The number at a place, which is 0 after the last one.
 pub fn number_at(numbers: &[i128], place: usize) -> i128
     ensures { result ≡ adding.number_at numbers.now place }
 {

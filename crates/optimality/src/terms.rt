@@ -171,7 +171,7 @@ fn place_or_count(program: &Selection<'_>, guess: usize, name: &[u8]) -> usize
     search(program, name)
 }
 
-/// The place of the column of a name, if there is one. It takes no table of names: behind the name that was found last, as `next`
+/// The place of the column of a name, if there is one. It takes no table of names: after the name that was found last, as `next`
 /// holds, or else by the bid that it spells, it is found at once in a program whose columns rise by their bids.
 fn column_place(program: &Selection<'_>, next: &Cell<usize>, name: &[u8]) -> Option<usize>
     ensures { result ≡ position (bytes_eq name.now) (of_program.column_names program.now) }

@@ -39,7 +39,7 @@ is_of : (c : Choice) (o : Offer) → is_offer_of c o ≡ true → (c.bidder ≡ 
 is_of c o h = let e = and_parts (c.bidder == o.bidder) (c.bid == o.number) h in (eqb-true c.bidder o.bidder e.0, eqb-true c.bid o.number e.1)
 
 module _ (lots : Lots) (q : Offer → Bool) (c : Choice) (earlier : (o : Offer) → q o ≡ true → IsEarlier (choice_of o) c) where
-  -- the offer of a choice stands behind those of earlier choices
+  -- the offer of a choice comes after those of earlier choices
   one_behind : (xs : List Offer) → AreOffers lots xs → filter (λ o. q o || is_offer_of c o) xs ≡ filter q xs ++ filter (is_offer_of c) xs
   one_behind [] h = refl
   one_behind (o ∷ xs) h = by (q o) (is_offer_of c o) refl refl (one_behind xs h.2)
@@ -166,7 +166,7 @@ module _ (lots : Lots) (book : Book) (group : ℕ → Bool) (within : IsBook lot
         (λ now. (place, omega arith, now))
         (or_cases _ _ more)
 
-    -- a choice behind those before it
+    -- a choice after those before it
     pub one_more : (place : ℕ) → place < length sorted → slice_get sorted place ≡ Some c → ((k : ℕ) → k < place → IsEarlier (get_or sorted k c) c)
         → among_first (place + 1) ≡ among_first place ++ filter (is_offer_of c) (kept_of lots book group)
     one_more place less at earlier =
@@ -254,7 +254,7 @@ strictly a m b n up differ = ⊎_elim (λ l. inl l) (λ e. ⊎_elim (λ l. inr (
 strictly_behind : (a m b n c o : ℕ) → IsUpTo a m b n → (b < c) ⊎ ((b ≡ c) × (n < o)) → (a < c) ⊎ ((a ≡ c) × (m < o))
 strictly_behind a m b n c o up later = grind arith
 
--- a choice that isn't the one before it stands behind all before it
+-- a choice that isn't the one before it comes after all before it
 pub behind_all : (sorted : List Choice) (place : ℕ) (c : Choice) → AllPairs IsInOrder sorted → place < length sorted → slice_get sorted place ≡ Some c → (IsRepeated sorted place → ⊥) → (k : ℕ) → k < place → IsEarlier (get_or sorted k c) c
 behind_all sorted place c rising less at new k before =
     let last = get_or sorted (place - 1) c in

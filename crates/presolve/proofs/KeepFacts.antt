@@ -35,7 +35,7 @@ pub length_book : (c : Closing) (t : Terms) (bidders : List Bidder) → bidders 
 length_book c t bidders e r =
     ap (λ (bs : List Bidder). length bs) e ∙ ap (λ (t : Terms). length t.bidders) r ∙ sym (length-map-range_with_len (λ bidder. bids_in (form_standing c.history bidder)) 1 (length c.rules.bidders))
 
--- the form of the next bidder, and those behind
+-- the form of the next bidder, and those after
 pub next_form : (book : Book) (i : ℕ) → i < length book → drop i book ≡ form_of book (i + 1) ∷ drop (i + 1) book
 next_form book i l = drop-cons book i [] l ∙ ap (λ (n : ℕ). form_of book n ∷ drop n book) (let e : suc i ≡ i + 1 = omega arith in e)
 
@@ -49,7 +49,7 @@ pub offers_parted : (lots : Lots) (xs ys : List Offer) → AreOffers lots (xs ++
 offers_parted lots [] ys a = (tt, a)
 offers_parted lots (x ∷ xs) ys a = let rest = offers_parted lots xs ys a.2 in ((a.0, before_first (IsBefore x) xs ys a.1, rest.0), rest.1)
 
--- the flagged ones of a form from a bid on: that bid, if it is flagged, and those behind
+-- the flagged ones of a form from a bid on: that bid, if it is flagged, and those after
 flagged_at : (b i j : ℕ) (bids : List Bid) (flags : List Bool) (x : Bid) (flag : Bool) → i < length bids → i < length flags → x ≡ get_or bids i x → get_or flags i false ≡ flag
     → flagged_from b j (drop i bids) (drop i flags) ≡ cond flag (record { bidder = b; number = j; bid = x } ∷ flagged_from b (j + 1) (drop (i + 1) bids) (drop (i + 1) flags)) (flagged_from b (j + 1) (drop (i + 1) bids) (drop (i + 1) flags))
 flagged_at b i j bids flags x flag within long is f =
@@ -193,7 +193,7 @@ forms_from book i (suc n) e =
     let next : (i + 1) + n ≡ length book = omega arith in
     ap (λ (rest : Book). form_of book (i + 1) ∷ rest) (forms_from book (i + 1) n next) ∙ sym (next_form book i (omega arith))
 
--- the bidders from one on are those of two ranges, one behind the other
+-- the bidders from one on are those of two ranges, one after the other
 ranges_joined : (first front back : ℕ) → range_with_len first (front + back) ≡ range_with_len first front ++ range_with_len (first + front) back
 ranges_joined first zero back = ap (range_with_len first) (let e : 0 + back ≡ back = omega arith in e) ∙ ap (λ (n : ℕ). range_with_len n back) (let e : first ≡ first + 0 = omega arith in e)
 ranges_joined first (suc front) back =
@@ -232,7 +232,7 @@ module _ {X : Type 0} (of_form : List Bid → List X) (book : Book) where
       ∙ sym (map-map of_form (form_of book) (range_with_len 1 (length book)))
       ∙ ap (map of_form) (forms_from book 0 (length book) (omega arith))
 
-  -- that of two ranges of bidders, one behind the other, is that of the book
+  -- that of two ranges of bidders, one after the other, is that of the book
   pub made_in_two : (front back : ℕ) (forms others : List (Vec X Global)) → front + back ≡ length book → items_of forms ≡ of_bidders (range_with_len 1 front) → items_of others ≡ of_bidders (range_with_len (1 + front) back)
       → items_of (forms ++ others) ≡ map of_form book
   made_in_two front back forms others count are_front are_back =

@@ -1,4 +1,4 @@
--- The lines of numbered items, one behind another.
+-- The lines of numbered items, one after another.
 use Rattle.std.proofs.Common.{◌≡◌, ◌∙◌, ◌+◌, ◌<◌, ◌≤◌, ◌++◌, ℕ, List, sym, ap, arith, get_or, length, take}
 use Rattle.std.specs.Prelude.{flat_map}
 use Rattle.std.specs.List.{enumerate_from}
@@ -6,7 +6,7 @@ use Rattle.std.proofs.lemmas.List.{take_all}
 use Rattle.std.proofs.lemmas.List.FromFn.{get_or-enumerate_from, length-enumerate_from}
 use Rattle.byte_sinks.proofs.KnownByteFacts.{flat_map-next_or}
 
--- the item at a place behind those before it
+-- the item at a place after those before it
 pub numbered-next : {X : Type 0} (line : ℕ × X → List ℕ) (xs : List X) (i : ℕ) (d : X) → i < length xs
     → flat_map line (take i (enumerate_from 1 xs)) ++ line (i + 1, get_or xs i d) ≡ flat_map line (take (i + 1) (enumerate_from 1 xs))
 numbered-next {X} line xs i d small =

@@ -69,13 +69,13 @@ next_passes : (test : Bid → Bool) (k : ℕ) (items : List SizedBid) (at : ℕ)
 next_passes test k items at r small is =
     at_drop_more (list_any (passes test k)) items at r small ∙ ap (λ (b : Bool). b || list_any (passes test k) (drop (at + 1) items)) (ap (passes test k) (sym is))
 
--- behind a bid that doesn't pass
+-- after a bid that doesn't pass
 pub after_failing : (test : Bid → Bool) (k : ℕ) (items : List SizedBid) (at : ℕ) (r : SizedBid) (flag all : Bool) → at < length items → r ≡ get_or items at r → test r.bid.now ≡ false
     → (flag || list_any (passes test k) (drop at items)) ≡ all → (flag || list_any (passes test k) (drop (at + 1) items)) ≡ all
 after_failing test k items at r flag all small is fails h =
     rw (next_passes test k items at r small is, fails, and-false (r.number == k)) at h
 
--- behind one that passes, whose flag is set then
+-- after one that passes, whose flag is set then
 pub after_passing : (test : Bid → Bool) (i : ℕ) (items : List SizedBid) (at : ℕ) (r : SizedBid) (flags : List Bool) (all : Bool) → at < length items → r ≡ get_or items at r → test r.bid.now ≡ true
     → 1 ≤ r.number → r.number < 1 + length flags → (get_or flags i false || list_any (passes test (1 + i)) (drop at items)) ≡ all
     → (get_or (slice_set flags (r.number - 1) true) i false || list_any (passes test (1 + i)) (drop (at + 1) items)) ≡ all

@@ -32,7 +32,7 @@ cap_in pool = record { cap = pool.cap; weights = pool.weights }
 abbrev is_over : List ℕ → WeightedCap → Bool
 is_over quantities pool = nat_lt pool.cap (weighed pool.weights quantities)
 
--- the pool at a place, and those behind it
+-- the pool at a place, and those after it
 caps-from : (pools : List Pool) (i : ℕ) (pool : Pool) → i < length pools → pool ≡ slice_index_or pools i pool → drop i (map cap_in pools) ≡ cap_in pool ∷ drop (i + 1) (map cap_in pools)
 caps-from pools i pool small at =
     drop-map cap_in i pools ∙ ap (map cap_in) (drop_more pools i pool small ∙ ap (λ (p : Pool). p ∷ drop (i + 1) pools) (sym at)) ∙ ap (λ (caps : List WeightedCap). cap_in pool ∷ caps) (sym (drop-map cap_in (i + 1) pools))

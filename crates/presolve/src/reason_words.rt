@@ -92,7 +92,7 @@ fn add_over_cap<S: Sink>(
     writer.add_pieces(&pieces);
 }
 
-// Adds words and a number, and words behind it.
+// Adds words and a number, and words after it.
 fn add_number<S: Sink>(writer: &mut Writer<'_, S>, before: &[u8], number: u64, behind: &[u8])
     ensures { Adds S.taken S.failures writer.old writer.new
         (before.now ++ (decimal number ++ behind.now)) }

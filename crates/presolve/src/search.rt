@@ -1,6 +1,6 @@
 //! The search for a bid of a form that dominates another.
 //!
-//! The bids of a form that fit, its rivals, stand by rising size, so that those that may dominate a bid stand before it. To
+//! The bids of a form that fit, its rivals, come by rising size, so that those that may dominate a bid come before it. To
 //! compare each with all before it is too slow: a form has up to 4,000 bids over 32 categories. So bitsets sift them. A
 //! rival that dominates a bid has at most the bid's quantity of each category, and a net that isn't lower. So each quantity
 //! is a number of the rival, and so is how far its net stays below the greatest that there may be: none of them is greater
@@ -8,11 +8,11 @@
 //! a greater number, and a level for each rank: the bitset of the rivals of that rank or a lower one, 64 rivals to a word, in
 //! their order. A level is made from that of the rank below it, so that each rival is put once into each sieve.
 //!
-//! A bid is asked as follows. All rivals before it are left at first. Each sieve tells the level of the bid's own rank, and
+//! A bid is asked as follows. All rivals before it are left at first. Each sieve gives the level of the bid's own rank, and
 //! what is left is taken together with these levels by `&`, four at a time, until nothing is left, which is soon so for
 //! nearly all bids. A bit that is left at the end is a candidate, and is compared with the bid exactly.
 //!
-//! Which bid dominates first, by its number, is asked of the same sieves, of rivals that stand by number and include those
+//! Which bid dominates first, by its number, is asked of the same sieves, of rivals by number and include those
 //! that don't fit: all but the bid itself are left at first, and the first candidate that dominates is the answer.
 //!
 //! What to mind when changing it: the levels only have to be sound, that is, to have the bit of every rival that dominates
@@ -199,7 +199,7 @@ fn first_sifted(
     }
 }
 
-// Whether one of the bids that fit dominates the one at a place. Those behind it aren't smaller.
+// Whether one of the bids that fit dominates the one at a place. Those after it aren't smaller.
 pub(crate) fn is_beaten(
     rivals: &[SizedBid<'_>],
     sieves: &[Sieve],

@@ -15,11 +15,11 @@ pub record IsAnswer (t : Terms) (text : Bor (List ℕ)) (answer : Result Offers 
   pub tells : Answers is_form_memory answer (form_in t text.now)
   pub meets : IfOk answer (Meets t)
 
--- all answers are forms, and stand behind those that were read before
+-- all answers are forms, and come after those that were read before
 abbrev pub AreAdded : List (Result Offers FormFault) → List Offers → List Offers → Type 0
 AreAdded answers old new = (more : List Offers) × (new ≡ old ++ more) × (answers ≡ map (λ form. Ok form) more)
 
--- an answer that is a fault comes after forms alone, and has this number behind so many forms; or memory was short
+-- an answer that is a fault comes after forms alone, and has this number after so many forms; or memory was short
 abbrev pub IsFirstErr : ℕ → List (Result Offers FormFault) → Refusal → Type 0
 IsFirstErr count answers (refusal.Form n f) = (before : List Offers) × (after : List (Result Offers FormFault)) × (answers ≡ map (λ form. Ok form) before ++ Err f ∷ after) × (n ≡ count + length before + 1)
 IsFirstErr count answers refusal.OutOfMemory = ⊤

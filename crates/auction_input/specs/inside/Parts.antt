@@ -39,12 +39,12 @@ known_kinds asked = kinds_for (target_of asked)
 abbrev pub kind_named : Request → List ℕ → Option PartKind
 kind_named asked name = find (λ k. bytes_eq name (name_of k)) (known_kinds asked)
 
--- parts without a fault are held behind those that were held before
+-- parts without a fault are held after those that were held before
 pub record HaveAdded (asked : Request) (old new parts : List Part) : Type 0 where
   pub sound : first_fault (part_fault asked) old parts ≡ None
   pub held : new ≡ old ++ parts
 
--- the first fault of parts behind others; or memory was short
+-- the first fault of parts after others; or memory was short
 abbrev pub IsFaultBehind : Request → List Part → List Part → PartFault → Type 0
 IsFaultBehind asked old parts fault.OutOfMemory = ⊤
 IsFaultBehind asked old parts f = first_fault (part_fault asked) old parts ≡ Some f

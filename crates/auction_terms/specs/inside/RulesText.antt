@@ -1,4 +1,4 @@
--- What single records of rules describe, the first one, and what stands behind it.
+-- What single records of rules describe, the first one, and what comes after it.
 use Rattle.std.specs.Prelude.{◌+◌, Bool, ℕ, List, [], ◌∷◌, Result, Ok, Err, length, ok_or}
 use Rattle.auction_terms.specs.Entries.{Entries, terms_of}
 use Rattle.auction_terms.specs.FirstFault.{first_failed, first_fault}
@@ -34,7 +34,7 @@ parsed_first_record [] = Err (fault.Header 1)
 parsed_first_record (header ∷ more) = and_then (ok_or (version_of header) (fault.Header 1)) (λ v.
     unless (first_failed (header_checks v header)) (Ok (record { version = v; step = field_number 3 header })))
 
--- the rules, by what stands behind a first record that gives this
+-- the rules, by what comes after a first record that gives this
 abbrev pub rules_behind : Header → List Record → Result Terms RulesFault
 rules_behind header records =
     unless (first_fault (entry_fault header.version) [] records)

@@ -11,7 +11,7 @@ use Rattle.input_faults.specs.declared.form_reading.FormReading.{FormReading}
 use Rattle.input_faults.specs.declared.name_cursor.NameCursor.{NameCursor}
 use Rattle.input_faults.specs.declared.record_cursor.RecordCursor.{RecordCursor}
 
--- the record of the cursor's number is held, and those behind it are left
+-- the record of the cursor's number is held, and those after it are left
 pub record StandsAt (cursor : RecordCursor) (text : List ℕ) : Type 0 where
   pub same_text : cursor.text.now ≡ text
   pub left : cursor.left ≡ drop cursor.place (records_of text)

@@ -1,4 +1,4 @@
-//! Closed books in which given forms stand.
+//! Closed books of given forms.
 
 ghost use Rattle.std.specs.Prelude.{◌≡◌, ◌+◌, IfOk};
 ghost use Rattle.auction_terms.specs.Terms.{session_count};
@@ -52,7 +52,7 @@ fn submits<L: Round, R: Wait>(
     true
 }
 
-/// The book in which these forms stand. None where memory is short.
+/// The book of these forms. None where memory is short.
 fn settled<L: Round, R: Wait>(
     rt: &R,
     alloc: Global,

@@ -8,7 +8,7 @@ use Rattle.optimality.specs.Certificates.{Form, Cut, number_in, sum_of}
 use Rattle.optimality.specs.Reduced.{least_part}
 use Rattle.optimality.specs.Sizes.{size_of}
 
--- the number of a place, 0 behind the last one
+-- the number of a place, 0 after the last one
 abbrev pub number_at : List ℤ → ℕ → ℤ
 number_at numbers place = slice_index_or numbers place (pos 0)
 

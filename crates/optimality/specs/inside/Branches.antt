@@ -16,7 +16,7 @@ branch_of s = At s.is_high s.form.items s.most
 abbrev pub branches_of : List OpenSplit → List Branch
 branches_of splits = reverse (map branch_of splits)
 
--- none behind the last subtree
+-- none after the last subtree
 abbrev pub opened : Bool → List OpenSplit → Option (List Branch)
 opened is_last splits = if is_last then None else Some (branches_of splits)
 
@@ -25,7 +25,7 @@ abbrev pub GoOnAlike : Table → ℤ → Result (Option (List Branch)) Certifica
 GoOnAlike p least parsed other = (place : ℕ) (lines : List (List ℕ)) → (fault_from p least parsed place lines ≡ fault_from p least other place lines)
     × ((number : ℕ) → IsLargeFrom p least other place lines number → IsLargeFrom p least parsed place lines number)
 
--- what is open behind a line, but that the code may hold other forms which give each column the same; or the line's fault; or a limit
+-- what is open after a line, but that the code may hold other forms which give each column the same; or the line's fault; or a limit
 abbrev pub AnswersAlike : Table → ℤ → List OpenSplit → Result Bool Refusal → Result (Option (List Branch)) CertificateFaultKind → Type 0
 AnswersAlike p least splits (Ok is_last) parsed = GoOnAlike p least parsed (Ok (opened is_last splits))
 AnswersAlike p least splits (Err (Stopped limit)) parsed = Unit {0}

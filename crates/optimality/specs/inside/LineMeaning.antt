@@ -1,4 +1,4 @@
--- What stands behind the word of a line.
+-- What comes after the word of a line.
 use Rattle.std.specs.Prelude.{ℕ, List, [], ◌∷◌, Result, Err}
 use Rattle.program_rows.specs.Program.{Table}
 use Rattle.program_rows.specs.declared.certificate_fault.CertificateFaultKind.{CertificateFaultKind}

@@ -7,7 +7,7 @@ use Rattle.auction_input.specs.Parts.{cut_lines, has_bytes_before, part_fault, p
 use Rattle.auction_input.proofs.PartFacts.{fault-of-parts, text-more, text-refused}
 use Rattle.auction_input.proofs.parts.split_parts.Goals as goal
 
--- the text at a place, and those behind it
+-- the text at a place, and those after it
 ahead : (texts seen : List Given) (place : ℕ) (x : Given) → seen ≡ texts → place < length seen → x ≡ slice_index_or seen place x → drop place texts ≡ x ∷ drop (place + 1) texts
 ahead texts seen place x same within is = rw (← same) (drop_more seen place x within ∙ ap (λ (y : Given). y ∷ drop (place + 1) seen) (sym is))
 
