@@ -21,7 +21,8 @@ by-auction : (asked : Request) (input : Input) → asked ≢ request.Check → a
 by-auction request.Check input some = absurd (some refl)
 by-auction asked input some = refl
 
-meets-limit : (asked : Request) (input : Input) (auction : Auction) (r : Refusal) → parsed_auction asked input ≡ Ok auction → IsBeyondLimit asked auction r → MeetsLimit asked input r
+meets-limit : (asked : Request) (input : Input) (auction : Auction) (r : Refusal) → parsed_auction asked input ≡ Ok auction
+    → IsBeyondLimit asked auction r → MeetsLimit asked input r
 meets-limit (request.Verify workers) input auction r parsed beyond = (auction, parsed, beyond)
 meets-limit asked input auction r parsed beyond = absurd beyond
 
@@ -33,7 +34,8 @@ has-sold asked input auction sold = (auction, sold, faithful-without asked input
 module _ (asked : Request) (input : Input) (some : asked ≢ request.Check) where
   -- the auction isn't there
   pub no-auction : (before : SinkState) (r : Refusal) → RefusesAuction asked input r → IsUnwritten asked input before before r
-  no-auction before r (inl refused) = inl (by_refusal (refuses-as _ _ r (by-auction asked input some) (stop (parsed_auction asked input) (output_of asked) r refused)) refl)
+  no-auction before r (inl refused) =
+      inl (by_refusal (refuses-as _ _ r (by-auction asked input some) (stop (parsed_auction asked input) (output_of asked) r refused)) refl)
   no-auction before r (inr unsettled) = inr (inl unsettled, refl)
 
   -- it is, and what is reported of it is what the input describes
@@ -41,7 +43,8 @@ module _ (asked : Request) (input : Input) (some : asked ≢ request.Check) wher
     is-parsed : answer asked input ≡ output_of asked auction
     is-parsed = by-auction asked input some ∙ ap (λ (t : Result Auction Refusal). and_then t (output_of asked)) parsed
 
-    pub written : {T E : Type 0} (result : Result T E) (taken taken' : Option (List ℕ)) → OnOk result (Writes (output_of asked auction) taken taken') → OnOk result (Writes (answer asked input) taken taken')
+    pub written : {T E : Type 0} (result : Result T E) (taken taken' : Option (List ℕ))
+        → OnOk result (Writes (output_of asked auction) taken taken') → OnOk result (Writes (answer asked input) taken taken')
     written result taken taken' writes = subst (λ x. OnOk result (Writes x taken taken')) (sym is-parsed) writes
 
     pub unwritten : {T : Type 0} (result : Result T Refusal) (before after : SinkState) → IfErr result (IsWithoutOutput asked auction before after)

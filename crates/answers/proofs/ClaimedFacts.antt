@@ -1,5 +1,7 @@
 -- What comes of a claim of other outcomes, as the code finds it.
-use Rattle.std.proofs.Common.{◌≡◌, ◌≤◌, ◌+◌, ◌==◌, ◌∷◌, ◌∙◌, [], ℕ, Bool, List, Option, None, Some, Result, Ok, Err, ap, arith, eqb-true, inl, inr, length, refl, subst, sym, ◌⊎◌, ◌<◌, IfErr, IfOk, codes, slice_index, slice_index_or, true, zip, option_map}
+use Rattle.std.proofs.Common.{◌≡◌, ◌≤◌, ◌+◌, ◌==◌, ◌∷◌, ◌∙◌, [], ℕ, Bool, List, Option, None, Some, Result, Ok, Err, ap}
+use Rattle.std.proofs.Common.{arith, eqb-true, inl, inr, length, refl, subst, sym, ◌⊎◌, ◌<◌, IfErr, IfOk, codes}
+use Rattle.std.proofs.Common.{slice_index, slice_index_or, true, zip, option_map}
 use Rattle.std.proofs.lemmas.List.{length-map}
 use Rattle.auction_terms.specs.Lines.{bytes_of}
 use Rattle.auction_terms.specs.Groups.{starts_empty}
@@ -37,24 +39,34 @@ use Rattle.answers.proofs.CheckFacts.{when-both}
 -- ---- what the first solution wins
 
 first-of : (sale : Sale) (n : ℕ) (groups texts : List (List ℕ)) (won : List (List Choice)) → starts_empty groups ≡ true → length texts ≡ length groups
-    → each_in_turn (winners sale) n (zip groups texts) ≡ Ok won → (1 ≤ length texts) × (1 ≤ length won) × (winners_by (program_for sale []) n (slice_index_or texts 0 []) ≡ Ok (slice_index_or won 0 []))
+    → each_in_turn (winners sale) n (zip groups texts) ≡ Ok won
+    → (1 ≤ length texts) × (1 ≤ length won) × (winners_by (program_for sale []) n (slice_index_or texts 0 []) ≡ Ok
+    (slice_index_or won 0 []))
 first-of sale n [] texts won starts count wins = absurd (cc)
 first-of sale n (group ∷ groups) [] won starts count wins = absurd (omega arith)
 first-of sale n ([] ∷ groups) (text ∷ texts) won starts count wins =
     let (a, a_is, more_wins) = ok-behind (winners sale n ([], text)) _ won wins in
     let (more, more_are, are) = ok-behind (each_in_turn (winners sale) (n + 1) (zip groups texts)) _ won more_wins in
-    let is : a ∷ more ≡ won = ok-is _ (a ∷ more) won refl are in
-    (omega arith, subst (λ (xs : List (List Choice)). 1 ≤ length xs) is (omega arith), subst (λ (xs : List (List Choice)). winners_by (program_for sale []) n text ≡ Ok (slice_index_or xs 0 [])) is a_is)
-first-of sale n ((b ∷ group) ∷ groups) (text ∷ texts) won starts count wins = (let none : length (b ∷ group) ≡ 0 = eqb-true (length (b ∷ group)) 0 starts in absurd (omega arith))
+    let is : a ∷ more ≡ won = ok-is _ (a ∷ more) won refl are in (
+      omega arith,
+      subst (λ (xs : List (List Choice)). 1 ≤ length xs) is (omega arith),
+      subst (λ (xs : List (List Choice)). winners_by
+          (program_for sale []) n text ≡ Ok (slice_index_or xs 0 [])) is a_is,
+    )
+first-of sale n ((b ∷ group) ∷ groups) (text ∷ texts) won starts count wins =
+    (let none : length (b ∷ group) ≡ 0 = eqb-true (length (b ∷ group)) 0 starts in absurd (omega arith))
 
 pub wins-first : (auction : Auction) (won : List (List Choice)) → winners_of_groups auction ≡ Ok won
-    → (starts_empty auction.groups ≡ true) × (1 ≤ length auction.solutions) × (1 ≤ length won) × (winners_by (first_program auction) 1 (slice_index_or auction.solutions 0 []) ≡ Ok (slice_index_or won 0 []))
+    → (starts_empty auction.groups ≡ true) × (1 ≤ length auction.solutions) × (1 ≤ length won)
+    × (winners_by (first_program auction) 1 (slice_index_or auction.solutions 0 []) ≡ Ok (slice_index_or won 0 []))
 wins-first auction won parsed =
-    let (starts, count, each) = when-both refusal.FirstGroupNotEmpty (refusal.PartCount part.Solution) (starts_empty auction.groups) (length auction.solutions == length auction.groups) _ won parsed in
+    let (starts, count, each) = when-both refusal.FirstGroupNotEmpty (refusal.PartCount part.Solution) (starts_empty auction.groups)
+    (length auction.solutions == length auction.groups) _ won parsed in
     let (some, few, is) = first-of auction.sale 1 auction.groups auction.solutions won starts (eqb-true _ _ count) each in
     (starts, some, few, is)
 
-is-won-first : (auction : declared.Auction) (won : List (List Choice)) → winners_of_groups (held auction) ≡ Ok won → IsWonFirst auction (slice_index_or won 0 [])
+is-won-first : (auction : declared.Auction) (won : List (List Choice)) → winners_of_groups (held auction) ≡ Ok won
+    → IsWonFirst auction (slice_index_or won 0 [])
 is-won-first auction won parsed =
     let (starts, some, few, is) = wins-first (held auction) won parsed in
     let count = length-map auction.solutions.items (λ (text : Text). text.now) in
@@ -65,10 +77,12 @@ first-at [] first some is = absurd (omega arith)
 first-at (a ∷ won) first some is = sym is
 
 -- the first of what is won
-pub first-won : (auction : Auction) (won : List (List Choice)) (first : List Choice) → winners_of_groups auction ≡ Ok won → first ≡ slice_index_or won 0 first → slice_index_or won 0 [] ≡ first
+pub first-won : (auction : Auction) (won : List (List Choice)) (first : List Choice) → winners_of_groups auction ≡ Ok won
+    → first ≡ slice_index_or won 0 first → slice_index_or won 0 [] ≡ first
 first-won auction won first parsed is = first-at won first (wins-first auction won parsed).2 is
 
-pub is-first-won : (auction : declared.Auction) (won : List (List Choice)) (first : List Choice) → winners_of_groups (held auction) ≡ Ok won → first ≡ slice_index_or won 0 first → IsWonFirst auction first
+pub is-first-won : (auction : declared.Auction) (won : List (List Choice)) (first : List Choice) → winners_of_groups (held auction) ≡ Ok won
+    → first ≡ slice_index_or won 0 first → IsWonFirst auction first
 is-first-won auction won first parsed is = subst (IsWonFirst auction) (first-won (held auction) won first parsed is) (is-won-first auction won parsed)
 
 -- nobody is in the first group
@@ -78,7 +92,8 @@ first-empty ([] ∷ groups) starts = refl
 first-empty ((b ∷ group) ∷ groups) starts = (let none : length (b ∷ group) ≡ 0 = eqb-true (length (b ∷ group)) 0 starts in absurd (omega arith))
 
 -- the compiler's program for the first group is the auction's without anybody
-pub first-program : (auction : declared.Auction) (compiler : Compiling) (group : List ℕ) → compiler ≡ compiling auction.book auction.groups → starts_empty auction.groups ≡ true → group ≡ slice_index_or auction.groups 0 []
+pub first-program : (auction : declared.Auction) (compiler : Compiling) (group : List ℕ) → compiler ≡ compiling auction.book auction.groups
+    → starts_empty auction.groups ≡ true → group ≡ slice_index_or auction.groups 0 []
     → program_without compiler.book group ≡ program_without auction.book []
 first-program auction compiler group own starts is =
     ap (λ (k : Compiling). program_without k.book group) own ∙ ap (λ (g : List ℕ). program_without auction.book g) (is ∙ first-empty auction.groups starts)
@@ -93,7 +108,8 @@ module _ (auction : declared.Auction) (first : List Choice) where
   abbrev claims : List Text → List Text → Result Uniqueness Refusal
   claims uniques ties = parsed_claims (held auction) first (bytes_of uniques) (bytes_of ties)
 
-  pub many-claims : 1 < length auction.uniques.items + length auction.ties.items → parsed_claims (held auction) first (held auction).uniques (held auction).ties ≡ Err (refusal.PartCount part.Unique)
+  pub many-claims : 1 < length auction.uniques.items + length auction.ties.items
+      → parsed_claims (held auction) first (held auction).uniques (held auction).ties ≡ Err (refusal.PartCount part.Unique)
   many-claims many = by auction.uniques.items auction.ties.items many
     where
       by : (uniques ties : List Text) → 1 < length uniques + length ties → claims uniques ties ≡ Err (refusal.PartCount part.Unique)
@@ -104,7 +120,8 @@ module _ (auction : declared.Auction) (first : List Choice) where
       by (u ∷ []) (t ∷ ties) many = refl
       by (u ∷ v ∷ uniques) ties many = refl
 
-  pub no-claim : length auction.uniques.items ≡ 0 → length auction.ties.items ≡ 0 → parsed_claims (held auction) first (held auction).uniques (held auction).ties ≡ Ok uniqueness.Unasked
+  pub no-claim : length auction.uniques.items ≡ 0 → length auction.ties.items ≡ 0
+      → parsed_claims (held auction) first (held auction).uniques (held auction).ties ≡ Ok uniqueness.Unasked
   no-claim none alone = by auction.uniques.items auction.ties.items none alone
     where
       by : (uniques ties : List Text) → length uniques ≡ 0 → length ties ≡ 0 → claims uniques ties ≡ Ok uniqueness.Unasked
@@ -117,26 +134,30 @@ module _ (auction : declared.Auction) (first : List Choice) where
       → parsed_claims (held auction) first (held auction).uniques (held auction).ties ≡ parsed_tie (held auction) first text.now
   one-tie text one alone is = by auction.uniques.items auction.ties.items one alone is
     where
-      by : (uniques ties : List Text) → length ties ≡ 1 → length uniques ≡ 0 → text ≡ slice_index_or ties 0 text → claims uniques ties ≡ parsed_tie (held auction) first text.now
+      by : (uniques ties : List Text) → length ties ≡ 1 → length uniques ≡ 0 → text ≡ slice_index_or ties 0 text
+          → claims uniques ties ≡ parsed_tie (held auction) first text.now
       by [] [] one alone is = absurd (omega arith)
       by [] (t ∷ []) one alone is = ap (λ (x : Text). parsed_tie (held auction) first x.now) (sym is)
       by [] (t ∷ s ∷ ties) one alone is = absurd (omega arith)
       by (u ∷ uniques) ties one alone is = absurd (omega arith)
 
   pub one-unique : (text : Text) → length auction.uniques.items ≡ 1 → length auction.ties.items ≡ 0 → text ≡ slice_index_or auction.uniques.items 0 text
-      → (parsed_claims (held auction) first (held auction).uniques (held auction).ties ≡ parsed_claims (held auction) first (text.now ∷ []) []) × (bytes_of auction.uniques.items ≡ text.now ∷ []) × (bytes_of auction.ties.items ≡ [])
+      → (parsed_claims (held auction) first (held auction).uniques (held auction).ties ≡ parsed_claims (held auction) first (text.now ∷ [])
+      []) × (bytes_of auction.uniques.items ≡ text.now ∷ []) × (bytes_of auction.ties.items ≡ [])
   one-unique text one alone is = by auction.uniques.items auction.ties.items one alone is
     where
       by : (uniques ties : List Text) → length uniques ≡ 1 → length ties ≡ 0 → text ≡ slice_index_or uniques 0 text
           → (claims uniques ties ≡ parsed_claims (held auction) first (text.now ∷ []) []) × (bytes_of uniques ≡ text.now ∷ []) × (bytes_of ties ≡ [])
       by [] ties one alone is = absurd (omega arith)
-      by (u ∷ []) [] one alone is = (ap (λ (x : Text). parsed_claims (held auction) first (x.now ∷ []) []) (sym is), ap (λ (x : Text). x.now ∷ []) (sym is), refl)
+      by (u ∷ []) [] one alone is =
+          (ap (λ (x : Text). parsed_claims (held auction) first (x.now ∷ []) []) (sym is), ap (λ (x : Text). x.now ∷ []) (sym is), refl)
       by (u ∷ []) (t ∷ ties) one alone is = absurd (omega arith)
       by (u ∷ v ∷ uniques) ties one alone is = absurd (omega arith)
 
 -- ---- the only one
 
-module _ (auction : Auction) (first : List Choice) (text : List ℕ) (point : List Bool) (solved : solution (first_program auction) (slice_index_or auction.solutions 0 []) ≡ Ok point) where
+module _ (auction : Auction) (first : List Choice) (text : List ℕ) (point : List Bool)
+    (solved : solution (first_program auction) (slice_index_or auction.solutions 0 []) ≡ Ok point) where
   abbrev unique_refused : ℕ × CertificateFaultKind → Refusal
   unique_refused f = refusal.Unique (record { line = f.0; kind = f.1 })
 
@@ -149,18 +170,22 @@ module _ (auction : Auction) (first : List Choice) (text : List ℕ) (point : Li
   pub only-parsed : only_fault (first_program auction) point text ≡ None → parsed_claims auction first (text ∷ []) [] ≡ Ok (only_or_rival auction.sale first)
   only-parsed none = goes-on ∙ ap judged none
 
-  refused-so : (line : ℕ) (k : CertificateFaultKind) → IsLimit k ⊎ (only_fault (first_program auction) point text ≡ Some (line, k)) → (k ≡ kind.TooLarge → IsLargeOnlyAt (first_program auction) point text line) → auction.uniques ≡ text ∷ [] → auction.ties ≡ []
-      → Refuses (parsed_claims auction first (text ∷ []) []) (refusal.Unique (record { line = line; kind = k })) ⊎ IsTooWideClaim auction (refusal.Unique (record { line = line; kind = k }))
+  refused-so : (line : ℕ) (k : CertificateFaultKind) → IsLimit k ⊎ (only_fault (first_program auction) point text ≡ Some (line, k))
+      → (k ≡ kind.TooLarge → IsLargeOnlyAt (first_program auction) point text line) → auction.uniques ≡ text ∷ [] → auction.ties ≡ []
+      → Refuses (parsed_claims auction first (text ∷ []) []) (refusal.Unique (record { line = line; kind = k }))
+      ⊎ IsTooWideClaim auction (refusal.Unique (record { line = line; kind = k }))
   refused-so line k (inl (inl memory)) large one alone = inl (inr (rw memory refl))
   refused-so line k (inl (inr wide)) large one alone = inr (text, line, one, alone, (point, solved, large wide), rw wide refl)
   refused-so line k (inr found) large one alone = inl (inl (goes-on ∙ ap judged found))
 
-  pub only-refused : (f : CertificateFault) → IsLimit f.kind ⊎ (only_fault (first_program auction) point text ≡ Some (f.line, f.kind)) → (f.kind ≡ kind.TooLarge → IsLargeOnlyAt (first_program auction) point text f.line) → auction.uniques ≡ text ∷ [] → auction.ties ≡ []
+  pub only-refused : (f : CertificateFault) → IsLimit f.kind ⊎ (only_fault (first_program auction) point text ≡ Some (f.line, f.kind))
+      → (f.kind ≡ kind.TooLarge → IsLargeOnlyAt (first_program auction) point text f.line) → auction.uniques ≡ text ∷ [] → auction.ties ≡ []
       → Refuses (parsed_claims auction first (text ∷ []) []) (refusal.Unique f) ⊎ IsTooWideClaim auction (refusal.Unique f)
   only-refused f found large one alone = refused-so f.line f.kind found large one alone
 
 -- a verdict that is no fault
-pub no-fault : (verdict : Result (Unit {0}) CertificateFault) (first : Option (ℕ × CertificateFaultKind)) → ((f : CertificateFault) → verdict ≡ Err f → ⊥) → IsVerdict verdict first → first ≡ None
+pub no-fault : (verdict : Result (Unit {0}) CertificateFault) (first : Option (ℕ × CertificateFaultKind))
+    → ((f : CertificateFault) → verdict ≡ Err f → ⊥) → IsVerdict verdict first → first ≡ None
 no-fault (Ok u) first fine judged = judged
 no-fault (Err f) first fine judged = absurd (fine f refl)
 
@@ -186,7 +211,8 @@ module _ (auction : Auction) (first : List Choice) (text : List ℕ) (other : Li
   goes-over : parsed_tie auction first text ≡ tied auction.sale first other
   goes-over = next _ other _ _ (ap (λ (r : Result (List Choice) Refusal). refused_as of_tie r) won) refl
 
-  pub tie-parsed : (r : Result Uniqueness Refusal) → IfOk r (λ claim. tied auction.sale first other ≡ Ok claim) → IfOk r (λ claim. parsed_tie auction first text ≡ Ok claim)
+  pub tie-parsed : (r : Result Uniqueness Refusal) → IfOk r (λ claim. tied auction.sale first other ≡ Ok claim)
+      → IfOk r (λ claim. parsed_tie auction first text ≡ Ok claim)
   tie-parsed (Ok claim) parsed = goes-over ∙ parsed
   tie-parsed (Err e) parsed = tt
 

@@ -1,5 +1,6 @@
 -- What commands write, and why they don't.
-use Rattle.std.proofs.Common.{◌≡◌, ◌≤◌, ◌<◌, ◌+◌, ◌-◌, ◌++◌, ◌∷◌, ◌∙◌, [], ℕ, zero, suc, List, Option, None, Some, Result, Ok, ap, arith, length, length-append, map, refl, slice_index_or, sym, take, inl, inr}
+use Rattle.std.proofs.Common.{◌≡◌, ◌≤◌, ◌<◌, ◌+◌, ◌-◌, ◌++◌, ◌∷◌, ◌∙◌, [], ℕ, zero, suc, List, Option, None, Some, Result}
+use Rattle.std.proofs.Common.{Ok, ap, arith, length, length-append, map, refl, slice_index_or, sym, take, inl, inr}
 use Rattle.std.proofs.lemmas.Bool.Decides.{leb_tells}
 use Rattle.auction_terms.specs.declared.choices.Choice.{Choice}
 use Rattle.bid_desk.specs.Closing.{Closing}
@@ -36,7 +37,8 @@ pub cut-short : (parsed : Result (List ℕ) Refusal) (out : List ℕ) (before af
 cut-short parsed out before after (write.Sink written) whole sent failed = by_put out whole sent failed
 
 -- the programs of groups are made of their groups
-pub of-groups : (book : Closing) (k : ℕ) (groups : List (List ℕ)) → in_turn (program_text (sale_of book)) k groups ≡ in_turn (program_bytes book) k (map (compiled book) groups)
+pub of-groups : (book : Closing) (k : ℕ) (groups : List (List ℕ))
+    → in_turn (program_text (sale_of book)) k groups ≡ in_turn (program_bytes book) k (map (compiled book) groups)
 of-groups book k [] = refl
 of-groups book k (group ∷ groups) = ap (λ (more : List ℕ). program_text (sale_of book) k group ++ more) (of-groups book (k + 1) groups)
 
@@ -51,7 +53,8 @@ fewer-bytes bytes k (suc n) (x ∷ xs) =
     omega arith
 
 -- what went out before a fault in the text of a group is a front of all texts
-pub sent-front : (book : Closing) (programs : List GroupProgram) (group written : ℕ) (taken taken' : Option (List ℕ)) → EndsIn book programs group written taken taken'
+pub sent-front : (book : Closing) (programs : List GroupProgram) (group written : ℕ) (taken taken' : Option (List ℕ))
+    → EndsIn book programs group written taken taken'
     → SentFront taken taken' (programs_bytes book programs) written
 sent-front book programs group written None taken' ends = tt
 sent-front book programs group written (Some before) None ends = ends
@@ -61,7 +64,8 @@ sent-front book programs group written (Some before) (Some after) (n, sent, coun
 
 -- ---- what the one solution wins
 
-module _ (auction : declared.Auction) (k : ℕ) (solution : List ℕ) (within : k ≤ length auction.groups) (only : solution ≡ only_text (bytes_of auction.solutions.items)) where
+module _ (auction : declared.Auction) (k : ℕ) (solution : List ℕ) (within : k ≤ length auction.groups)
+    (only : solution ≡ only_text (bytes_of auction.solutions.items)) where
   abbrev program : Table
   program = program_without auction.book (slice_index_or auction.groups (k - 1) [])
 
@@ -71,7 +75,8 @@ module _ (auction : declared.Auction) (k : ℕ) (solution : List ℕ) (within : 
     | inr (_, more) ↦ absurd (omega arith)
   ]
 
-  pub winners-written : (a : List Choice) → winners_by program 1 solution ≡ Ok a → output_of (request.Map k) (held auction) ≡ Ok (allocation_text (sale_of auction.book) a)
+  pub winners-written : (a : List Choice) → winners_by program 1 solution ≡ Ok a
+      → output_of (request.Map k) (held auction) ≡ Ok (allocation_text (sale_of auction.book) a)
   winners-written a won = goes-on ∙ next _ _ _ _ won refl
 
   pub winners-refused : (r : Refusal) → Refuses (winners_by program 1 solution) r → Refuses (output_of (request.Map k) (held auction)) r

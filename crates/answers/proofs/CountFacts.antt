@@ -20,12 +20,15 @@ module _ (auction : declared.Auction) (starts : starts_empty auction.groups ≡ 
   abbrev texts : List (List ℕ)
   texts = bytes_of auction.solutions.items
 
-  pub solutions-miscounted : length auction.solutions.items ≢ length auction.groups → Refuses (winners_of_groups (held auction)) (refusal.PartCount part.Solution)
+  pub solutions-miscounted : length auction.solutions.items ≢ length auction.groups
+      → Refuses (winners_of_groups (held auction)) (refusal.PartCount part.Solution)
   solutions-miscounted other =
-      let differ : (length texts == length auction.groups) ≡ false = ne_eqb _ _ (λ same. other (sym (length-map auction.solutions.items (λ (text : Text). text.now)) ∙ same)) in
+      let differ : (length texts == length auction.groups) ≡ false =
+      ne_eqb _ _ (λ same. other (sym (length-map auction.solutions.items (λ (text : Text). text.now)) ∙ same)) in
       inl (rw (starts, differ) refl)
 
-  pub goes-over : (compiler : Compiling) (solutions : List Text) → compiler ≡ compiling auction.book auction.groups → length auction.solutions.items ≡ length auction.groups → solutions ≡ auction.solutions.items
+  pub goes-over : (compiler : Compiling) (solutions : List Text) → compiler ≡ compiling auction.book auction.groups
+      → length auction.solutions.items ≡ length auction.groups → solutions ≡ auction.solutions.items
       → parsed_winners compiler (bytes_of solutions) ≡ winners_of_groups (held auction)
   goes-over compiler solutions own each same =
       let equal : (length texts == length auction.groups) ≡ true = eq-eqb _ _ (length-map auction.solutions.items (λ (text : Text). text.now) ∙ each) in

@@ -1,5 +1,7 @@
 -- How reports and allocations end: with a digit and a line feed.
-use Rattle.std.proofs.Common.{◌≡◌, ◌≤◌, ◌+◌, ◌/◌, ◌%◌, ◌++◌, ◌∷◌, ◌∙◌, [], ℕ, zero, suc, Bool, true, false, Some, flat_map, List, append_assoc, ap, arith, length, lt-ltb, refl, subst, sym, ℤ, pos, negsuc, ◌==◌, codes, decimal, zip, append-nil, inl, inr}
+use Rattle.std.proofs.Common.{◌≡◌, ◌≤◌, ◌+◌, ◌/◌, ◌%◌, ◌++◌, ◌∷◌, ◌∙◌, [], ℕ, zero, suc, Bool, true, false, Some, flat_map}
+use Rattle.std.proofs.Common.{List, append_assoc, ap, arith, length, lt-ltb, refl, subst, sym, ℤ, pos, negsuc, ◌==◌, codes}
+use Rattle.std.proofs.Common.{decimal, zip, append-nil, inl, inr}
 use Rattle.std.proofs.lemmas.Bool.{cases_Bool}
 use Rattle.std.specs.Fmt.{digit_glyph, digits, digits_onto, signed_decimal}
 use Rattle.auction_terms.specs.declared.choices.Choice.{Choice}
@@ -46,7 +48,9 @@ number-ends before n =
     record {
       front = before ++ front;
       digit = 48 + n % 10;
-      is = ap (λ (digits : List ℕ). before ++ (digits ++ 10 ∷ [])) is ∙ ap (λ (end : List ℕ). before ++ end) (append_assoc front ((48 + n % 10) ∷ []) (10 ∷ [])) ∙ sym (append_assoc before front ((48 + n % 10) ∷ 10 ∷ []));
+      is = ap (λ (digits : List ℕ). before ++ (digits ++ 10 ∷ [])) is
+          ∙ ap (λ (end : List ℕ). before ++ end) (append_assoc front ((48 + n % 10) ∷ []) (10 ∷ []))
+          ∙ sym (append_assoc before front ((48 + n % 10) ∷ 10 ∷ []));
       small = omega arith;
     }
 
@@ -70,9 +74,11 @@ allocation-ends sale a = behind-more _ _ (number-ends (codes "total ") _)
 
 group-ends : (sale : Sale) (first : List Choice) (k : ℕ) (item : List ℕ × List Choice) → EndsInDigit (group_report sale first k item)
 group-ends sale first k item =
-    behind-more (heading (codes "group ") sale.names k item.0) _ (behind-more (allocation_text sale item.1) _ (signed-ends (codes "cost ") (cost sale.lots sale.book first item.0 item.1)))
+    behind-more (heading (codes "group ") sale.names k item.0) _ (behind-more (allocation_text sale item.1) _
+    (signed-ends (codes "cost ") (cost sale.lots sale.book first item.0 item.1)))
 
-groups-end : (sale : Sale) (first : List Choice) (k : ℕ) (item : List ℕ × List Choice) (items : List (List ℕ × List Choice)) → EndsInDigit (in_turn (group_report sale first) k (item ∷ items))
+groups-end : (sale : Sale) (first : List Choice) (k : ℕ) (item : List ℕ × List Choice) (items : List (List ℕ × List Choice))
+    → EndsInDigit (in_turn (group_report sale first) k (item ∷ items))
 groups-end sale first k item [] = subst EndsInDigit (sym (append-nil (group_report sale first k item))) (group-ends sale first k item)
 groups-end sale first k item (next ∷ items) = behind-more (group_report sale first k item) _ (groups-end sale first (k + 1) next items)
 
@@ -100,15 +106,18 @@ not-so before text is ends =
     omega arith
 
 -- a report on a first group doesn't end with that line
-pub no-report : (sale : Sale) (groups : List (List ℕ)) (won : List (List Choice)) (before : List ℕ) → 1 ≤ length (zip groups won) → before ++ codes "unique\n" ≡ report_text sale groups won ++ [] → ⊥
+pub no-report : (sale : Sale) (groups : List (List ℕ)) (won : List (List Choice)) (before : List ℕ) → 1 ≤ length (zip groups won)
+    → before ++ codes "unique\n" ≡ report_text sale groups won ++ [] → ⊥
 no-report sale [] won before some is = absurd (omega arith)
 no-report sale (group ∷ groups) [] before some is = absurd (omega arith)
 no-report sale (group ∷ groups) (a ∷ won) before some is =
     not-so before _ is (subst EndsInDigit (sym (append-nil (report_text sale (group ∷ groups) (a ∷ won)))) (groups-end sale a 1 (group, a) (zip groups won)))
 
 -- and no tie does
-pub no-tie : (sale : Sale) (report prices : List ℕ) (other : List Choice) (before : List ℕ) → before ++ codes "unique\n" ≡ report ++ (prices ++ (codes "tie\n" ++ allocation_text sale other)) → ⊥
-no-tie sale report prices other before is = not-so before _ is (behind-more report _ (behind-more prices _ (behind-more (codes "tie\n") _ (allocation-ends sale other))))
+pub no-tie : (sale : Sale) (report prices : List ℕ) (other : List Choice) (before : List ℕ)
+    → before ++ codes "unique\n" ≡ report ++ (prices ++ (codes "tie\n" ++ allocation_text sale other)) → ⊥
+no-tie sale report prices other before is =
+    not-so before _ is (behind-more report _ (behind-more prices _ (behind-more (codes "tie\n") _ (allocation-ends sale other))))
 
 -- nor do the lines of a least sum
 not-least : (before front : List ℕ) → before ++ codes "unique\n" ≡ front ++ codes "least\n" → ⊥
@@ -132,13 +141,16 @@ module _ (sale : Sale) (report : List ℕ) (first : List Choice) (p : Priced) (b
   with-end end = report ++ (codes "prices\n" ++ (lines ++ (sum ++ end)))
 
   no-sum : before ++ codes "unique\n" ≡ with-end [] → ⊥
-  no-sum is = not-so before _ is (behind-more report _ (behind-more (codes "prices\n") _ (behind-more lines _ (subst EndsInDigit (sym (append-nil sum)) (number-ends (codes "sum ") _)))))
+  no-sum is = not-so before _ is (behind-more report _ (behind-more (codes "prices\n") _
+      (behind-more lines _ (subst EndsInDigit (sym (append-nil sum)) (number-ends (codes "sum ") _)))))
 
   no-least : before ++ codes "unique\n" ≡ with-end (codes "least\n") → ⊥
   no-least is =
       let end = codes "least\n" in
       let apart : with-end end ≡ (report ++ (codes "prices\n" ++ (lines ++ sum))) ++ end =
-      ap (λ (xs : List ℕ). report ++ (codes "prices\n" ++ xs)) (sym (append_assoc lines sum end)) ∙ ap (λ (xs : List ℕ). report ++ xs) (sym (append_assoc (codes "prices\n") (lines ++ sum) end)) ∙ sym (append_assoc report (codes "prices\n" ++ (lines ++ sum)) end) in
+      ap (λ (xs : List ℕ). report ++ (codes "prices\n" ++ xs)) (sym (append_assoc lines sum end))
+      ∙ ap (λ (xs : List ℕ). report ++ xs) (sym (append_assoc (codes "prices\n") (lines ++ sum) end))
+      ∙ sym (append_assoc report (codes "prices\n" ++ (lines ++ sum)) end) in
       not-least before (report ++ (codes "prices\n" ++ (lines ++ sum))) (is ∙ apart)
 
   by-end : (least : Bool) → before ++ codes "unique\n" ≡ with-end (least_line least) → ⊥

@@ -1,5 +1,7 @@
 -- What commands refuse, and what `explain` prints for them.
-use Rattle.std.proofs.Common.{◌≡◌, ◌≤◌, ◌+◌, ◌-◌, ◌&&◌, ◌∷◌, ◌++◌, ◌∙◌, ℕ, Bool, true, false, List, [], Option, None, Some, Result, Ok, Err, ap, arith, inl, inr, length, map, refl, subst, sym, IfErr, IsErr, ◌⊎◌, true≢false}
+use Rattle.std.proofs.Common.{◌≡◌, ◌≤◌, ◌+◌, ◌-◌, ◌&&◌, ◌∷◌, ◌++◌, ◌∙◌, ℕ, Bool, true, false, List, [], Option, None, Some}
+use Rattle.std.proofs.Common.{Result, Ok, Err, ap, arith, inl, inr, length, map, refl, subst, sym, IfErr, IsErr, ◌⊎◌}
+use Rattle.std.proofs.Common.{true≢false}
 use Rattle.std.proofs.lemmas.Bool.{leb-true}
 use Rattle.std.specs.Prelude.{⊤, if◌then◌else◌, nat_le, not, slice_index_or}
 use Rattle.std.specs.List.{zip}
@@ -11,7 +13,8 @@ use Rattle.answers.specs.Runs.{IsTakenFor}
 use Rattle.auction_input.proofs.WantedFacts.{failed-behind}
 use Rattle.auction_input.specs.Auction.{Auction, parsed_auction}
 use Rattle.auction_input.specs.Input.{Input}
-use Rattle.auction_input.specs.Wanted.{claims_once, has_certificates, numbers_of, pricing_wants, proof_wants, refused_unless, solution_wants, with_wanted, parsed_taken, wanted, wants}
+use Rattle.auction_input.specs.Wanted.{claims_once, has_certificates, numbers_of, pricing_wants, proof_wants}
+use Rattle.auction_input.specs.Wanted.{refused_unless, solution_wants, with_wanted, parsed_taken, wanted, wants}
 use Rattle.auction_input.specs.declared.part_kind.PartKind.TheVariants as part
 use Rattle.auction_input.specs.declared.refusal.Refusal.TheVariants as refusal
 use Rattle.auction_input.specs.declared.refusal.Refusal.{Refusal}
@@ -24,7 +27,9 @@ use Rattle.bid_desk.specs.Sale.{Sale}
 use Rattle.auction_terms.specs.declared.choices.Choice.{Choice}
 use Rattle.answers.specs.Certified.{bounds_of, certified, shown}
 use Rattle.answers.specs.Claimed.{parsed_claims, first_program, of_tie, only_or_rival, parsed_tie, tied}
-use Rattle.answers.specs.Pricing.{covered, known_by_prices, known_by_weights, parsed_least, parsed_prices, parsed_weights, price_fault, priced, priced_by, pricing_counts, parsed_pricing, scaled, weights_of, winner_fault, winners_fault}
+use Rattle.answers.specs.Pricing.{covered, known_by_prices, known_by_weights, parsed_least, parsed_prices, parsed_weights}
+use Rattle.answers.specs.Pricing.{price_fault, priced, priced_by, pricing_counts, parsed_pricing, scaled, weights_of}
+use Rattle.answers.specs.Pricing.{winner_fault, winners_fault}
 use Rattle.answers.specs.Programs.{program_for}
 use Rattle.answers.specs.SolutionWinners.{solution_refused, winners_by, winners_of_groups}
 use Rattle.outcome.specs.Pricing.{Priced, pricing_text}
@@ -61,7 +66,8 @@ IsOther r = IsOfParts r → ⊥
 abbrev IsFree : {A : Type 0} → Result A Refusal → Type 0
 IsFree parsed = IfErr parsed IsOther
 
-free-then : {A B : Type 0} (parsed : Result A Refusal) (next : A → Result B Refusal) → IsFree parsed → ((x : A) → parsed ≡ Ok x → IsFree (next x)) → IsFree (and_then parsed next)
+free-then : {A B : Type 0} (parsed : Result A Refusal) (next : A → Result B Refusal) → IsFree parsed
+    → ((x : A) → parsed ≡ Ok x → IsFree (next x)) → IsFree (and_then parsed next)
 free-then (Ok x) next free behind = behind x refl
 free-then (Err r) next free behind = free
 
@@ -69,13 +75,16 @@ free-as : {A F : Type 0} (whole : F → Refusal) (parsed : Result A F) → ((f :
 free-as whole (Ok x) other = tt
 free-as whole (Err f) other = other f
 
-free-unless : {A F : Type 0} (whole : F → Refusal) (found : Option F) (next : Result A Refusal) → ((f : F) → IsOther (whole f)) → IsFree next → IsFree (unless (option_map whole found) next)
+free-unless : {A F : Type 0} (whole : F → Refusal) (found : Option F) (next : Result A Refusal) → ((f : F) → IsOther (whole f))
+    → IsFree next → IsFree (unless (option_map whole found) next)
 free-unless whole None next other free = free
 free-unless whole (Some f) next other free = other f
 
-free-each : {X A : Type 0} (refuse : ℕ → X → Result A Refusal) → ((n : ℕ) (x : X) → IsFree (refuse n x)) → (n : ℕ) (xs : List X) → IsFree (each_in_turn refuse n xs)
+free-each : {X A : Type 0} (refuse : ℕ → X → Result A Refusal) → ((n : ℕ) (x : X) → IsFree (refuse n x)) → (n : ℕ) (xs : List X)
+    → IsFree (each_in_turn refuse n xs)
 free-each refuse each n [] = tt
-free-each refuse each n (x ∷ xs) = free-then (refuse n x) _ (each n x) (λ y is. free-then (each_in_turn refuse (n + 1) xs) _ (free-each refuse each (n + 1) xs) (λ ys is. tt))
+free-each refuse each n (x ∷ xs) = free-then (refuse n x) _ (each n x)
+    (λ y is. free-then (each_in_turn refuse (n + 1) xs) _ (free-each refuse each (n + 1) xs) (λ ys is. tt))
 
 -- ---- solutions
 
@@ -85,11 +94,14 @@ other-solution p number (fault.RowBroken row) = λ never. never
 other-solution p number f = λ never. never
 
 free-winners : (p : Table) (number : ℕ) (text : List ℕ) → IsFree (winners_by p number text)
-free-winners p number text = free-then (refused_as (solution_refused p number) (solution p text)) _ (free-as (solution_refused p number) (solution p text) (other-solution p number)) (λ point is. tt)
+free-winners p number text = free-then (refused_as (solution_refused p number) (solution p text)) _
+    (free-as (solution_refused p number) (solution p text) (other-solution p number)) (λ point is. tt)
 
-free-groups : (auction : Auction) → IsFree (each_in_turn (λ number (item : List ℕ × List ℕ). winners_by (program_for auction.sale item.0) number item.1) 1 (zip auction.groups auction.solutions))
+free-groups : (auction : Auction) → IsFree (each_in_turn (λ number (item : List ℕ × List ℕ). winners_by (program_for auction.sale item.0)
+    number item.1) 1 (zip auction.groups auction.solutions))
 free-groups auction =
-    free-each (λ number (item : List ℕ × List ℕ). winners_by (program_for auction.sale item.0) number item.1) (λ number item. free-winners (program_for auction.sale item.0) number item.1) 1 (zip auction.groups auction.solutions)
+    free-each (λ number (item : List ℕ × List ℕ). winners_by (program_for auction.sale item.0) number item.1)
+    (λ number item. free-winners (program_for auction.sale item.0) number item.1) 1 (zip auction.groups auction.solutions)
 
 -- ---- certificates
 
@@ -108,29 +120,34 @@ free-of-tie : {A : Type 0} (parsed : Result A Refusal) → IsFree parsed → IsF
 free-of-tie (Ok x) free = tt
 free-of-tie (Err r) free = of-tie-other r free
 
-free-checks : {A : Type 0} (a b : Bool) (r s : Refusal) (next : Result A Refusal) → IsOther r → IsOther s → IsFree next → IsFree (unless (first_failed ((a, r) ∷ (b, s) ∷ [])) next)
+free-checks : {A : Type 0} (a b : Bool) (r s : Refusal) (next : Result A Refusal) → IsOther r → IsOther s → IsFree next
+    → IsFree (unless (first_failed ((a, r) ∷ (b, s) ∷ [])) next)
 free-checks false b r s next first second free = first
 free-checks true false r s next first second free = second
 free-checks true true r s next first second free = free
 
 free-tied : (sale : Sale) (first other : List Choice) → IsFree (tied sale first other)
 free-tied sale first other =
-    free-checks (nat_le (total sale.lots sale.book first) (total sale.lots sale.book other)) (not (same_choices first other)) refusal.LowerTie refusal.SameTie (Ok (uniqueness.Tie other)) (λ never. never) (λ never. never) tt
+    free-checks (nat_le (total sale.lots sale.book first) (total sale.lots sale.book other)) (not (same_choices first other))
+    refusal.LowerTie refusal.SameTie (Ok (uniqueness.Tie other)) (λ never. never) (λ never. never) tt
 
 free-tie : (auction : Auction) (first : List Choice) (text : List ℕ) → IsFree (parsed_tie auction first text)
 free-tie auction first text =
-    free-then (refused_as of_tie (winners_by (first_program auction) 1 text)) (tied auction.sale first) (free-of-tie (winners_by (first_program auction) 1 text) (free-winners (first_program auction) 1 text))
+    free-then (refused_as of_tie (winners_by (first_program auction) 1 text)) (tied auction.sale first)
+    (free-of-tie (winners_by (first_program auction) 1 text) (free-winners (first_program auction) 1 text))
     (λ other is. free-tied auction.sale first other)
 
 both-true : (a b : Bool) → a && b ≡ true → (a ≡ true) × (b ≡ true)
 both-true true b is = (refl, is)
 both-true false b is = cc
 
-free-claims : (auction : Auction) (first : List Choice) (uniques ties : List (List ℕ)) → length uniques ≤ 1 → length ties ≤ 1 - length uniques → IsFree (parsed_claims auction first uniques ties)
+free-claims : (auction : Auction) (first : List Choice) (uniques ties : List (List ℕ)) → length uniques ≤ 1
+    → length ties ≤ 1 - length uniques → IsFree (parsed_claims auction first uniques ties)
 free-claims auction first [] [] few rest = tt
 free-claims auction first (text ∷ []) [] few rest =
     free-then (refused_as (solution_refused (first_program auction) 1) (solution (first_program auction) (slice_index_or auction.solutions 0 []))) _
-    (free-as (solution_refused (first_program auction) 1) (solution (first_program auction) (slice_index_or auction.solutions 0 [])) (other-solution (first_program auction) 1))
+    (free-as (solution_refused (first_program auction) 1) (solution (first_program auction) (slice_index_or auction.solutions 0 []))
+    (other-solution (first_program auction) 1))
     (λ point is. free-unless _ _ (Ok (only_or_rival auction.sale first)) (λ f never. never) tt)
 free-claims auction first [] (text ∷ []) few rest = free-tie auction first text
 free-claims auction first [] (text ∷ other ∷ more) few rest = absurd (omega arith)
@@ -160,16 +177,20 @@ two-checks true true r s first second = tt
 price-fault : (rules : Terms) (sale : Sale) (c : Choice) (given : Option GivenNumber) → IsFreeFault (price_fault rules sale c given)
 price-fault rules sale c None = λ never. never
 price-fault rules sale c (Some g) =
-    two-checks (nat_le g.number (amount_of sale.book c)) (nat_le (weighed_choice (reserves_in rules) sale.book c) g.number) (refusal.Prices (price.AboveAmount g.place)) (refusal.Prices (price.BelowReserve g.place)) (λ never. never) (λ never. never)
+    two-checks (nat_le g.number (amount_of sale.book c)) (nat_le (weighed_choice (reserves_in rules) sale.book c) g.number)
+    (refusal.Prices (price.AboveAmount g.place)) (refusal.Prices (price.BelowReserve g.place)) (λ never. never) (λ never. never)
 
 winners-fault : (rules : Terms) (sale : Sale) (given : List GivenNumber) (won : List Choice) → IsFreeFault (winners_fault rules sale given won)
 winners-fault rules sale given [] = tt
-winners-fault rules sale given (c ∷ more) = fault-or (winner_fault rules sale given c) (winners_fault rules sale given more) (price-fault rules sale c (given_to given (subject.Bidder c.bidder))) (winners-fault rules sale given more)
+winners-fault rules sale given (c ∷ more) = fault-or (winner_fault rules sale given c) (winners_fault rules sale given more)
+    (price-fault rules sale c (given_to given (subject.Bidder c.bidder))) (winners-fault rules sale given more)
 
 free-prices : (auction : Auction) (first : List Choice) (text : List ℕ) → IsFree (parsed_prices auction first text)
 free-prices auction first text =
-    free-then (refused_as refusal.Prices (parsed_given (known_by_prices auction.rules first) text)) _ (free-as refusal.Prices (parsed_given (known_by_prices auction.rules first) text) (λ f never. never))
-    (λ given is. free-found (winners_fault auction.rules auction.sale given first) (Ok (numbers_of_bidders given (length auction.rules.bidders))) (winners-fault auction.rules auction.sale given first) tt)
+    free-then (refused_as refusal.Prices (parsed_given (known_by_prices auction.rules first) text)) _
+    (free-as refusal.Prices (parsed_given (known_by_prices auction.rules first) text) (λ f never. never))
+    (λ given is. free-found (winners_fault auction.rules auction.sale given first)
+    (Ok (numbers_of_bidders given (length auction.rules.bidders))) (winners-fault auction.rules auction.sale given first) tt)
 
 free-scaled : (auction : Auction) (given : List GivenNumber) (scale : Option GivenNumber) → IsFree (scaled auction given scale)
 free-scaled auction given None = λ never. never
@@ -177,10 +198,12 @@ free-scaled auction given (Some scale) = tt
 
 free-weights : (auction : Auction) (first : List Choice) (text : List ℕ) → IsFree (parsed_weights auction first text)
 free-weights auction first text =
-    free-then (refused_as refusal.Weights (parsed_given (known_by_weights auction first) text)) (weights_of auction) (free-as refusal.Weights (parsed_given (known_by_weights auction first) text) (λ f never. never))
+    free-then (refused_as refusal.Weights (parsed_given (known_by_weights auction first) text)) (weights_of auction)
+    (free-as refusal.Weights (parsed_given (known_by_weights auction first) text) (λ f never. never))
     (λ given is. free-scaled auction given (given_to given subject.Scale))
 
-free-least : (auction : Auction) (won : List (List Choice)) (first : List Choice) (prices : List ℕ) (texts : List (List ℕ)) → IsFree (parsed_least auction won first prices texts)
+free-least : (auction : Auction) (won : List (List Choice)) (first : List Choice) (prices : List ℕ) (texts : List (List ℕ))
+    → IsFree (parsed_least auction won first prices texts)
 free-least auction won first prices [] = tt
 free-least auction won first prices (text ∷ more) =
     free-then (parsed_weights auction first text) _ (free-weights auction first text) (λ w is. tt)
@@ -194,7 +217,8 @@ free-priced auction won first text cover =
 free-priced-by : (auction : Auction) (won : List (List Choice)) (texts covers : List (List ℕ)) → IsFree (priced_by auction won texts covers)
 free-priced-by auction won [] covers = tt
 free-priced-by auction won (text ∷ more) covers =
-    free-then (priced auction won (slice_index_or won 0 []) text (slice_index_or covers 0 [])) _ (free-priced auction won (slice_index_or won 0 []) text (slice_index_or covers 0 [])) (λ p is. tt)
+    free-then (priced auction won (slice_index_or won 0 []) text (slice_index_or covers 0 [])) _
+    (free-priced auction won (slice_index_or won 0 []) text (slice_index_or covers 0 [])) (λ p is. tt)
 
 -- ---- what isn't wanted by any test
 
@@ -227,9 +251,11 @@ onto-all (Err r) = refl
 
 -- what the solutions of groups win, whatever else there is
 abbrev each_won : Auction → Result (List (List Choice)) Refusal
-each_won auction = each_in_turn (λ number (item : List ℕ × List ℕ). winners_by (program_for auction.sale item.0) number item.1) 1 (zip auction.groups auction.solutions)
+each_won auction = each_in_turn (λ number (item : List ℕ × List ℕ). winners_by (program_for auction.sale item.0) number item.1) 1
+    (zip auction.groups auction.solutions)
 
-report-so : (workers : ℕ) (parsed : Result Auction Refusal) (r : Refusal) → with_wanted (Some target.Report) parsed ≡ Err r → and_then parsed (output_of (Report workers)) ≡ Err r
+report-so : (workers : ℕ) (parsed : Result Auction Refusal) (r : Refusal) → with_wanted (Some target.Report) parsed ≡ Err r
+    → and_then parsed (output_of (Report workers)) ≡ Err r
 report-so workers (Err f) r is = ap (λ (e : Refusal). Err e) (err-is f r is)
 report-so workers (Ok auction) r is =
     ap (λ (o : Option Refusal). and_then (unless o (each_won auction)) (λ won. Ok (report_text auction.sale auction.groups won)))
@@ -239,11 +265,14 @@ report-so workers (Ok auction) r is =
 abbrev RefusesFirst : {A : Type 0} → Result A Refusal → Refusal → Type 0
 RefusesFirst parsed r = (first : Refusal) × (parsed ≡ Err first) × ((first ≡ r) ⊎ IsOther first)
 
-first-then : {A B : Type 0} (parsed : Result A Refusal) (next : A → Result B Refusal) (r : Refusal) → IsFree parsed → ((x : A) → parsed ≡ Ok x → RefusesFirst (next x) r) → RefusesFirst (and_then parsed next) r
+first-then : {A B : Type 0} (parsed : Result A Refusal) (next : A → Result B Refusal) (r : Refusal) → IsFree parsed
+    → ((x : A) → parsed ≡ Ok x → RefusesFirst (next x) r) → RefusesFirst (and_then parsed next) r
 first-then (Ok x) next r free behind = behind x refl
 first-then (Err f) next r free behind = (f, refl, inr free)
 
-many-claims : (auction : Auction) (first : List Choice) (uniques ties : List (List ℕ)) → nat_le (length uniques) 1 && nat_le (length ties) (1 - length uniques) ≡ false → parsed_claims auction first uniques ties ≡ Err (refusal.PartCount part.Unique)
+many-claims : (auction : Auction) (first : List Choice) (uniques ties : List (List ℕ))
+    → nat_le (length uniques) 1 && nat_le (length ties) (1 - length uniques) ≡ false
+    → parsed_claims auction first uniques ties ≡ Err (refusal.PartCount part.Unique)
 many-claims auction first [] [] many = absurd (true≢false many)
 many-claims auction first (text ∷ []) [] many = absurd (true≢false many)
 many-claims auction first [] (text ∷ []) many = absurd (true≢false many)
@@ -254,7 +283,8 @@ many-claims auction first (text ∷ other ∷ more) (tie ∷ ties) many = refl
 
 -- what comes after prices, claims and certificates
 abbrev behind_pricing : Auction → List (List Choice) → Uniqueness → Option Priced → Result (List ℕ) Refusal
-behind_pricing auction won claim pricing = Ok (report_text auction.sale auction.groups won ++ (pricing_text auction.sale (slice_index_or won 0 []) pricing ++ uniqueness_text auction.sale claim))
+behind_pricing auction won claim pricing = Ok (report_text auction.sale auction.groups won ++
+    (pricing_text auction.sale (slice_index_or won 0 []) pricing ++ uniqueness_text auction.sale claim))
 
 abbrev behind_claims : Auction → List (List Choice) → Uniqueness → Result (List ℕ) Refusal
 behind_claims auction won claim = and_then (parsed_pricing auction won) (behind_pricing auction won claim)
@@ -266,48 +296,74 @@ module _ (auction : Auction) (r : Refusal) where
   abbrev wanted_pricing : Option Refusal
   wanted_pricing = first_failed (refused_unless (pricing_wants (numbers_of auction)))
 
-  claims-so : (won : List (List Choice)) (once : Bool) → claims_once (numbers_of auction) ≡ once → (if once then wanted_pricing else Some (refusal.PartCount part.Unique)) ≡ Some r → RefusesFirst (behind_certified auction won) r
-  claims-so won false many is = (refusal.PartCount part.Unique, ap (λ (t : Result Uniqueness Refusal). and_then t (behind_claims auction won)) (many-claims auction (slice_index_or won 0 []) auction.uniques auction.ties many), inl (some-is _ r is))
+  claims-so : (won : List (List Choice)) (once : Bool) → claims_once (numbers_of auction) ≡ once
+      → (if once then wanted_pricing else Some (refusal.PartCount part.Unique)) ≡ Some r → RefusesFirst (behind_certified auction won) r
+  claims-so won false many is = (
+    refusal.PartCount part.Unique,
+    ap (λ (t : Result Uniqueness Refusal). and_then t
+        (behind_claims auction won)) (many-claims auction (slice_index_or won 0 []) auction.uniques auction.ties many),
+    inl (some-is _ r is),
+  )
   claims-so won true once is =
-      first-then (parsed_claims auction (slice_index_or won 0 []) auction.uniques auction.ties) (behind_claims auction won) r (free-claims auction (slice_index_or won 0 []) auction.uniques auction.ties (leb-true _ _ (both-true _ _ once).0) (leb-true _ _ (both-true _ _ once).1))
-      (λ claim parsed. (r, ap (λ (o : Option Refusal). and_then (unless o (priced_by auction won auction.prices auction.covers)) (behind_pricing auction won claim)) is, inl refl))
+      first-then (parsed_claims auction (slice_index_or won 0 []) auction.uniques auction.ties) (behind_claims auction won) r
+      (free-claims auction (slice_index_or won 0 []) auction.uniques auction.ties (leb-true _ _ (both-true _ _ once).0)
+      (leb-true _ _ (both-true _ _ once).1))
+      (λ claim parsed. (
+        r,
+        ap (λ (o : Option Refusal). and_then (unless o (priced_by auction won auction.prices auction.covers))
+            (behind_pricing auction won claim)) is,
+        inl refl,
+      ))
 
   certified-so : (won : List (List Choice)) (has : Bool)
-      → (if has then (if claims_once (numbers_of auction) then wanted_pricing else Some (refusal.PartCount part.Unique)) else Some (refusal.PartCount part.Certificate)) ≡ Some r
-      → RefusesFirst (and_then (if has then and_then (each_in_turn shown 1 (bounds_of auction won)) (λ all. Ok won) else Err (refusal.PartCount part.Certificate)) (behind_certified auction)) r
+      → (if has then (if claims_once (numbers_of auction) then wanted_pricing else Some (refusal.PartCount part.Unique)) else Some
+      (refusal.PartCount part.Certificate)) ≡ Some r
+      → RefusesFirst (and_then (if has then and_then (each_in_turn shown 1 (bounds_of auction won)) (λ all. Ok won) else Err
+      (refusal.PartCount part.Certificate)) (behind_certified auction)) r
   certified-so won false is = (refusal.PartCount part.Certificate, refl, inl (some-is _ r is))
   certified-so won true is =
-      first-then (and_then (each_in_turn shown 1 (bounds_of auction won)) (λ all. Ok won)) (behind_certified auction) r (free-then (each_in_turn shown 1 (bounds_of auction won)) _ (free-shown auction won) (λ all is. tt))
+      first-then (and_then (each_in_turn shown 1 (bounds_of auction won)) (λ all. Ok won)) (behind_certified auction) r
+      (free-then (each_in_turn shown 1 (bounds_of auction won)) _ (free-shown auction won) (λ all is. tt))
       (λ again parsed. claims-so again (claims_once (numbers_of auction)) refl is)
 
-  won-so : (won : Result (List (List Choice)) Refusal) → IsFree won → first_failed (refused_unless (proof_wants (numbers_of auction))) ≡ Some r → RefusesFirst (and_then (and_then won (certified auction)) (behind_certified auction)) r
+  won-so : (won : Result (List (List Choice)) Refusal) → IsFree won
+      → first_failed (refused_unless (proof_wants (numbers_of auction))) ≡ Some r
+      → RefusesFirst (and_then (and_then won (certified auction)) (behind_certified auction)) r
   won-so (Err f) free is = (f, refl, inr free)
   won-so (Ok won) free is = certified-so won (has_certificates (numbers_of auction)) is
 
-  solutions-so : (o : Option Refusal) → option_or o (first_failed (refused_unless (proof_wants (numbers_of auction)))) ≡ Some r → RefusesFirst (and_then (and_then (unless o (each_won auction)) (certified auction)) (behind_certified auction)) r
+  solutions-so : (o : Option Refusal) → option_or o (first_failed (refused_unless (proof_wants (numbers_of auction)))) ≡ Some r
+      → RefusesFirst (and_then (and_then (unless o (each_won auction)) (certified auction)) (behind_certified auction)) r
   solutions-so (Some s) is = (s, refl, inl (some-is s r is))
   solutions-so None is = won-so (each_won auction) (free-groups auction) is
 
-verify-so : (workers : ℕ) (parsed : Result Auction Refusal) (r : Refusal) → with_wanted (Some target.Verify) parsed ≡ Err r → RefusesFirst (and_then parsed (output_of (Verify workers))) r
+verify-so : (workers : ℕ) (parsed : Result Auction Refusal) (r : Refusal) → with_wanted (Some target.Verify) parsed ≡ Err r
+    → RefusesFirst (and_then parsed (output_of (Verify workers))) r
 verify-so workers (Err f) r is = (f, refl, inl (err-is f r is))
 verify-so workers (Ok auction) r is =
-    solutions-so auction r (first_failed (refused_unless (solution_wants (numbers_of auction)))) (sym (failed-behind (solution_wants (numbers_of auction)) (proof_wants (numbers_of auction))) ∙ unless-err (first_failed (refused_unless (wants (Some target.Verify) (numbers_of auction)))) auction r is)
+    solutions-so auction r (first_failed (refused_unless (solution_wants (numbers_of auction))))
+    (sym (failed-behind (solution_wants (numbers_of auction)) (proof_wants (numbers_of auction))) ∙ unless-err
+    (first_failed (refused_unless (wants (Some target.Verify) (numbers_of auction)))) auction r is)
 
 -- the lines of bids, where they are asked for
 abbrev lines_of : Bool → Auction → Result (List ℕ) Refusal
 lines_of bids auction = Ok (if bids then left_out_lines auction.rules auction.form_bidders (reasons_of auction.sale.lots auction.sale.book) else [])
 
-explain-so : (bids : Bool) (command : Option Target) (parsed : Result Auction Refusal) (r : Refusal) → with_wanted command parsed ≡ Err r → and_then parsed (output_of (Explain bids command)) ≡ Err r
+explain-so : (bids : Bool) (command : Option Target) (parsed : Result Auction Refusal) (r : Refusal) → with_wanted command parsed ≡ Err r
+    → and_then parsed (output_of (Explain bids command)) ≡ Err r
 explain-so bids None (Ok auction) r is = cc
 explain-so bids None (Err f) r is = ap (λ (e : Refusal). Err e) (err-is f r is)
 explain-so bids (Some command) (Err f) r is = ap (λ (e : Refusal). Err e) (err-is f r is)
 explain-so bids (Some command) (Ok auction) r is = stopped (λ found. lines_of bids auction) (wanted (Some command) auction) r is
 
-refuses-so : (asked : Request) (command : Target) (input : Input) (r : Refusal) → target_of asked ≡ Some command → parsed_taken asked input ≡ Err r → RefusesSo asked input r
+refuses-so : (asked : Request) (command : Target) (input : Input) (r : Refusal) → target_of asked ≡ Some command
+    → parsed_taken asked input ≡ Err r → RefusesSo asked input r
 refuses-so Check command input r is parsed = cc
 refuses-so Text command input r is parsed = stopped (output_of Text) (parsed_auction Text input) r (sym (onto-all (parsed_auction Text input)) ∙ parsed)
-refuses-so (Compile workers) command input r is parsed = stopped (output_of (Compile workers)) (parsed_auction (Compile workers) input) r (sym (onto-all (parsed_auction (Compile workers) input)) ∙ parsed)
-refuses-so (Map group) command input r is parsed = stopped (output_of (Map group)) (parsed_auction (Map group) input) r (sym (onto-all (parsed_auction (Map group) input)) ∙ parsed)
+refuses-so (Compile workers) command input r is parsed = stopped (output_of (Compile workers)) (parsed_auction (Compile workers) input) r
+    (sym (onto-all (parsed_auction (Compile workers) input)) ∙ parsed)
+refuses-so (Map group) command input r is parsed =
+    stopped (output_of (Map group)) (parsed_auction (Map group) input) r (sym (onto-all (parsed_auction (Map group) input)) ∙ parsed)
 refuses-so (Report workers) command input r is parsed = report-so workers (parsed_auction (Report workers) input) r parsed
 refuses-so (Verify workers) command input r is parsed = verify-so workers (parsed_auction (Verify workers) input) r parsed
 refuses-so (Explain bids whose) command input r is parsed = explain-so bids whose (parsed_auction (Explain bids whose) input) r parsed
@@ -322,7 +378,8 @@ neither : {X : Type 0} (first second : Option X) → option_or first second ≡ 
 neither None second is = (refl, is)
 neither (Some x) second is = cc
 
-all-met : (has once : Bool) (pricing : Option Refusal) (r s : Refusal) → (if has then (if once then pricing else Some s) else Some r) ≡ None → (has ≡ true) × (once ≡ true) × (pricing ≡ None)
+all-met : (has once : Bool) (pricing : Option Refusal) (r s : Refusal) → (if has then (if once then pricing else Some s) else Some r) ≡ None
+    → (has ≡ true) × (once ≡ true) × (pricing ≡ None)
 all-met true true pricing r s is = (refl, refl, is)
 all-met true false pricing r s is = cc
 all-met false once pricing r s is = cc
@@ -335,19 +392,29 @@ met-so (Some r) x y is = cc
 report-taken : (auction : Auction) → first_failed (refused_unless (solution_wants (numbers_of auction))) ≡ None → IsFree (winners_of_groups auction)
 report-taken auction none = subst (λ (o : Option Refusal). IsFree (unless o (each_won auction))) (sym none) (free-groups auction)
 
-verify-taken : (workers : ℕ) (auction : Auction) → first_failed (refused_unless (wants (Some target.Verify) (numbers_of auction))) ≡ None → IsFree (output_of (Verify workers) auction)
+verify-taken : (workers : ℕ) (auction : Auction) → first_failed (refused_unless (wants (Some target.Verify) (numbers_of auction))) ≡ None
+    → IsFree (output_of (Verify workers) auction)
 verify-taken workers auction none =
-    let (solved, proved) = neither (first_failed (refused_unless (solution_wants (numbers_of auction)))) (first_failed (refused_unless (proof_wants (numbers_of auction)))) (sym (failed-behind (solution_wants (numbers_of auction)) (proof_wants (numbers_of auction))) ∙ none) in
-    let (has, once, priced) = all-met (has_certificates (numbers_of auction)) (claims_once (numbers_of auction)) (first_failed (refused_unless (pricing_wants (numbers_of auction)))) (refusal.PartCount part.Certificate) (refusal.PartCount part.Unique) proved in
+    let (solved, proved) = neither (first_failed (refused_unless (solution_wants (numbers_of auction))))
+    (first_failed (refused_unless (proof_wants (numbers_of auction))))
+    (sym (failed-behind (solution_wants (numbers_of auction)) (proof_wants (numbers_of auction))) ∙ none) in
+    let (has, once, priced) = all-met (has_certificates (numbers_of auction)) (claims_once (numbers_of auction))
+    (first_failed (refused_unless (pricing_wants (numbers_of auction)))) (refusal.PartCount part.Certificate)
+    (refusal.PartCount part.Unique) proved in
     free-then (and_then (winners_of_groups auction) (certified auction)) (behind_certified auction)
     (free-then (winners_of_groups auction) (certified auction) (report-taken auction solved) (λ won is.
-    subst (λ (b : Bool). IsFree (if b then and_then (each_in_turn shown 1 (bounds_of auction won)) (λ all. Ok won) else Err (refusal.PartCount part.Certificate))) (sym has)
+    subst (λ (b : Bool). IsFree (if b then and_then (each_in_turn shown 1 (bounds_of auction won)) (λ all. Ok won) else Err
+    (refusal.PartCount part.Certificate))) (sym has)
     (free-then (each_in_turn shown 1 (bounds_of auction won)) _ (free-shown auction won) (λ all is. tt))))
-    (λ won is. free-then (parsed_claims auction (slice_index_or won 0 []) auction.uniques auction.ties) (behind_claims auction won) (free-claims auction (slice_index_or won 0 []) auction.uniques auction.ties (leb-true _ _ (both-true _ _ once).0) (leb-true _ _ (both-true _ _ once).1))
+    (λ won is. free-then (parsed_claims auction (slice_index_or won 0 []) auction.uniques auction.ties) (behind_claims auction won)
+    (free-claims auction (slice_index_or won 0 []) auction.uniques auction.ties (leb-true _ _ (both-true _ _ once).0)
+    (leb-true _ _ (both-true _ _ once).1))
     (λ claim is. free-then (parsed_pricing auction won) (behind_pricing auction won claim)
-    (subst (λ (o : Option Refusal). IsFree (unless o (priced_by auction won auction.prices auction.covers))) (sym priced) (free-priced-by auction won auction.prices auction.covers)) (λ pricing is. tt)))
+    (subst (λ (o : Option Refusal). IsFree (unless o (priced_by auction won auction.prices auction.covers))) (sym priced)
+    (free-priced-by auction won auction.prices auction.covers)) (λ pricing is. tt)))
 
-taken-so : (asked : Request) (parsed : Result Auction Refusal) (auction : Auction) → with_wanted (target_of asked) parsed ≡ Ok auction → IsFree (and_then parsed (output_of asked))
+taken-so : (asked : Request) (parsed : Result Auction Refusal) (auction : Auction) → with_wanted (target_of asked) parsed ≡ Ok auction
+    → IsFree (and_then parsed (output_of asked))
 taken-so asked (Err r) auction is = absurd (by (target_of asked) is)
   where
     by : (command : Option Target) → with_wanted command (no_auction r) ≡ Ok auction → ⊥
@@ -361,19 +428,24 @@ taken-so (Map group) (Ok found) auction is =
     let text = only_text found.solutions in
     free-if (nat_le group (length found.groups)) (and_then (winners_by p 1 text) (λ won. Ok (allocation_text found.sale won))) (Err (refusal.NoGroup group))
     (free-then (winners_by p 1 text) (λ won. Ok (allocation_text found.sale won)) (free-winners p 1 text) (λ won is. tt)) (λ never. never)
-taken-so (Report workers) (Ok found) auction is = free-then (winners_of_groups found) _ (report-taken found (met-so (first_failed (refused_unless (solution_wants (numbers_of found)))) found auction is)) (λ won is. tt)
-taken-so (Verify workers) (Ok found) auction is = verify-taken workers found (met-so (first_failed (refused_unless (wants (Some target.Verify) (numbers_of found)))) found auction is)
+taken-so (Report workers) (Ok found) auction is = free-then (winners_of_groups found) _
+    (report-taken found (met-so (first_failed (refused_unless (solution_wants (numbers_of found)))) found auction is)) (λ won is. tt)
+taken-so (Verify workers) (Ok found) auction is =
+    verify-taken workers found (met-so (first_failed (refused_unless (wants (Some target.Verify) (numbers_of found)))) found auction is)
 taken-so (Explain bids None) (Ok found) auction is = tt
 taken-so (Explain bids (Some command)) (Ok found) auction is =
-    subst (λ (o : Option Refusal). IsFree (and_then (unless o (Ok found)) (λ again. lines_of bids found))) (sym (met-so (first_failed (refused_unless (wants (Some command) (numbers_of found)))) found auction is)) tt
+    subst (λ (o : Option Refusal). IsFree (and_then (unless o (Ok found)) (λ again. lines_of bids found)))
+    (sym (met-so (first_failed (refused_unless (wants (Some command) (numbers_of found)))) found auction is)) tt
 
 -- ---- the law
 
 -- what a request for a command takes is what `explain` takes for it
-parsed-for : (bids : Bool) (asked : Request) (command : Target) (input : Input) → target_of asked ≡ Some command → parsed_taken asked input ≡ parsed_taken (Explain bids (Some command)) input
+parsed-for : (bids : Bool) (asked : Request) (command : Target) (input : Input) → target_of asked ≡ Some command
+    → parsed_taken asked input ≡ parsed_taken (Explain bids (Some command)) input
 parsed-for bids asked command input is = ap (λ (o : Option Target). parsed_taken (Explain bids o) input) is
 
-free-answer : (asked : Request) (command : Target) (input : Input) (auction : Auction) → target_of asked ≡ Some command → parsed_taken asked input ≡ Ok auction → IsFree (answer asked input)
+free-answer : (asked : Request) (command : Target) (input : Input) (auction : Auction) → target_of asked ≡ Some command
+    → parsed_taken asked input ≡ Ok auction → IsFree (answer asked input)
 free-answer Check command input auction is parsed = cc
 free-answer asked command input auction is parsed = taken-so asked (parsed_auction asked input) auction parsed
 
@@ -383,7 +455,8 @@ if-err-at parsed r free is = subst (λ (t : Result _ Refusal). IsFree t) is free
 pub explains-for : (command : Target) (input : Input) → ExplainsFor command input
 explains-for command input = record {
   refused = λ bids r parsed asked is. refuses-so asked command input r is (parsed-for bids asked command input is ∙ parsed);
-  taken = λ bids auction parsed asked is r answered. if-err-at (answer asked input) r (free-answer asked command input auction is (parsed-for bids asked command input is ∙ parsed)) answered;
+  taken = λ bids auction parsed asked is r answered. if-err-at (answer asked input) r
+      (free-answer asked command input auction is (parsed-for bids asked command input is ∙ parsed)) answered;
 }
 
 -- ---- what follows of an explanation
@@ -412,11 +485,14 @@ refused-by bids (Some command) input wrong asked is =
     refused-so asked input r ((explains-for command input).refused bids r parsed asked is)
 
 -- where the answer is there, the auction has what is wanted
-has-taken : (bids : Bool) (command : Option Target) (parsed : Result Auction Refusal) (out : List ℕ) → and_then parsed (output_of (Explain bids command)) ≡ Ok out → (auction : Auction) × (with_wanted command parsed ≡ Ok auction)
+has-taken : (bids : Bool) (command : Option Target) (parsed : Result Auction Refusal) (out : List ℕ)
+    → and_then parsed (output_of (Explain bids command)) ≡ Ok out → (auction : Auction) × (with_wanted command parsed ≡ Ok auction)
 has-taken bids None (Ok auction) out is = (auction, refl)
 has-taken bids (Some command) (Ok auction) out is = by (first_failed (refused_unless (wants (Some command) (numbers_of auction)))) is
   where
-    by : (o : Option Refusal) → and_then (unless o (Ok auction)) (λ taken. Ok (if bids then left_out_lines auction.rules auction.form_bidders (reasons_of auction.sale.lots auction.sale.book) else [])) ≡ Ok out → (x : Auction) × (unless o (Ok auction) ≡ Ok x)
+    by : (o : Option Refusal) → and_then (unless o (Ok auction)) (λ taken. Ok
+        (if bids then left_out_lines auction.rules auction.form_bidders (reasons_of auction.sale.lots auction.sale.book) else [])) ≡ Ok out
+        → (x : Auction) × (unless o (Ok auction) ≡ Ok x)
     by None e = (auction, refl)
     by (Some r) e = cc
 has-taken bids command (Err r) out is = cc

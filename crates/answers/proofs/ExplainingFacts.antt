@@ -1,6 +1,7 @@
 -- What `explain` leaves.
 use Rattle.std.specs.Prelude.{if◌then◌else◌}
-use Rattle.std.proofs.Common.{◌≡◌, ◌⊎◌, ◌∙◌, ℕ, Bool, true, false, List, [], Option, None, Some, Result, Ok, Err, ap, inl, inr, refl, subst, sym, ◌↔◌, IfErr, IfOk, IsErr, IsOk, IsTrue, MatchBool, true≢false}
+use Rattle.std.proofs.Common.{◌≡◌, ◌⊎◌, ◌∙◌, ℕ, Bool, true, false, List, [], Option, None, Some, Result, Ok, Err, ap, inl}
+use Rattle.std.proofs.Common.{inr, refl, subst, sym, ◌↔◌, IfErr, IfOk, IsErr, IsOk, IsTrue, MatchBool, true≢false}
 use Rattle.auction_input.specs.Input.{Input}
 use Rattle.std.specs.Io.KnownBytes.{Appends}
 use Rattle.answers.specs.Exact.{IsUnwritten, Writes}
@@ -25,7 +26,8 @@ abbrev no_lines : Result (List ℕ) Refusal
 no_lines = Ok []
 
 -- where an auction is parsed that has what is wanted, the answer is there
-found-answer : (command : Option Target) (parsed : Result Auction Refusal) (auction : Auction) → with_wanted command parsed ≡ Ok auction → and_then parsed (output_of (Explain false command)) ≡ Ok []
+found-answer : (command : Option Target) (parsed : Result Auction Refusal) (auction : Auction) → with_wanted command parsed ≡ Ok auction
+    → and_then parsed (output_of (Explain false command)) ≡ Ok []
 found-answer None (Ok found) auction is = refl
 found-answer (Some command) (Ok found) auction is = by (first_failed (refused_unless (wants (Some command) (numbers_of found)))) is
   where
@@ -36,53 +38,72 @@ found-answer None (Err r) auction is = cc
 found-answer (Some command) (Err r) auction is = cc
 
 -- where nothing is wrong, and bids aren't asked for, nothing is written
-nothing-written : (command : Option Target) (text : Input) (parsed : Result Auction Refusal) (taken taken' : Option (List ℕ)) → parsed_taken (Explain false command) text ≡ parsed → (IsErr parsed → IsTrue false) → Appends taken taken' (explanation (Explain false command) text)
+nothing-written : (command : Option Target) (text : Input) (parsed : Result Auction Refusal) (taken taken' : Option (List ℕ))
+    → parsed_taken (Explain false command) text ≡ parsed → (IsErr parsed → IsTrue false)
+    → Appends taken taken' (explanation (Explain false command) text)
     → Writes (answer (Explain false command) text) taken taken'
-nothing-written command text (Ok auction) taken taken' is sound written =
-    ([], found-answer command (parsed_auction (Explain false command) text) auction is, subst (Appends taken taken') (nothing-explained (Explain false command) text auction is) written)
+nothing-written command text (Ok auction) taken taken' is sound written = (
+  [],
+  found-answer command (parsed_auction (Explain false command) text) auction is,
+  subst (Appends taken taken') (nothing-explained
+      (Explain false command) text auction is) written,
+)
 nothing-written command text (Err r) taken taken' is sound written = (let never = sound refl in cc)
 
-pub unasked : (bids faulty : Bool) (command : Option Target) (text : Input) (taken taken' : Option (List ℕ)) → bids ≡ false → faulty ≡ false → IsTrue faulty ↔ IsErr (parsed_taken (Explain bids command) text)
+pub unasked : (bids faulty : Bool) (command : Option Target) (text : Input) (taken taken' : Option (List ℕ)) → bids ≡ false → faulty ≡ false
+    → IsTrue faulty ↔ IsErr (parsed_taken (Explain bids command) text)
     → Appends taken taken' (explanation (Explain bids command) text) → Writes (answer (Explain bids command) text) taken taken'
 unasked true faulty command text taken taken' off sound both written = absurd (true≢false off)
-unasked false faulty command text taken taken' off sound both written = nothing-written command text (parsed_taken (Explain false command) text) taken taken' refl (λ wrong. sym sound ∙ both.1 wrong) written
+unasked false faulty command text taken taken' off sound both written =
+    nothing-written command text (parsed_taken (Explain false command) text) taken taken' refl (λ wrong. sym sound ∙ both.1 wrong) written
 
 -- where no fault is found, an auction is parsed
 no-fault : {A E : Type 0} (parsed : Result A E) → (IsErr parsed → ⊥) → IsOk parsed
 no-fault (Ok x) none = refl
 no-fault (Err r) none = absurd (none refl)
 
-pub asks-bids : (bids faulty : Bool) (command : Option Target) (text : Input) → bids ≡ true → faulty ≡ false → IsTrue faulty ↔ IsErr (parsed_taken (Explain bids command) text) → AsksAnswer (Explain bids command) text
-asks-bids bids faulty command text asked sound both = (asked, no-fault (parsed_taken (Explain bids command) text) (λ wrong. true≢false (sym (both.1 wrong) ∙ sound)))
+pub asks-bids : (bids faulty : Bool) (command : Option Target) (text : Input) → bids ≡ true → faulty ≡ false
+    → IsTrue faulty ↔ IsErr (parsed_taken (Explain bids command) text) → AsksAnswer (Explain bids command) text
+asks-bids bids faulty command text asked sound both =
+    (asked, no-fault (parsed_taken (Explain bids command) text) (λ wrong. true≢false (sym (both.1 wrong) ∙ sound)))
 
 -- where nothing was put before
-pub unreported : (asked : Request) (text : Input) (explained before after : SinkState) (r : Refusal) → explained ≡ before → IsUnwritten asked text explained after r → IsUnwritten asked text before after r
+pub unreported : (asked : Request) (text : Input) (explained before after : SinkState) (r : Refusal) → explained ≡ before
+    → IsUnwritten asked text explained after r → IsUnwritten asked text before after r
 unreported asked text explained before after r same unwritten = subst (λ (s : SinkState). IsUnwritten asked text s after r) same unwritten
 
 -- what a text is explained by
 abbrev pub IsTextExplained : Bool → Option Target → Input → Option (List ℕ) → Option (List ℕ) → Bool → Type 0
 IsTextExplained bids command text taken taken' faulty =
-    MatchBool faulty (IsErr (parsed_taken (Explain bids command) text) × Appends taken taken' (explanation (Explain bids command) text)) (Writes (answer (Explain bids command) text) taken taken')
+    MatchBool faulty (IsErr (parsed_taken (Explain bids command) text) × Appends taken taken' (explanation (Explain bids command) text))
+    (Writes (answer (Explain bids command) text) taken taken')
 
 abbrev pub IsTextUnexplained : Bool → Option Target → Input → SinkState → SinkState → Refusal → Type 0
 IsTextUnexplained bids command text before after r =
-    IsCutShort (explanation (Explain bids command) text) before.taken after.taken before.failures after.failures r ⊎ (AsksAnswer (Explain bids command) text × IsUnwritten (Explain bids command) text before after r)
+    IsCutShort (explanation (Explain bids command) text) before.taken after.taken before.failures after.failures r
+    ⊎ (AsksAnswer (Explain bids command) text × IsUnwritten (Explain bids command) text before after r)
 
 -- ---- what is written of an auction
 
 -- of one that has what is wanted, as where nothing is
-pub bids-as : (bids : Bool) (command : Option Target) (auction : Auction) → bids ≡ true → wanted command auction ≡ Ok auction → output_of (Explain bids command) auction ≡ output_of (Explain true None) auction
+pub bids-as : (bids : Bool) (command : Option Target) (auction : Auction) → bids ≡ true → wanted command auction ≡ Ok auction
+    → output_of (Explain bids command) auction ≡ output_of (Explain true None) auction
 bids-as bids command auction asked has =
-    ap (λ (parsed : Result Auction Refusal). and_then parsed (λ taken. Ok (if bids then left_out_lines auction.rules auction.form_bidders (reasons_of auction.sale.lots auction.sale.book) else []))) has
+    ap (λ (parsed : Result Auction Refusal). and_then parsed (λ taken. Ok
+    (if bids then left_out_lines auction.rules auction.form_bidders (reasons_of auction.sale.lots auction.sale.book) else []))) has
     ∙ ap (λ (b : Bool). output_of (Explain b None) auction) asked
 
 -- of one that hasn't
-pub bids-refused : (bids : Bool) (command : Option Target) (auction : Auction) (r : Refusal) → wanted command auction ≡ Err r → output_of (Explain bids command) auction ≡ Err r
+pub bids-refused : (bids : Bool) (command : Option Target) (auction : Auction) (r : Refusal) → wanted command auction ≡ Err r
+    → output_of (Explain bids command) auction ≡ Err r
 bids-refused bids command auction r unmet =
-    ap (λ (parsed : Result Auction Refusal). and_then parsed (λ taken. Ok (if bids then left_out_lines auction.rules auction.form_bidders (reasons_of auction.sale.lots auction.sale.book) else []))) unmet
+    ap (λ (parsed : Result Auction Refusal). and_then parsed (λ taken. Ok
+    (if bids then left_out_lines auction.rules auction.form_bidders (reasons_of auction.sale.lots auction.sale.book) else []))) unmet
 
 -- where bids aren't asked for
-pub as-unasked : (bids : Bool) (command : Option Target) (auction : Auction) → bids ≡ false → wanted command auction ≡ Ok auction → output_of (Explain bids command) auction ≡ Ok []
+pub as-unasked : (bids : Bool) (command : Option Target) (auction : Auction) → bids ≡ false → wanted command auction ≡ Ok auction
+    → output_of (Explain bids command) auction ≡ Ok []
 as-unasked bids command auction off has =
-    ap (λ (parsed : Result Auction Refusal). and_then parsed (λ taken. Ok (if bids then left_out_lines auction.rules auction.form_bidders (reasons_of auction.sale.lots auction.sale.book) else []))) has
+    ap (λ (parsed : Result Auction Refusal). and_then parsed (λ taken. Ok
+    (if bids then left_out_lines auction.rules auction.form_bidders (reasons_of auction.sale.lots auction.sale.book) else []))) has
     ∙ ap (λ (b : Bool). output_of (Explain b None) auction) off

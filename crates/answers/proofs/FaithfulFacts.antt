@@ -18,7 +18,8 @@ use Rattle.outcome.specs.Report.{in_turn}
 use Rattle.answers.specs.GroupTexts.{program_text}
 use Rattle.answers.specs.Answer.{output_of}
 
-pub faithful-without : (asked : Request) (input : Input) (auction : Auction) → parsed_auction asked input ≡ Ok auction → (group : List ℕ) → IsFaithfulToSale auction.sale group
+pub faithful-without : (asked : Request) (input : Input) (auction : Auction) → parsed_auction asked input ≡ Ok auction → (group : List ℕ)
+    → IsFaithfulToSale auction.sale group
 faithful-without asked input auction parsed group =
     let (lots, book) = auction-within asked input auction parsed in
     presolved_text_is_faithful auction.sale.lots auction.sale.book (has group) lots book
@@ -30,11 +31,22 @@ each-faithful sale faithful (group ∷ groups) = (faithful group, each-faithful 
 pub text-is-faithful : TextIsFaithful
 text-is-faithful input out parsed =
     let (auction, auction_is, made) = ok-behind (parsed_auction request.Text input) (output_of request.Text) out parsed in
-    let is : text (program_for auction.sale []) ≡ out = ok-is _ (text (program_for auction.sale [])) out refl made in
-    (auction, auction_is, subst (λ (bytes : List ℕ). IsFaithfulText auction.sale.lots auction.sale.book (λ b. false) bytes) is (faithful-without request.Text input auction auction_is []))
+    let is : text (program_for auction.sale []) ≡ out = ok-is _ (text (program_for auction.sale [])) out refl made in (
+      auction,
+      auction_is,
+      subst (λ (bytes : List ℕ). IsFaithfulText auction.sale.lots auction.sale.book (λ b. false)
+          bytes) is (faithful-without request.Text input auction auction_is []),
+    )
 
 pub compiled-is-faithful : CompiledIsFaithful
 compiled-is-faithful workers input out parsed =
     let (auction, auction_is, made) = ok-behind (parsed_auction (request.Compile workers) input) (output_of (request.Compile workers)) out parsed in
-    let is : in_turn (program_text auction.sale) 1 auction.groups ≡ out = ok-is _ (in_turn (program_text auction.sale) 1 auction.groups) out refl made in
-    (auction, auction_is, record { texts = sym is; faithful = each-faithful auction.sale (faithful-without (request.Compile workers) input auction auction_is) auction.groups })
+    let is : in_turn (program_text auction.sale) 1 auction.groups ≡ out = ok-is _ (in_turn (program_text auction.sale) 1 auction.groups) out refl made in (
+      auction,
+      auction_is,
+      record {
+        texts = sym is;
+        faithful = each-faithful auction.sale
+            (faithful-without (request.Compile workers) input auction auction_is) auction.groups;
+      },
+    )

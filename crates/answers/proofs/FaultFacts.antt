@@ -20,7 +20,8 @@ no_program f = Err f
 abbrev pub program_refused : ℕ × MpsFaultKind → Refusal
 program_refused f = refusal.Program (record { line = f.0; kind = f.1 })
 
-pub program-refuses : (f : MpsFault) (x : Result Table (ℕ × MpsFaultKind)) → IsRead (no_program f) x → Refuses (refused_as program_refused x) (refusal.Program f)
+pub program-refuses : (f : MpsFault) (x : Result Table (ℕ × MpsFaultKind)) → IsRead (no_program f) x
+    → Refuses (refused_as program_refused x) (refusal.Program f)
 program-refuses f x (inl short) = inr (ap (λ (g : MpsFault). refusal_text (refusal.Program g)) short)
 program-refuses f x (inr parsed) = inl (ap (λ (r : Result Table (ℕ × MpsFaultKind)). refused_as program_refused r) parsed)
 
@@ -28,7 +29,8 @@ abbrev pub no_point : SolutionFault → Result (List Bool) SolutionFault
 no_point f = Err f
 
 -- a fault of a solution, as it is reported
-pub solution-refuses : (p : Table) (n : ℕ) (f : SolutionFault) (x : Result (List Bool) SolutionFault) (r : Refusal) → r ≡ solution_refused p n f → Answers solution_text.is_solution_memory (no_point f) x
+pub solution-refuses : (p : Table) (n : ℕ) (f : SolutionFault) (x : Result (List Bool) SolutionFault) (r : Refusal)
+    → r ≡ solution_refused p n f → Answers solution_text.is_solution_memory (no_point f) x
     → Refuses (refused_as (solution_refused p n) x) r
 solution-refuses p n solution.OutOfMemory x r parsed is = inr (ap (λ (e : Refusal). refusal_text e) parsed)
 solution-refuses p n f x r parsed is =

@@ -23,7 +23,8 @@ use Rattle.answers.proofs.WinnersFeasibleFacts.{feasible-of}
 
 each-feasible : (sale : Sale) (n : ℕ) (groups texts : List (List ℕ)) (won : List (List Choice)) → IsBook sale.lots sale.book → length texts ≡ length groups
     → each_in_turn (winners sale) n (zip groups texts) ≡ Ok won → AllZip (IsFeasibleWithout sale) groups won
-each-feasible sale n [] texts won within count wins = (let none : [] ≡ won = ok-is _ [] won refl wins in subst (λ (xs : List (List Choice)). AllZip (IsFeasibleWithout sale) [] xs) none tt)
+each-feasible sale n [] texts won within count wins =
+    (let none : [] ≡ won = ok-is _ [] won refl wins in subst (λ (xs : List (List Choice)). AllZip (IsFeasibleWithout sale) [] xs) none tt)
 each-feasible sale n (group ∷ groups) [] won within count wins = absurd (omega arith)
 each-feasible sale n (group ∷ groups) (text ∷ texts) won within count wins =
     let (a, a_is, more_wins) = ok-behind (winners sale n (group, text)) _ won wins in
@@ -37,9 +38,18 @@ reported-is-feasible workers input out parsed =
     let (auction, auction_is, made) = ok-behind (parsed_auction (request.Report workers) input) (output_of (request.Report workers)) out parsed in
     let within = (auction-within (request.Report workers) input auction auction_is).1 in
     let (won, wins, written) = ok-behind (winners_of_groups auction) _ out made in
-    let (starts, count, each) = when-both refusal.FirstGroupNotEmpty (refusal.PartCount part.Solution) (starts_empty auction.groups) (length auction.solutions == length auction.groups) _ won wins in
-    let text : report_text auction.sale auction.groups won ≡ out = ok-is _ (report_text auction.sale auction.groups won) out refl written in
-    (auction, auction_is, record { won = won; text = sym text; feasible = each-feasible auction.sale 1 auction.groups auction.solutions won within (eqb-true _ _ count) each })
+    let (starts, count, each) = when-both refusal.FirstGroupNotEmpty (refusal.PartCount part.Solution) (starts_empty auction.groups)
+    (length auction.solutions == length auction.groups) _ won wins in
+    let text : report_text auction.sale auction.groups won ≡ out = ok-is _ (report_text auction.sale auction.groups won) out refl written in (
+      auction,
+      auction_is,
+      record {
+        won = won;
+        text = sym text;
+        feasible = each-feasible auction.sale 1 auction.groups auction.solutions won
+            within (eqb-true _ _ count) each;
+      },
+    )
 
 pub mapped-is-feasible : MappedIsFeasible
 mapped-is-feasible k input out parsed =

@@ -13,6 +13,7 @@ words-alone (fault.ReadAlready n) other not = absurd (not n refl)
 words-alone f other not = append-nil (fault_words f)
 
 -- memory wasn't short
-pub named-file : (name : List ℕ) (f : FileFault) (other : List ℕ) → (f ≡ fault.OutOfMemory → ⊥) → shown_name name ++ (codes ": " ++ words_with f other) ≡ file_text name f other
+pub named-file : (name : List ℕ) (f : FileFault) (other : List ℕ) → (f ≡ fault.OutOfMemory → ⊥)
+    → shown_name name ++ (codes ": " ++ words_with f other) ≡ file_text name f other
 named-file name fault.OutOfMemory other not = absurd (not refl)
 named-file name f other not = refl

@@ -1,5 +1,6 @@
 -- Items that go out one after the other.
-use Rattle.std.proofs.Common.{◌≡◌, ◌<◌, ◌≤◌, ◌+◌, ◌-◌, ◌∷◌, ◌++◌, ◌∙◌, ℕ, suc, List, [], Option, None, Some, length, take, drop, get_or, refl, sym, ap, subst, arith, append_assoc, length-append, MutBor, min, ◌^◌, map}
+use Rattle.std.proofs.Common.{◌≡◌, ◌<◌, ◌≤◌, ◌+◌, ◌-◌, ◌∷◌, ◌++◌, ◌∙◌, ℕ, suc, List, [], Option, None, Some, length, take}
+use Rattle.std.proofs.Common.{drop, get_or, refl, sym, ap, subst, arith, append_assoc, length-append, MutBor, min, ◌^◌, map}
 use Rattle.std.specs.Io.KnownBytes.{Appends, append_known}
 use Rattle.std.proofs.lemmas.List.{append-nil, get_or-map, length-map, length-take, take-append-drop, take-append-le, take_more}
 use Rattle.byte_sinks.specs.Sinks.{Counts, HasFailed, IsFront, SentFront}
@@ -32,7 +33,8 @@ in_turn-more f k xs i x is small =
 
 -- the programs of the first groups, with that of the next
 pub programs-more : (book : Closing) (groups : List (List ℕ)) (place : ℕ) (group : List ℕ) → place < length groups → group ≡ get_or groups (place + 1 - 1) []
-    → programs_bytes book (take place (map (compiled book) groups)) ++ program_bytes book (place + 1) (compiled book group) ≡ programs_bytes book (take (place + 1) (map (compiled book) groups))
+    → programs_bytes book (take place (map (compiled book) groups)) ++ program_bytes book (place + 1) (compiled book group)
+    ≡ programs_bytes book (take (place + 1) (map (compiled book) groups))
 programs-more book groups place group within is =
     let order : 1 + place ≡ place + 1 = omega arith in
     let at : place + 1 - 1 ≡ place = omega arith in
@@ -61,7 +63,8 @@ ends-known o m u done b later written gone longer (n, few, is, count) =
     let front : take n ((done ++ b) ++ later) ≡ take n (done ++ b) = rw take-append-le refl in
     (n, is ∙ ap (λ w. o ++ w) (sym front), count, omega arith, few)
 
-ends-within : (t0 t t' : Option (List ℕ)) (done b later : List ℕ) (sent sent' : ℕ) → Appends t0 t done → Counts t0 t 0 sent → IsFront t' (append_known t b) → Counts t t' sent sent'
+ends-within : (t0 t t' : Option (List ℕ)) (done b later : List ℕ) (sent sent' : ℕ) → Appends t0 t done → Counts t0 t 0 sent
+    → IsFront t' (append_known t b) → Counts t t' sent sent'
     → EndsWithin t0 t' ((done ++ b) ++ later) done (done ++ b) sent'
 ends-within None t t' done b later sent sent' gone count front more = tt
 ends-within (Some o) None t' done b later sent sent' gone count front more = absurd gone
@@ -73,11 +76,13 @@ ends-within (Some o) (Some m) (Some u) done b later sent sent' gone count front 
     ends-known o m u done b later sent' gone more.0 (SentFront-from (Some o) (Some u) (done ++ b) sent' all counts)
 
 -- the same, of a writer that had sent what is done, to a sink that ends as x
-pub ends-parsed : {X : Type 0} {taken : X → Option (List ℕ)} {failures : X → ℕ} {s : MutBor X} {a b c : Writer X} {written : ℕ} (x : X) (done bytes later : List ℕ)
+pub ends-parsed : {X : Type 0} {taken : X → Option (List ℕ)} {failures : X → ℕ} {s : MutBor X} {a b c : Writer X} {written : ℕ} (x : X)
+    (done bytes later : List ℕ)
     → IsNew s a → Adds taken failures a b done → IsSent b → Adds taken failures b c bytes → IsBroken c written → x ≡ c.sink.now
     → EndsWithin (taken s.now) (taken x) ((done ++ bytes) ++ later) done (done ++ bytes) written
 ends-parsed {X} {taken} {failures} {s} {a} {b} {c} {written} x done bytes later new before sent added broken end =
-    let ends = ends-within (taken s.now) (taken b.sink.now) (taken c.sink.now) done bytes later b.sent c.sent (sent-whole new before sent) (counts-new new before) (front-behind sent added broken) added.counted in
+    let ends = ends-within (taken s.now) (taken b.sink.now) (taken c.sink.now) done bytes later b.sent c.sent (sent-whole new before sent)
+    (counts-new new before) (front-behind sent added broken) added.counted in
     subst (λ (y : X). EndsWithin (taken s.now) (taken y) ((done ++ bytes) ++ later) done (done ++ bytes) written) (sym end)
     (subst (λ (n : ℕ). EndsWithin (taken s.now) (taken c.sink.now) ((done ++ bytes) ++ later) done (done ++ bytes) n) (sym broken.1) ends)
 

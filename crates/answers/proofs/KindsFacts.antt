@@ -1,18 +1,26 @@
 -- Whatever faults words may have, all of them ask for the same: help, the version, or nothing.
-use Rattle.std.proofs.Common.{◌≡◌, ◌⊎◌, ◌∙◌, ◌&&◌, ◌||◌, ℕ, Bool, cond, true, false, not, zero, suc, refl, sym, ap, inl, inr, List, [], ◌∷◌, Option, Some, None, true≢false}
+use Rattle.std.proofs.Common.{◌≡◌, ◌⊎◌, ◌∙◌, ◌&&◌, ◌||◌, ℕ, Bool, cond, true, false, not, zero, suc, refl, sym, ap, inl}
+use Rattle.std.proofs.Common.{inr, List, [], ◌∷◌, Option, Some, None, true≢false}
 use Rattle.std.specs.Prelude.{◌==◌, codes, drop, encode_utf8, find, is_some, length, min, nat_lt, slice_get, ◌+◌}
 use Rattle.std.specs.Option.{option_map_or}
 use Rattle.std.specs.Prelude.{option_and_then}
 use Rattle.std.specs.Str.{bytes_eq, chars}
 use Rattle.clap.specs.Facts.{parser_of_value, unwrap_or_range}
-use Rattle.clap.specs.Faults.{action_fault, built_fault, bundle_step_fault, count_fault, default_fault, defaults_fault, entered_fault, fault_of, flag_word_fault, flags_fault, level_fault, long_fault, option_fault, other_fault, positional_fault, react_fault, repeat_fault, set_fault, settle_fault, short_fault, step_fault, stray_fault, turn_fault, use_fault, values_fault, walk_fault, word_fault}
+use Rattle.clap.specs.Faults.{action_fault, built_fault, bundle_step_fault, count_fault, default_fault, defaults_fault}
+use Rattle.clap.specs.Faults.{entered_fault, fault_of, flag_word_fault, flags_fault, level_fault, long_fault, option_fault}
+use Rattle.clap.specs.Faults.{other_fault, positional_fault, react_fault, repeat_fault, set_fault, settle_fault}
+use Rattle.clap.specs.Faults.{short_fault, step_fault, stray_fault, turn_fault, use_fault, values_fault, walk_fault}
+use Rattle.clap.specs.Faults.{word_fault}
 use Rattle.clap.specs.Kinds.{check_kinds, or_else, range_kinds, request_kinds, value_kinds, values_kinds}
 use Rattle.clap.specs.Lexer.{long_of, short_of}
 use Rattle.clap.specs.Matches.{count_text}
 use Rattle.clap.specs.Simple.{Shape, argument_words, built, entered, label_of, names_of}
 use Rattle.clap.specs.Values.{refused_kind}
 use Rattle.clap.specs.ValueTests.{accepts}
-use Rattle.clap.specs.Walk.{Held, Names, Step, Waiting, Walk, action_of, answers_to, arg_by_id, arg_by_index, arg_by_long, arg_by_short, attached_value, count_of, has_row, idle, is_empty, is_pending, most_values, nothing_held, option, positional, reacted, settled, subcommand_met, takes_several, takes_values, value, values_or_missing, walk, walk_from, walked, with_default, word_met}
+use Rattle.clap.specs.Walk.{Held, Names, Step, Waiting, Walk, action_of, answers_to, arg_by_id, arg_by_index, arg_by_long}
+use Rattle.clap.specs.Walk.{arg_by_short, attached_value, count_of, has_row, idle, is_empty, is_pending, most_values}
+use Rattle.clap.specs.Walk.{nothing_held, option, positional, reacted, settled, subcommand_met, takes_several, takes_values}
+use Rattle.clap.specs.Walk.{value, values_or_missing, walk, walk_from, walked, with_default, word_met}
 use Rattle.clap.specs.Words.{App, IsAmong, Kinds, Row, Rule, Text, first_of, subcommand_of}
 use Rattle.clap.specs.declared.builder.action.ArgAction.TheVariants as action
 use Rattle.clap.specs.declared.builder.action.ArgAction.{ArgAction}
@@ -74,7 +82,8 @@ of-repeat : (again : Bool) (id : Text) (rows : List Row) → AskAlike (repeat_fa
 of-repeat again id rows = either (has_row id rows && not again) _ _ (one kind.ArgumentConflict) none
 
 of-set : (again : Bool) (a : Rule) (values : List Text) (rows : List Row) → AskAlike (set_fault again a values rows)
-of-set again a values rows = behind (repeat_fault again a.id rows) (values_fault a values) (of-repeat again a.id rows) (of-values a.ignore_case (parser_of_value a.parser) values)
+of-set again a values rows = behind (repeat_fault again a.id rows) (values_fault a values) (of-repeat again a.id rows)
+    (of-values a.ignore_case (parser_of_value a.parser) values)
 
 of-action : (x : ArgAction) (again : Bool) (a : Rule) (values : List Text) (rows : List Row) → AskAlike (action_fault x again a values rows)
 of-action action.Set again a values rows = of-set again a values rows
@@ -86,7 +95,8 @@ of-action x again a values rows = of-request x
 
 of-use : (again : Bool) (a : Rule) (values : List Text) (rows : List Row) → AskAlike (use_fault again a values rows)
 of-use again a values rows =
-    behind (range_kinds (unwrap_or_range a.range).start_inclusive (most_values a) (length values)) (action_fault (action_of a) again a (values_or_missing a values) rows)
+    behind (range_kinds (unwrap_or_range a.range).start_inclusive (most_values a) (length values))
+    (action_fault (action_of a) again a (values_or_missing a values) rows)
     (of-range (unwrap_or_range a.range).start_inclusive (most_values a) (length values)) (of-action (action_of a) again a (values_or_missing a values) rows)
 
 -- ---- the words of one level
@@ -106,13 +116,15 @@ module _ (c : List Rule) (again : Bool) where
   of-long None v h = one kind.UnknownArgument
   of-long (Some a) v h = either (takes_values a) _ _ (of-option a v h) (either (is_some v) _ _ (one kind.TooManyValues) (of-react a [] h))
 
-  of-short : (found : Option Rule) (rest : Text) (h : Held) (more : Held → Kinds) → ((h : Held) → AskAlike (more h)) → AskAlike (short_fault c again found rest h more)
+  of-short : (found : Option Rule) (rest : Text) (h : Held) (more : Held → Kinds) → ((h : Held) → AskAlike (more h))
+      → AskAlike (short_fault c again found rest h more)
   of-short None rest h more each = one kind.UnknownArgument
   of-short (Some a) rest h more each =
       either (takes_values a) _ _ (of-option a (attached_value rest) h)
       (behind (react_fault c again a [] h) (more (reacted c a [] h)) (of-react a [] h) (each (reacted c a [] h)))
 
-  of-bundle_step : (first : Option ℕ) (flags : Text) (skip : ℕ) (h : Held) (more : Text → ℕ → Held → Kinds) → ((t : Text) (n : ℕ) (h : Held) → AskAlike (more t n h))
+  of-bundle_step : (first : Option ℕ) (flags : Text) (skip : ℕ) (h : Held) (more : Text → ℕ → Held → Kinds)
+      → ((t : Text) (n : ℕ) (h : Held) → AskAlike (more t n h))
       → AskAlike (bundle_step_fault c again first flags skip h more)
   of-bundle_step None flags skip h more each = none
   of-bundle_step (Some x) flags zero h more each =
@@ -171,30 +183,36 @@ module _ (s : Shape) (names : Names) (off : (s.disable_help_subcommand ≡ true)
   of-turn w word =
       let met = word_met s.rules names w.is_trailing w.waiting w.position word w.held in
       either (is_some w.stopped) _ _ none
-      (behind (word_fault s names w.is_trailing w.waiting word w.held) (step_fault s w.position met.0 met.1) (of-word w.is_trailing w.waiting word w.held) (of-step s w.position met.0 met.1))
+      (behind (word_fault s names w.is_trailing w.waiting word w.held) (step_fault s w.position met.0 met.1)
+      (of-word w.is_trailing w.waiting word w.held) (of-step s w.position met.0 met.1))
 
   of-walk : (w : Walk) (words : List Text) → AskAlike (walk_fault s names w words)
   unfolding walk_fault
   of-walk w [] = none
-  of-walk w (word ∷ rest) = behind (turn_fault s names w word) (walk_fault s names (walked s.rules names w word) rest) (of-turn w word) (of-walk (walked s.rules names w word) rest)
+  of-walk w (word ∷ rest) = behind (turn_fault s names w word) (walk_fault s names (walked s.rules names w word) rest) (of-turn w word)
+      (of-walk (walked s.rules names w word) rest)
 
 -- ---- after the walk
 
 of-default : (rows : List Row) (a : Rule) → AskAlike (default_fault rows a)
 of-default rows a =
     either (has_row a.id rows || is_empty a.defaults) _ _ none
-    (behind (request_kinds (action_of a)) (values_fault a a.defaults) (of-request (action_of a)) (of-values a.ignore_case (parser_of_value a.parser) a.defaults))
+    (behind (request_kinds (action_of a)) (values_fault a a.defaults) (of-request (action_of a))
+    (of-values a.ignore_case (parser_of_value a.parser) a.defaults))
 
 of-defaults : (rows : List Row) (rules : List Rule) → AskAlike (defaults_fault rows rules)
 unfolding defaults_fault
 of-defaults rows [] = none
-of-defaults rows (a ∷ rest) = behind (default_fault rows a) (defaults_fault (with_default rows a) rest) (of-default rows a) (of-defaults (with_default rows a) rest)
+of-defaults rows (a ∷ rest) =
+    behind (default_fault rows a) (defaults_fault (with_default rows a) rest) (of-default rows a) (of-defaults (with_default rows a) rest)
 
 of-checks : (help command argument : Bool) → AskAlike (check_kinds help command argument)
 of-checks help command argument =
-    either help _ _ (one kind.DisplayHelpOnMissingArgumentOrSubcommand) (either command _ _ (one kind.MissingSubcommand) (either argument _ _ (one kind.MissingRequiredArgument) none))
+    either help _ _ (one kind.DisplayHelpOnMissingArgumentOrSubcommand)
+    (either command _ _ (one kind.MissingSubcommand) (either argument _ _ (one kind.MissingRequiredArgument) none))
 
-of-level : (s : Shape) (names : Names) (h : Held) (words : List Text) (has_subcommand : Bool) (below : Kinds) → (s.disable_help_subcommand ≡ true) ⊎ (names ≡ []) → AskAlike below
+of-level : (s : Shape) (names : Names) (h : Held) (words : List Text) (has_subcommand : Bool) (below : Kinds)
+    → (s.disable_help_subcommand ≡ true) ⊎ (names ≡ []) → AskAlike below
     → AskAlike (level_fault s names h words has_subcommand below)
 of-level s names h words has_subcommand below off under =
     let end = (walk s.rules names h words).held in
@@ -206,7 +224,8 @@ of-level s names h words has_subcommand below off under =
 
 of-entered : (a : App) (stop : Option (Text × List Text)) → AskAlike (entered_fault a stop)
 of-entered a stop =
-    mapped _ stop [] (λ p. mapped _ (find (λ s. answers_to p.0 (label_of s)) a.subs) [] (λ s. of-level s [] nothing_held p.1 false [] (inr refl) none) none) none
+    mapped _ stop [] (λ p. mapped _ (find (λ s. answers_to p.0 (label_of s)) a.subs) []
+    (λ s. of-level s [] nothing_held p.1 false [] (inr refl) none) none) none
 
 of-built : (a : App) (h : Held) (words : List Text) → a.top.disable_help_subcommand ≡ true → AskAlike (built_fault a h words)
 of-built a h words off =
@@ -233,4 +252,5 @@ faults_in words = or_else (fault_of wdp words) (target_fault (subcommand_of wdp 
 
 pub asks-as : (words : List Text) (line : CommandLine) (k : ErrorKind) → IsAmong k (faults_in words) → by_faults (faults_in words) line ≡ by_fault k
 asks-as words line k among =
-    by-first (faults_in words) line k (behind (fault_of wdp words) (target_fault (subcommand_of wdp words)) (alike words) (of-target (subcommand_of wdp words))) among
+    by-first (faults_in words) line k (behind (fault_of wdp words) (target_fault (subcommand_of wdp words)) (alike words)
+    (of-target (subcommand_of wdp words))) among

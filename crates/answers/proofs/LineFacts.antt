@@ -17,8 +17,10 @@ put {bytes = bytes} (Err e) new added flushed sent broken =
     inr (written_of e, sent-front new whole broken, fails-new new whole broken)
 
 -- what a call has put that makes a writer to a sink, adds the bytes and flushes it, where the sink ends as x
-pub puts : {X : Type 0} {taken : X → Option (List ℕ)} {failures : X → ℕ} {s : MutBor X} {a b c : Writer X} {bytes : List ℕ} (x : X) (parsed : List ℕ) (r : Result (Unit {0}) WriteFault)
-    → IsNew s a → Adds taken failures a b bytes → Adds taken failures b c [] → OnOk r (IsSent c) → IfErr r (λ e. IsBroken c (written_of e)) → x ≡ c.sink.now → bytes ≡ parsed
+pub puts : {X : Type 0} {taken : X → Option (List ℕ)} {failures : X → ℕ} {s : MutBor X} {a b c : Writer X} {bytes : List ℕ} (x : X)
+    (parsed : List ℕ) (r : Result (Unit {0}) WriteFault)
+    → IsNew s a → Adds taken failures a b bytes → Adds taken failures b c [] → OnOk r (IsSent c) → IfErr r (λ e. IsBroken c (written_of e))
+    → x ≡ c.sink.now → bytes ≡ parsed
     → Puts parsed (taken s.now) (taken x) (failures s.now) (failures x)
 puts {X} {taken} {failures} {s} {a} {b} {c} {bytes} x parsed r new added flushed sent broken end is =
     subst (λ (y : X). Puts parsed (taken s.now) (taken y) (failures s.now) (failures y)) (sym end)

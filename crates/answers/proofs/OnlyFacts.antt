@@ -1,5 +1,6 @@
 -- What is said of other outcomes holds.
-use Rattle.std.proofs.Common.{◌≡◌, ◌≤◌, ◌∷◌, [], ℕ, Bool, false, cond, List, Option, None, Some, Ok, leb-true, refl, subst, sym, IsPermutation, nat_le, not, slice_index_or}
+use Rattle.std.proofs.Common.{◌≡◌, ◌≤◌, ◌∷◌, [], ℕ, Bool, false, cond, List, Option, None, Some, Ok, leb-true, refl, subst}
+use Rattle.std.proofs.Common.{sym, IsPermutation, nat_le, not, slice_index_or}
 use Rattle.std.specs.List.{AllZip}
 use Rattle.rayon.proofs.ListFacts.{AllZip-weaken}
 use Rattle.std.specs.Option.{option_map, option_map_or}
@@ -42,10 +43,12 @@ use Rattle.answers.proofs.WinningFacts.{won-by}
 
 -- one bidder after the other, the bids whose columns are 1 are the same bids
 same-bids : (p : Table) (point : List Bool) → IsPermutation (back p.columns point) (allocation_of p point)
-same-bids p point = as-often (back p.columns point) (allocation_of p point) (λ c. sym (same_sum (λ d. cond (same_choice c d) 1 0) (back p.columns point) (back_bidders p.columns point)))
+same-bids p point = as-often (back p.columns point) (allocation_of p point)
+    (λ c. sym (same_sum (λ d. cond (same_choice c d) 1 0) (back p.columns point) (back_bidders p.columns point)))
 
 -- where the first allocation is the only one, each cost is settled
-pub settled-costs : (sale : Sale) (first : List Choice) → IsOnly sale.lots sale.book (λ b. false) first → (groups : List (List ℕ)) (won : List (List Choice)) → AllZip (IsGreatestWithout sale) groups won
+pub settled-costs : (sale : Sale) (first : List Choice) → IsOnly sale.lots sale.book (λ b. false) first
+    → (groups : List (List ℕ)) (won : List (List Choice)) → AllZip (IsGreatestWithout sale) groups won
     → AllZip (IsSettledCost sale first) groups won
 settled-costs sale first only = AllZip-weaken (IsGreatestWithout sale) (IsSettledCost sale first)
     (λ group a greatest first' a' best best'. sym (only_first_settles_costs sale.lots sale.book group first first' a a' only best greatest best').1)
@@ -55,16 +58,20 @@ module _ (sale : Sale) (within : IsBook sale.lots sale.book) (first : List Choic
   program = program_for sale []
 
   -- winners that a certificate shows to be the only ones of kept bids, where no bid does as well in a winner's place
-  only-one : (solved text : List ℕ) (point : List Bool) → solution program solved ≡ Ok point → allocation_of program point ≡ first → only_fault program point text ≡ None
+  only-one : (solved text : List ℕ) (point : List Bool) → solution program solved ≡ Ok point → allocation_of program point ≡ first
+      → only_fault program point text ≡ None
       → first_rival sale.lots sale.book first ≡ None → IsOnly sale.lots sale.book (λ b. false) first
   only-one solved text point parsed is faultless none =
       let (certificate, tells, shows) = (only-verdict program point text).0 faultless in
       let is_point = solutions_are_points program solved point parsed in
       let least = shown-is-only program point certificate is_point shows in
-      only_least_is_only sale.lots sale.book (λ b. false) point first within is_point least (subst (λ (a : List Choice). IsPermutation (back program.columns point) a) is (same-bids program point)) none
+      only_least_is_only sale.lots sale.book (λ b. false) point first within is_point least
+      (subst (λ (a : List Choice). IsPermutation (back program.columns point) a) is (same-bids program point)) none
 
-  only-or-rival : (solved text : List ℕ) (point : List Bool) → solution program solved ≡ Ok point → allocation_of program point ≡ first → only_fault program point text ≡ None
-      → (found : Option Choice) → first_rival sale.lots sale.book first ≡ found → Holds sale first (option_map_or (λ rival. uniqueness.Tie (with_bid rival first)) found uniqueness.Only)
+  only-or-rival : (solved text : List ℕ) (point : List Bool) → solution program solved ≡ Ok point → allocation_of program point ≡ first
+      → only_fault program point text ≡ None
+      → (found : Option Choice) → first_rival sale.lots sale.book first ≡ found
+      → Holds sale first (option_map_or (λ rival. uniqueness.Tie (with_bid rival first)) found uniqueness.Only)
   only-or-rival solved text point parsed is faultless None none = only-one solved text point parsed is faultless none
   only-or-rival solved text point parsed is faultless (Some c) found = rivals_tie rivals_do_as_well sale.lots sale.book (λ b. false) first c best found
 
@@ -72,7 +79,8 @@ pub no-fault : {F R : Type 0} (refuse : F → R) (o : Option F) → option_map r
 no-fault refuse None e = refl
 no-fault refuse (Some f) e = cc
 
-module _ (auction : Auction) (within : IsBook auction.sale.lots auction.sale.book) (first : List Choice) (best : IsGreatest auction.sale.lots auction.sale.book (λ b. false) first)
+module _ (auction : Auction) (within : IsBook auction.sale.lots auction.sale.book) (first : List Choice)
+    (best : IsGreatest auction.sale.lots auction.sale.book (λ b. false) first)
     (won : winners_by (first_program auction) 1 (slice_index_or auction.solutions 0 []) ≡ Ok first) where
   abbrev sale : Sale
   sale = auction.sale
@@ -93,7 +101,8 @@ module _ (auction : Auction) (within : IsBook auction.sale.lots auction.sale.boo
       let parsed_point = ok-refused_as (solution_refused p 1) (solution p solved) point point_is in
       let refuse = λ (f : ℕ × CertificateFaultKind). refusal.Unique (record { line = f.0; kind = f.1 }) in
       let (none, is) = unless-ok (option_map refuse (only_fault p point text)) (only_or_rival sale first) claim judged in
-      let holds = only-or-rival sale within first best solved text point parsed_point (wins point parsed_point) (no-fault refuse (only_fault p point text) none) (first_rival sale.lots sale.book first) refl in
+      let holds = only-or-rival sale within first best solved text point parsed_point (wins point parsed_point)
+      (no-fault refuse (only_fault p point text) none) (first_rival sale.lots sale.book first) refl in
       subst (λ (c : Uniqueness). Holds sale first c) is holds
 
   rises : (text : List ℕ) (other : List Choice) → winners_by p 1 text ≡ Ok other → HasRisingBidders other
@@ -107,11 +116,13 @@ module _ (auction : Auction) (within : IsBook auction.sale.lots auction.sale.boo
   tie-holds text claim parsed =
       let (other, other_is, ties) = ok-behind (refused_as of_tie (winners_by p 1 text)) (tied sale first) claim parsed in
       let wins_too = ok-refused_as of_tie (winners_by p 1 text) other other_is in
-      let checks = (nat_le (total sale.lots sale.book first) (total sale.lots sale.book other), refusal.LowerTie) ∷ (not (same_choices first other), refusal.SameTie) ∷ [] in
+      let checks = (nat_le (total sale.lots sale.book first) (total sale.lots sale.book other), refusal.LowerTie) ∷
+      (not (same_choices first other), refusal.SameTie) ∷ [] in
       let (none, is) = unless-ok (first_failed checks) (uniqueness.Tie other) claim ties in
       let each = none-failed checks none in
       let no_less : total sale.lots sale.book first ≤ total sale.lots sale.book other = leb-true _ _ each.0 in
-      let tie = others_tie sale.lots sale.book (λ b. false) first other best (feasible-of sale 1 [] text other within wins_too) no_less (rises solved first won) (rises text other wins_too) (not-true _ each.1.0) in
+      let tie = others_tie sale.lots sale.book (λ b. false) first other best (feasible-of sale 1 [] text other within wins_too) no_less
+      (rises solved first won) (rises text other wins_too) (not-true _ each.1.0) in
       subst (λ (c : Uniqueness). Holds sale first c) is tie
 
   -- whatever is claimed

@@ -19,7 +19,8 @@ use Rattle.auction_input.specs.ParsedTexts.{parsed_form, parsed_groups, parsed_t
 use Rattle.auction_input.specs.declared.request.Request.{Request}
 use Rattle.auction_input.specs.declared.refusal.Refusal.TheVariants as refusal
 use Rattle.auction_input.proofs.AnswerFacts.{ok-behind, ok-is, ok-refused_as, unless-ok, unless-parsed}
-use Rattle.answers.specs.Pricing.{cover_bound, cover_program, covered, parsed_least, parsed_prices, parsed_weights, priced, priced_by, pricing_counts, parsed_pricing}
+use Rattle.answers.specs.Pricing.{cover_bound, cover_program, covered, parsed_least, parsed_prices, parsed_weights, priced}
+use Rattle.answers.specs.Pricing.{priced_by, pricing_counts, parsed_pricing}
 use Rattle.answers.proofs.PricingFacts.{parsed-hold}
 use Rattle.optimality.proofs.VerdictFacts.{verdict}
 use Rattle.optimality.specs.Verdict.{certificate_fault}
@@ -36,7 +37,8 @@ use Rattle.answers.specs.Verified.{AreTruePrices, IsGreatestWithout}
 use Rattle.answers.proofs.OnlyFacts.{no-fault}
 
 -- a book has a form of each bidder of the rules
-pub auction-sized : (asked : Request) (input : Input) (auction : Auction) → parsed_auction asked input ≡ Ok auction → length auction.sale.book ≡ length auction.rules.bidders
+pub auction-sized : (asked : Request) (input : Input) (auction : Auction) → parsed_auction asked input ≡ Ok auction
+    → length auction.sale.book ≡ length auction.rules.bidders
 auction-sized asked input auction parsed =
     let (parts, parts_are, more) = ok-behind (parsed_parts asked input) _ auction parsed in
     let (t, t_is, more_forms) = ok-behind (parsed_terms (only_text (parts_named (codes "%rules") parts))) _ auction more in
@@ -50,7 +52,8 @@ module _ (auction : Auction) (within : IsBook auction.sale.lots auction.sale.boo
     (won : List (List Choice)) (first : List Choice) (best : IsGreatest auction.sale.lots auction.sale.book (λ b. false) first)
     (greatest : AllZip (IsGreatestWithout auction.sale) auction.groups won) where
   -- a cover
-  cover-holds : (prices text : List ℕ) (u : Unit {0}) → ArePrices auction.sale.book first (price_in prices) → covered auction first prices text ≡ Ok u → CoversEveryGroup auction.sale.lots auction.sale.book first (price_in prices)
+  cover-holds : (prices text : List ℕ) (u : Unit {0}) → ArePrices auction.sale.book first (price_in prices)
+      → covered auction first prices text ≡ Ok u → CoversEveryGroup auction.sale.lots auction.sale.book first (price_in prices)
   cover-holds prices text u fine parsed =
       let refuse = λ (f : ℕ × CertificateFaultKind). refusal.Cover (record { line = f.0; kind = f.1 }) in
       let p = cover_program auction first prices in
@@ -66,9 +69,11 @@ module _ (auction : Auction) (within : IsBook auction.sale.lots auction.sale.boo
   least-holds prices is_least (text ∷ more) parsed so =
       let (w, w_is, shown) = ok-behind (parsed_weights auction first text) _ is_least parsed in
       let ws : List Weighted = weighted auction.groups won w.groups in
-      let is = ok-is _ (shows_least_sum (reserves_in auction.rules) auction.sale.lots auction.sale.book first (price_in prices) w.scale ws (price_in w.own)) is_least refl shown in
+      let is = ok-is _ (shows_least_sum (reserves_in auction.rules) auction.sale.lots auction.sale.book first (price_in prices) w.scale ws
+      (price_in w.own)) is_least refl shown in
       shown_is_least_sum (reserves_in auction.rules) auction.sale.lots auction.sale.book first (price_in prices) w.scale ws (price_in w.own)
-      (All-from_recursion (λ (x : Weighted). IsGreatest auction.sale.lots auction.sale.book (has x.group) x.without) ws (all_greatest auction.sale.lots auction.sale.book auction.groups won w.groups greatest)) (is ∙ so)
+      (All-from_recursion (λ (x : Weighted). IsGreatest auction.sale.lots auction.sale.book (has x.group) x.without) ws
+      (all_greatest auction.sale.lots auction.sale.book auction.groups won w.groups greatest)) (is ∙ so)
 
   priced-holds : (text cover : List ℕ) (p : Priced) → priced auction won first text cover ≡ Ok p → AreTruePrices auction first p
   priced-holds text cover p parsed =
@@ -85,16 +90,24 @@ module _ (auction : Auction) (within : IsBook auction.sale.lots auction.sale.boo
       })
 
 -- whatever comes of the texts
-pub pricing-holds : (auction : Auction) (within : IsBook auction.sale.lots auction.sale.book) (count : length auction.sale.book ≡ length auction.rules.bidders) (won : List (List Choice))
-    (best : IsGreatest auction.sale.lots auction.sale.book (λ b. false) (slice_index_or won 0 [])) (greatest : AllZip (IsGreatestWithout auction.sale) auction.groups won) (pricing : Option Priced)
+pub pricing-holds : (auction : Auction) (within : IsBook auction.sale.lots auction.sale.book)
+    (count : length auction.sale.book ≡ length auction.rules.bidders) (won : List (List Choice))
+    (best : IsGreatest auction.sale.lots auction.sale.book (λ b. false) (slice_index_or won 0 []))
+    (greatest : AllZip (IsGreatestWithout auction.sale) auction.groups won) (pricing : Option Priced)
     → parsed_pricing auction won ≡ Ok pricing → IfSome pricing (AreTruePrices auction (slice_index_or won 0 [])) × (pricing ≡ None → auction.prices ≡ [])
-pricing-holds auction within count won best greatest pricing parsed = by auction.prices (unless-parsed (first_failed (pricing_counts auction)) _ pricing parsed).1
+pricing-holds auction within count won best greatest pricing parsed =
+    by auction.prices (unless-parsed (first_failed (pricing_counts auction)) _ pricing parsed).1
   where
-    by : (texts : List (List ℕ)) → priced_by auction won texts auction.covers ≡ Ok pricing → IfSome pricing (AreTruePrices auction (slice_index_or won 0 [])) × (pricing ≡ None → texts ≡ [])
-    by [] is = (let none : None ≡ pricing = ok-is _ None pricing refl is in (subst (λ (o : Option Priced). IfSome o (AreTruePrices auction (slice_index_or won 0 []))) none tt, λ e. refl))
+    by : (texts : List (List ℕ)) → priced_by auction won texts auction.covers ≡ Ok pricing
+        → IfSome pricing (AreTruePrices auction (slice_index_or won 0 [])) × (pricing ≡ None → texts ≡ [])
+    by [] is = (let none : None ≡ pricing = ok-is _ None pricing refl is in
+        (subst (λ (o : Option Priced). IfSome o (AreTruePrices auction (slice_index_or won 0 []))) none tt, λ e. refl))
     by (text ∷ more) is =
         let first = slice_index_or won 0 [] in
         let cover = slice_index_or auction.covers 0 [] in
         let (p, p_is, rest) = ok-behind (priced auction won first text cover) _ pricing is in
-        let some : Some p ≡ pricing = ok-is _ (Some p) pricing refl rest in
-        (subst (λ (o : Option Priced). IfSome o (AreTruePrices auction first)) some (priced-holds auction within count won first best greatest text cover p p_is), λ e. absurd (let wrong : Some p ≡ None = some ∙ e in cc))
+        let some : Some p ≡ pricing = ok-is _ (Some p) pricing refl rest in (
+          subst (λ (o : Option Priced). IfSome o (AreTruePrices auction first)) some (priced-holds auction within count won first best
+              greatest text cover p p_is),
+          λ e. absurd (let wrong : Some p ≡ None = some ∙ e in cc),
+        )

@@ -1,5 +1,7 @@
 -- What prices that a text gives keep to.
-use Rattle.std.proofs.Common.{◌≡◌, ◌⊎◌, ◌≤◌, ◌<◌, ◌+◌, ◌∷◌, ◌∙◌, [], inl, inr, ap, drop, drop-cons, refl, sym, Result, Ok, Err, ℕ, zero, suc, Bool, true, false, List, Option, None, Some, arith, eqb-true, leb-true, nat_le, subst, length, slice_index_or}
+use Rattle.std.proofs.Common.{◌≡◌, ◌⊎◌, ◌≤◌, ◌<◌, ◌+◌, ◌∷◌, ◌∙◌, [], inl, inr, ap, drop, drop-cons, refl, sym, Result, Ok}
+use Rattle.std.proofs.Common.{Err, ℕ, zero, suc, Bool, true, false, List, Option, None, Some, arith, eqb-true, leb-true}
+use Rattle.std.proofs.Common.{nat_le, subst, length, slice_index_or}
 use Rattle.std.specs.List.{AllByRecursion, AllZip}
 use Rattle.std.specs.Option.{option_map, option_map_or, option_or}
 use Rattle.std.proofs.lemmas.List.Elements.{All-from_recursion, recursion_from_All}
@@ -34,7 +36,9 @@ use Rattle.auction_input.specs.declared.given_numbers.GivenNumber.{GivenNumber}
 use Rattle.auction_input.specs.declared.given_numbers.Subject.TheVariants as subject
 use Rattle.prices.specs.Prices.{ArePrices, MeetReserves, reserves_in}
 use Rattle.program_rows.specs.Faithful.{IsGreatest}
-use Rattle.answers.specs.Pricing.{IsTooWideCover, ParsedWeights, cover_bound, cover_program, covered, known_by_prices, known_by_weights, parsed_least, parsed_prices, parsed_weights, price_fault, priced, priced_by, pricing_counts, parsed_pricing, scaled, winner_fault, winners_fault}
+use Rattle.answers.specs.Pricing.{IsTooWideCover, ParsedWeights, cover_bound, cover_program, covered, known_by_prices}
+use Rattle.answers.specs.Pricing.{known_by_weights, parsed_least, parsed_prices, parsed_weights, price_fault, priced}
+use Rattle.answers.specs.Pricing.{priced_by, pricing_counts, parsed_pricing, scaled, winner_fault, winners_fault}
 
 -- ---- the bidders of a book
 
@@ -61,28 +65,34 @@ module _ (rules : Terms) (sale : Sale) (given : List GivenNumber) where
   fine : (c : Choice) → winner_fault rules sale given c ≡ None → IsFine c
   fine c none = by (given_to given (subject.Bidder c.bidder)) none
     where
-      by : (o : Option GivenNumber) → price_fault rules sale c o ≡ None → (weighed_choice (reserves_in rules) sale.book c ≤ option_map_or (λ g. g.number) o 0) × (option_map_or (λ g. g.number) o 0 ≤ amount_of sale.book c)
+      by : (o : Option GivenNumber) → price_fault rules sale c o ≡ None
+          → (weighed_choice (reserves_in rules) sale.book c ≤ option_map_or (λ g. g.number) o 0)
+          × (option_map_or (λ g. g.number) o 0 ≤ amount_of sale.book c)
       by None h = cc
       by (Some g) h =
-          let checks : List (Bool × Refusal) = (nat_le g.number (amount_of sale.book c), refusal.Prices (fault.AboveAmount g.place)) ∷ (nat_le (weighed_choice (reserves_in rules) sale.book c) g.number, refusal.Prices (fault.BelowReserve g.place)) ∷ [] in
+          let checks : List (Bool × Refusal) = (nat_le g.number (amount_of sale.book c), refusal.Prices (fault.AboveAmount g.place)) ∷
+          (nat_le (weighed_choice (reserves_in rules) sale.book c) g.number, refusal.Prices (fault.BelowReserve g.place)) ∷ [] in
           let each = none-failed checks h in
           (leb-true _ _ each.1.0, leb-true _ _ each.0)
 
   all-fine : (a : List Choice) → winners_fault rules sale given a ≡ None → AllByRecursion IsFine a
   all-fine [] none = tt
-  all-fine (c ∷ a) none = (let (here, later) = neither (winner_fault rules sale given c) (winners_fault rules sale given a) none in (fine c here, all-fine a later))
+  all-fine (c ∷ a) none = (let (here, later) = neither (winner_fault rules sale given c) (winners_fault rules sale given a) none in
+      (fine c here, all-fine a later))
 
   -- the prices by a list
   listed : (n b : ℕ) → 1 ≤ b → b ≤ n → price_in (numbers_of_bidders given n) b ≡ price b
   listed n zero some few = absurd (omega arith)
   listed n (suc b) some few = get_or-map-range_with_len (λ (k : ℕ). number_given given (subject.Bidder k)) 1 n b (suc b) 0 (omega arith) (omega arith)
 
-  module _ (lots : Lots) (n : ℕ) (first : List Choice) (count : length sale.book ≡ n) (feasible : IsFeasible lots sale.book (λ b. false) first) (none : winners_fault rules sale given first ≡ None) where
+  module _ (lots : Lots) (n : ℕ) (first : List Choice) (count : length sale.book ≡ n)
+      (feasible : IsFeasible lots sale.book (λ b. false) first) (none : winners_fault rules sale given first ≡ None) where
     abbrev prices : List ℕ
     prices = numbers_of_bidders given n
 
     each : (a : List Choice) → AllByRecursion (λ c. is_eligible sale.book (λ b. false) c ≡ true) a → AllByRecursion IsFine a
-        → AllByRecursion (λ c. price_in prices c.bidder ≤ amount_of sale.book c) a × AllByRecursion (λ c. weighed_choice (reserves_in rules) sale.book c ≤ price_in prices c.bidder) a
+        → AllByRecursion (λ c. price_in prices c.bidder ≤ amount_of sale.book c) a
+        × AllByRecursion (λ c. weighed_choice (reserves_in rules) sale.book c ≤ price_in prices c.bidder) a
     each [] eligible fine = (tt, tt)
     each (c ∷ a) eligible fine =
         let v = value_of (bid_of sale.book c) eligible.0 in
@@ -91,7 +101,8 @@ module _ (rules : Terms) (sale : Sale) (given : List GivenNumber) where
         let (most, least) = each a eligible.1 fine.1 in
         ((rw is fine.0.1, most), (rw is fine.0.0, least))
 
-    both : AllByRecursion (λ c. price_in prices c.bidder ≤ amount_of sale.book c) first × AllByRecursion (λ c. weighed_choice (reserves_in rules) sale.book c ≤ price_in prices c.bidder) first
+    both : AllByRecursion (λ c. price_in prices c.bidder ≤ amount_of sale.book c) first
+        × AllByRecursion (λ c. weighed_choice (reserves_in rules) sale.book c ≤ price_in prices c.bidder) first
     both = each first (recursion_from_All (λ c. is_eligible sale.book (λ b. false) c ≡ true) first feasible.eligible) (all-fine first none)
 
     pub are-prices : ArePrices sale.book first (price_in prices)
@@ -104,26 +115,32 @@ module _ (rules : Terms) (sale : Sale) (given : List GivenNumber) where
 
 module _ (rules : Terms) (sale : Sale) (given : List GivenNumber) (all : List Choice) (i : ℕ) (d : Choice) (here : i < length all)
     (so_far : winners_fault rules sale given all ≡ winners_fault rules sale given (drop i all)) where
-  ahead : winners_fault rules sale given all ≡ option_or (winner_fault rules sale given (slice_index_or all i d)) (winners_fault rules sale given (drop (suc i) all))
+  ahead : winners_fault rules sale given all ≡ option_or (winner_fault rules sale given (slice_index_or all i d))
+      (winners_fault rules sale given (drop (suc i) all))
   ahead = so_far ∙ ap (λ (xs : List Choice). winners_fault rules sale given xs) (drop-cons all i d here)
 
-  pub winner-passed : winner_fault rules sale given (slice_index_or all i d) ≡ None → winners_fault rules sale given all ≡ winners_fault rules sale given (drop (i + 1) all)
+  pub winner-passed : winner_fault rules sale given (slice_index_or all i d) ≡ None
+      → winners_fault rules sale given all ≡ winners_fault rules sale given (drop (i + 1) all)
   winner-passed none =
       let next : suc i ≡ i + 1 = omega arith in
-      ahead ∙ ap (λ (o : Option Refusal). option_or o (winners_fault rules sale given (drop (suc i) all))) none ∙ ap (λ (k : ℕ). winners_fault rules sale given (drop k all)) next
+      ahead ∙ ap (λ (o : Option Refusal). option_or o (winners_fault rules sale given (drop (suc i) all))) none
+      ∙ ap (λ (k : ℕ). winners_fault rules sale given (drop k all)) next
 
-  pub winner-refused : (r : Refusal) → (r ≡ refusal.OutOfMemory) ⊎ (winner_fault rules sale given (slice_index_or all i d) ≡ Some r) → (r ≡ refusal.OutOfMemory) ⊎ (winners_fault rules sale given all ≡ Some r)
+  pub winner-refused : (r : Refusal) → (r ≡ refusal.OutOfMemory) ⊎ (winner_fault rules sale given (slice_index_or all i d) ≡ Some r)
+      → (r ≡ refusal.OutOfMemory) ⊎ (winners_fault rules sale given all ≡ Some r)
   winner-refused r (inl memory) = inl memory
   winner-refused r (inr found) = inr (ahead ∙ ap (λ (o : Option Refusal). option_or o (winners_fault rules sale given (drop (suc i) all))) found)
 
 -- ---- the first of what is won
 
-pub first-greatest : (lots : Lots) (book : Book) (groups : List (List ℕ)) (won : List (List Choice)) → starts_empty groups ≡ true → AllZip (λ group a. IsGreatest lots book (has group) a) groups won
+pub first-greatest : (lots : Lots) (book : Book) (groups : List (List ℕ)) (won : List (List Choice)) → starts_empty groups ≡ true
+    → AllZip (λ group a. IsGreatest lots book (has group) a) groups won
     → (1 ≤ length won) × IsGreatest lots book (λ b. false) (slice_index_or won 0 [])
 first-greatest lots book [] won starts greatest = cc
 first-greatest lots book ([] ∷ groups) [] starts greatest = absurd greatest
 first-greatest lots book ([] ∷ groups) (a ∷ won) starts greatest = (omega arith, greatest.0)
-first-greatest lots book ((b ∷ group) ∷ groups) won starts greatest = (let none : length (b ∷ group) ≡ 0 = eqb-true (length (b ∷ group)) 0 starts in absurd (omega arith))
+first-greatest lots book ((b ∷ group) ∷ groups) won starts greatest =
+    (let none : length (b ∷ group) ≡ 0 = eqb-true (length (b ∷ group)) 0 starts in absurd (omega arith))
 
 -- ---- the cover
 
@@ -137,29 +154,37 @@ module _ (auction : Auction) (first : List Choice) (prices text : List ℕ) wher
   pub cover-parsed : found ≡ None → covered auction first prices text ≡ Ok tt
   cover-parsed none = ap judged none
 
-  by-kind : (line : ℕ) (k : CertificateFaultKind) → IsLimit k ⊎ (found ≡ Some (line, k)) → (k ≡ kind.TooLarge → IsLargeAt (cover_program auction first prices) (cover_bound auction first prices) text line)
-      → Refuses (covered auction first prices text) (refusal.Cover (record { line = line; kind = k })) ⊎ IsTooWideCover auction first prices text (refusal.Cover (record { line = line; kind = k }))
+  by-kind : (line : ℕ) (k : CertificateFaultKind) → IsLimit k ⊎ (found ≡ Some (line, k))
+      → (k ≡ kind.TooLarge → IsLargeAt (cover_program auction first prices) (cover_bound auction first prices) text line)
+      → Refuses (covered auction first prices text) (refusal.Cover (record { line = line; kind = k }))
+      ⊎ IsTooWideCover auction first prices text (refusal.Cover (record { line = line; kind = k }))
   by-kind line k (inl (inl memory)) large = inl (inr (rw memory refl))
   by-kind line k (inl (inr wide)) large = inr (line, large wide, rw wide refl)
   by-kind line k (inr is) large = inl (inl (ap judged is))
 
-  pub cover-refused : (f : CertificateFault) → IsLimit f.kind ⊎ (found ≡ Some (f.line, f.kind)) → (f.kind ≡ kind.TooLarge → IsLargeAt (cover_program auction first prices) (cover_bound auction first prices) text f.line)
+  pub cover-refused : (f : CertificateFault) → IsLimit f.kind ⊎ (found ≡ Some (f.line, f.kind))
+      → (f.kind ≡ kind.TooLarge → IsLargeAt (cover_program auction first prices) (cover_bound auction first prices) text f.line)
       → Refuses (covered auction first prices text) (refusal.Cover f) ⊎ IsTooWideCover auction first prices text (refusal.Cover f)
   cover-refused f verdict large = by-kind f.line f.kind verdict large
 
 -- prices that a text gives are prices
-pub parsed-hold : (auction : Auction) (first : List Choice) (text prices : List ℕ) → length auction.sale.book ≡ length auction.rules.bidders → IsFeasible auction.sale.lots auction.sale.book (λ b. false) first → parsed_prices auction first text ≡ Ok prices
+pub parsed-hold : (auction : Auction) (first : List Choice) (text prices : List ℕ) → length auction.sale.book ≡ length auction.rules.bidders
+    → IsFeasible auction.sale.lots auction.sale.book (λ b. false) first → parsed_prices auction first text ≡ Ok prices
     → ArePrices auction.sale.book first (price_in prices) × MeetReserves (reserves_in auction.rules) auction.sale.book first (price_in prices)
 parsed-hold auction first text prices count feasible parsed =
     let (given, given_is, taken) = ok-behind (refused_as refusal.Prices (parsed_given (known_by_prices auction.rules first) text)) _ prices parsed in
     let n : ℕ = length auction.rules.bidders in
     let (none, is) = unless-ok (winners_fault auction.rules auction.sale given first) (numbers_of_bidders given n) prices taken in
-    subst (λ (xs : List ℕ). ArePrices auction.sale.book first (price_in xs) × MeetReserves (reserves_in auction.rules) auction.sale.book first (price_in xs)) is
-    (are-prices auction.rules auction.sale given auction.sale.lots n first count feasible none, meet-reserves auction.rules auction.sale given auction.sale.lots n first count feasible none)
+    subst (λ (xs : List ℕ). ArePrices auction.sale.book first (price_in xs) × MeetReserves (reserves_in auction.rules) auction.sale.book first (price_in xs)) is (
+      are-prices auction.rules auction.sale given auction.sale.lots n first count feasible none,
+      meet-reserves auction.rules auction.sale
+          given auction.sale.lots n first count feasible none,
+    )
 
 -- ---- all of it
 
-module _ (auction : Auction) (won : List (List Choice)) (first : List Choice) (text cover prices : List ℕ) (parsed : parsed_prices auction first text ≡ Ok prices) where
+module _ (auction : Auction) (won : List (List Choice)) (first : List Choice) (text cover prices : List ℕ)
+    (parsed : parsed_prices auction first text ≡ Ok prices) where
   pub pricing-covered : (is_least : Bool) → covered auction first prices cover ≡ Ok tt → parsed_least auction won first prices auction.weights ≡ Ok is_least
       → priced auction won first text cover ≡ Ok (record { prices = prices; is_least = is_least })
   pricing-covered is_least shown least = next _ prices _ _ parsed (next _ tt _ _ shown (next _ is_least _ _ least refl))
@@ -167,16 +192,26 @@ module _ (auction : Auction) (won : List (List Choice)) (first : List Choice) (t
   pub pricing-uncovered : (r : Refusal) → Refuses (covered auction first prices cover) r → Refuses (priced auction won first text cover) r
   pricing-uncovered r refused = behind _ prices _ r parsed (stop _ _ r refused)
 
-  pub pricing-unweighed : (r : Refusal) → covered auction first prices cover ≡ Ok tt → Refuses (parsed_least auction won first prices auction.weights) r → Refuses (priced auction won first text cover) r
+  pub pricing-unweighed : (r : Refusal) → covered auction first prices cover ≡ Ok tt
+      → Refuses (parsed_least auction won first prices auction.weights) r → Refuses (priced auction won first text cover) r
   pricing-unweighed r shown refused = behind _ prices _ r parsed (behind _ tt _ r shown (stop _ _ r refused))
 
-  pub not-covered : (slice text' : List ℕ) (r : Refusal) → slice ≡ prices → text' ≡ cover → Refuses (covered auction first slice text') r ⊎ IsTooWideCover auction first slice text' r
+  pub not-covered : (slice text' : List ℕ) (r : Refusal) → slice ≡ prices → text' ≡ cover
+      → Refuses (covered auction first slice text') r ⊎ IsTooWideCover auction first slice text' r
       → Refuses (priced auction won first text cover) r ⊎ ((xs : List ℕ) × (parsed_prices auction first text ≡ Ok xs) × IsTooWideCover auction first xs cover r)
-  not-covered slice text' r same is (inl refused) = inl (pricing-uncovered r (subst (λ (x : List ℕ). Refuses (covered auction first prices x) r) is (subst (λ (x : List ℕ). Refuses (covered auction first x text') r) same refused)))
-  not-covered slice text' r same is (inr wide) = inr (prices, parsed, subst (λ (x : List ℕ). IsTooWideCover auction first prices x r) is (subst (λ (x : List ℕ). IsTooWideCover auction first x text' r) same wide))
+  not-covered slice text' r same is (inl refused) = inl (pricing-uncovered r
+      (subst (λ (x : List ℕ). Refuses (covered auction first prices x) r) is
+      (subst (λ (x : List ℕ). Refuses (covered auction first x text') r) same refused)))
+  not-covered slice text' r same is (inr wide) = inr (
+    prices,
+    parsed,
+    subst (λ (x : List ℕ). IsTooWideCover auction first prices x
+        r) is (subst (λ (x : List ℕ). IsTooWideCover auction first x text' r) same wide),
+  )
 
 -- there is a weight for each group
-pub as-many : (auction : Auction) (first : List Choice) (text : List ℕ) (w : ParsedWeights) → parsed_weights auction first text ≡ Ok w → length w.groups ≡ length auction.groups
+pub as-many : (auction : Auction) (first : List Choice) (text : List ℕ) (w : ParsedWeights) → parsed_weights auction first text ≡ Ok w
+    → length w.groups ≡ length auction.groups
 as-many auction first text w parsed =
     let (given, given_is, scaled_is) = ok-behind (refused_as refusal.Weights (parsed_given (known_by_weights auction first) text)) _ w parsed in
     by given (given_to given subject.Scale) scaled_is
@@ -184,9 +219,15 @@ as-many auction first text w parsed =
     by : (given : List GivenNumber) (o : Option GivenNumber) → scaled auction given o ≡ Ok w → length w.groups ≡ length auction.groups
     by given None is = cc
     by given (Some g) is =
-        let made : ParsedWeights = record { scale = g.number; groups = numbers_of_groups given (length auction.groups); own = numbers_of_bidders given (length auction.rules.bidders) } in
+        let made : ParsedWeights = record {
+          scale = g.number;
+          groups = numbers_of_groups given (length auction.groups);
+          own =
+              numbers_of_bidders given (length auction.rules.bidders);
+        } in
         let same : made ≡ w = ok-is _ made w refl is in
-        subst (λ (x : ParsedWeights). length x.groups ≡ length auction.groups) same (length-map-range_with_len (λ (k : ℕ). number_given given (subject.Group k)) 1 (length auction.groups))
+        subst (λ (x : ParsedWeights). length x.groups ≡ length auction.groups) same
+        (length-map-range_with_len (λ (k : ℕ). number_given given (subject.Group k)) 1 (length auction.groups))
 
 module _ (auction : Auction) (won : List (List Choice)) (fine : first_failed (pricing_counts auction) ≡ None) where
   counted : parsed_pricing auction won ≡ priced_by auction won auction.prices auction.covers
@@ -198,7 +239,9 @@ module _ (auction : Auction) (won : List (List Choice)) (fine : first_failed (pr
   with-prices : 0 < length auction.prices → parsed_pricing auction won ≡ and_then whole (λ p. Ok (Some p))
   with-prices some = counted ∙ by auction.prices some
     where
-      by : (texts : List (List ℕ)) → 0 < length texts → priced_by auction won texts auction.covers ≡ and_then (priced auction won (slice_index_or won 0 []) (slice_index_or texts 0 []) (slice_index_or auction.covers 0 [])) (λ p. Ok (Some p))
+      by : (texts : List (List ℕ)) → 0 < length texts
+          → priced_by auction won texts auction.covers ≡ and_then (priced auction won (slice_index_or won 0 []) (slice_index_or texts 0 [])
+          (slice_index_or auction.covers 0 [])) (λ p. Ok (Some p))
       by [] some = absurd (omega arith)
       by (text ∷ more) some = refl
 
@@ -206,5 +249,6 @@ module _ (auction : Auction) (won : List (List Choice)) (fine : first_failed (pr
   prices-refuse r some refused = refuses-as _ _ r (with-prices some) (stop _ _ r refused)
 
 -- the counts, one by one
-pub counts-say : (auction : Auction) → first_failed (pricing_counts auction) ≡ None → (length auction.prices ≤ 1) × (length auction.covers ≡ length auction.prices)
+pub counts-say : (auction : Auction) → first_failed (pricing_counts auction) ≡ None
+    → (length auction.prices ≤ 1) × (length auction.covers ≡ length auction.prices)
 counts-say auction fine = (let each = none-failed (pricing_counts auction) fine in (leb-true _ _ each.0, eqb-true _ _ each.1.0))

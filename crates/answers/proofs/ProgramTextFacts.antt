@@ -24,7 +24,9 @@ program-refused text f large parsed = elim (leb_tells 67108865 (length text)) [
 ]
 
 -- a text that is read is a program
-pub program-parsed : (text : List ℕ) (p : Table) → (PROGRAM_LIMIT < length text → Ok p ≡ no_program (record { line = 0; kind = kind.TooLarge })) → (length text ≤ PROGRAM_LIMIT → IsRead (Ok p) (meaning text)) → sized PROGRAM_LIMIT (0, kind.TooLarge) meaning text ≡ Ok p
+pub program-parsed : (text : List ℕ) (p : Table)
+    → (PROGRAM_LIMIT < length text → Ok p ≡ no_program (record { line = 0; kind = kind.TooLarge }))
+    → (length text ≤ PROGRAM_LIMIT → IsRead (Ok p) (meaning text)) → sized PROGRAM_LIMIT (0, kind.TooLarge) meaning text ≡ Ok p
 program-parsed text p large parsed = elim (leb_tells 67108865 (length text)) [
   | inl (_, more) ↦ (let e = large (omega arith) in cc)
   | inr (is, few) ↦ rw is (parsed (omega arith))

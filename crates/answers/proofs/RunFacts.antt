@@ -17,7 +17,8 @@ use Rattle.answers.specs.Asked.{Asked, CommandLine, by_fault, for_answer, for_no
 use Rattle.auction_input.specs.Line.{Puts, line}
 use Rattle.auction_input.specs.declared.refusal.Refusal.{Refusal}
 use Rattle.answers.specs.Outside.{Outside, SinkState}
-use Rattle.answers.specs.Runs.{AsksAnswer, HasExplained, IsDone, IsRefused, IsRun, IsShown, IsUndone, Reads, by_lines, by_memory, by_request, by_showing, by_text}
+use Rattle.answers.specs.Runs.{AsksAnswer, HasExplained, IsDone, IsRefused, IsRun, IsShown, IsUndone, Reads, by_lines}
+use Rattle.answers.specs.Runs.{by_memory, by_request, by_showing, by_text}
 use Rattle.answers.specs.inside.Runs.{HasExplainedInput, HasShown, IsLeftUnanswered, IsReported, IsReportedSo, IsUnreported}
 
 -- every request but `explain` asks for an answer
@@ -26,7 +27,8 @@ asks-answer (request.Explain bids command) input others = absurd (others bids co
 asks-answer asked input others = tt
 
 -- the command for which faults are reported refuses the input, too
-refused-as : (bids : Bool) (whose : Option Target) (asked : Request) (input : Input) → asked ≡ request.Explain bids whose → IsErr (parsed_taken asked input) → IsRefusedBy (target_of asked) input
+refused-as : (bids : Bool) (whose : Option Target) (asked : Request) (input : Input) → asked ≡ request.Explain bids whose
+    → IsErr (parsed_taken asked input) → IsRefusedBy (target_of asked) input
 refused-as bids whose asked input asks wrong =
     subst (λ (a : Request). IsErr (parsed_taken a input) → IsRefusedBy (target_of a) input) (sym asks) (refused-by bids whose input) wrong
 
@@ -39,17 +41,21 @@ outside left reads output faults = record { left = left; failed_reads = reads; o
 
 module _ (content : List ℕ → Option (List ℕ)) where
   -- a run of what is asked for in other words
-  pub run-as : (asked parsed : Asked) (status : ℕ) (before after : Outside) → asked ≡ parsed → IsRun content parsed status before after → IsRun content asked status before after
+  pub run-as : (asked parsed : Asked) (status : ℕ) (before after : Outside) → asked ≡ parsed → IsRun content parsed status before after
+      → IsRun content asked status before after
   run-as asked parsed status before after is run = subst (λ (a : Asked). IsRun content a status before after) (sym is) run
 
   -- a run from an output in the same state
-  pub run-from : (asked : Asked) (status : ℕ) (left : Option (List ℕ)) (reads : ℕ) (output output' faults : SinkState) (after : Outside) → output' ≡ output → IsRun content asked status (outside left reads output' faults) after
+  pub run-from : (asked : Asked) (status : ℕ) (left : Option (List ℕ)) (reads : ℕ) (output output' faults : SinkState) (after : Outside)
+      → output' ≡ output → IsRun content asked status (outside left reads output' faults) after
       → IsRun content asked status (outside left reads output faults) after
-  run-from asked status left reads output output' faults after same run = subst (λ (s : SinkState). IsRun content asked status (outside left reads s faults) after) same run
+  run-from asked status left reads output output' faults after same run =
+      subst (λ (s : SinkState). IsRun content asked status (outside left reads s faults) after) same run
 
   -- a run that is refused, or prints faults
   pub run-refused : (asked : Asked) (before after : Outside)
-      → ((parsed : List ℕ) × IsUndone content asked before after parsed × Puts parsed before.faults.taken after.faults.taken before.faults.failures after.faults.failures) ⊎ HasExplained content asked before after
+      → ((parsed : List ℕ) × IsUndone content asked before after parsed × Puts parsed before.faults.taken after.faults.taken
+      before.faults.failures after.faults.failures) ⊎ HasExplained content asked before after
       → IsRun content asked 1 before after
   run-refused asked before after why = record {
     done = λ zero. absurd (omega (arith, zero));
@@ -61,7 +67,8 @@ module _ (content : List ℕ → Option (List ℕ)) where
   }
 
   -- a run of a command line that is refused
-  pub command-refused : (asked : CommandLine) (before after : Outside) (parsed : List ℕ) → IsRefused content asked before after parsed → Puts parsed before.faults.taken after.faults.taken before.faults.failures after.faults.failures
+  pub command-refused : (asked : CommandLine) (before after : Outside) (parsed : List ℕ) → IsRefused content asked before after parsed
+      → Puts parsed before.faults.taken after.faults.taken before.faults.failures after.faults.failures
       → IsRun content (for_answer asked) 1 before after
   command-refused asked before after parsed why puts = run-refused (for_answer asked) before after (inl (parsed, by_request asked refl why, puts))
 
@@ -70,7 +77,8 @@ module _ (content : List ℕ → Option (List ℕ)) where
     refused-so parsed (r, is, inl (asks, unwritten)) = subst (IsRefused content asked before after) (sym is) (by_text input read asks unwritten)
     refused-so parsed (r, is, inr (bids, whose, asks, cut)) = subst (IsRefused content asked before after) (sym is) (by_lines bids whose asks input read cut)
 
-    explained-so : after.failed_reads ≡ before.failed_reads → HasExplainedInput asked.request input before.output after.output → after.faults ≡ before.faults → HasExplained content (for_answer asked) before after
+    explained-so : after.failed_reads ≡ before.failed_reads → HasExplainedInput asked.request input before.output after.output
+        → after.faults ≡ before.faults → HasExplained content (for_answer asked) before after
     explained-so reads (bids, whose, asks, wrong, sent, puts) quiet = record {
       command = asked;
       bids = bids;
@@ -87,10 +95,13 @@ module _ (content : List ℕ → Option (List ℕ)) where
       quiet = quiet;
     }
 
-    left-so : IsReportedSo (IsLeftUnanswered asked.request input before.output after.output) before.faults.taken after.faults.taken before.faults.failures after.faults.failures
-        ⊎ (HasExplainedInput asked.request input before.output after.output × (after.faults.taken ≡ before.faults.taken) × (after.faults.failures ≡ before.faults.failures))
+    left-so : IsReportedSo (IsLeftUnanswered asked.request input before.output after.output) before.faults.taken after.faults.taken
+        before.faults.failures after.faults.failures
+        ⊎ (HasExplainedInput asked.request input before.output after.output × (after.faults.taken ≡ before.faults.taken) ×
+        (after.faults.failures ≡ before.faults.failures))
         → after.failed_reads ≡ before.failed_reads
-        → ((parsed : List ℕ) × IsUndone content (for_answer asked) before after parsed × Puts parsed before.faults.taken after.faults.taken before.faults.failures after.faults.failures) ⊎ HasExplained content (for_answer asked) before after
+        → ((parsed : List ℕ) × IsUndone content (for_answer asked) before after parsed × Puts parsed before.faults.taken after.faults.taken
+        before.faults.failures after.faults.failures) ⊎ HasExplained content (for_answer asked) before after
     left-so (inl (parsed, why, puts)) reads = inl (parsed, by_request asked refl (refused-so parsed why), puts)
     left-so (inr (explained, taken, failures)) reads = inr (explained-so reads explained (same-state before.faults after.faults taken failures))
 
@@ -100,8 +111,10 @@ module _ (content : List ℕ → Option (List ℕ)) where
         → (status ≡ 0 → (after.faults.taken ≡ before.faults.taken) × (after.faults.failures ≡ before.faults.failures))
         → (status ≡ 0 → after.output.failures ≡ before.output.failures)
         → (status ≡ 1
-        → IsReportedSo (IsLeftUnanswered asked.request input before.output after.output) before.faults.taken after.faults.taken before.faults.failures after.faults.failures
-        ⊎ (HasExplainedInput asked.request input before.output after.output × (after.faults.taken ≡ before.faults.taken) × (after.faults.failures ≡ before.faults.failures)))
+        → IsReportedSo (IsLeftUnanswered asked.request input before.output after.output) before.faults.taken after.faults.taken
+        before.faults.failures after.faults.failures
+        ⊎ (HasExplainedInput asked.request input before.output after.output × (after.faults.taken ≡ before.faults.taken) ×
+        (after.faults.failures ≡ before.faults.failures)))
         → IsRun content (for_answer asked) status before after
     run-read status most reads written quiet succeeded left = record {
       done = λ zero. inl (asked, refl, (input, read, taken-for asked.request input before.output.taken after.output.taken (written zero), written zero));
@@ -128,9 +141,11 @@ module _ (content : List ℕ → Option (List ℕ)) where
     ]
 
     module _ (left : Option (List ℕ)) (reads : ℕ) (output output' faults faults' : SinkState) where
-      undone-so : (r : Refusal) → IsUnreported (by_fault k) output output' r → IsUndone content asked (outside left reads output faults) (outside left reads output' faults') (line r)
+      undone-so : (r : Refusal) → IsUnreported (by_fault k) output output' r
+          → IsUndone content asked (outside left reads output faults) (outside left reads output' faults') (line r)
       undone-so r (inl (text, shown, ends)) = by_showing text (shown-as text shown) refl ends
-      undone-so r (inr (out, kept)) = subst (λ (x : Refusal). IsUndone content asked (outside left reads output faults) (outside left reads output' faults') (line x)) (sym out) (by_memory refl kept)
+      undone-so r (inr (out, kept)) = subst (λ (x : Refusal). IsUndone content asked (outside left reads output faults)
+          (outside left reads output' faults') (line x)) (sym out) (by_memory refl kept)
 
       pub run-faulty : (status : ℕ) → (status ≡ 0 → HasShown (by_fault k) output.taken output'.taken)
           → (status ≡ 0 → (faults'.taken ≡ faults.taken) × (faults'.failures ≡ faults.failures))

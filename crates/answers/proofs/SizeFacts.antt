@@ -1,5 +1,6 @@
 -- Counting entries, column by column.
-use Rattle.std.proofs.Common.{◌≡◌, ◌+◌, ◌-◌, ◌^◌, ℕ, zero, suc, List, [], ◌∷◌, ◌++◌, Option, None, Some, length, take, refl, ap, sym, ◌∙◌, arith, min, slice_get, sum_by, ℤ, option_map}
+use Rattle.std.proofs.Common.{◌≡◌, ◌+◌, ◌-◌, ◌^◌, ℕ, zero, suc, List, [], ◌∷◌, ◌++◌, Option, None, Some, length, take, refl}
+use Rattle.std.proofs.Common.{ap, sym, ◌∙◌, arith, min, slice_get, sum_by, ℤ, option_map}
 use Rattle.std.proofs.lemmas.List.Sums.{sum_by-append}
 use Rattle.program_rows.specs.Program.{TableColumn}
 
@@ -7,7 +8,8 @@ use Rattle.program_rows.specs.Program.{TableColumn}
 abbrev pub entry_count : List TableColumn → ℕ
 entry_count columns = min (sum_by (λ (c : TableColumn). length c.entries) columns) (2 ^ 64 - 1)
 
-found : (o : Option TableColumn) (entries : List (ℕ × ℤ)) → option_map (λ (c : TableColumn). c.entries) o ≡ Some entries → (c : TableColumn) × (o ≡ Some c) × (c.entries ≡ entries)
+found : (o : Option TableColumn) (entries : List (ℕ × ℤ)) → option_map (λ (c : TableColumn). c.entries) o ≡ Some entries
+    → (c : TableColumn) × (o ≡ Some c) × (c.entries ≡ entries)
 found None entries is = cc
 found (Some c) entries is = (c, refl, cc)
 
@@ -22,12 +24,14 @@ with_next columns i entries is =
     let (c, stands, own) = found (slice_get columns i) entries is in
     ap (sum_by (λ (c : TableColumn). length c.entries)) (one_more columns i c stands)
     ∙ sum_by-append (λ (c : TableColumn). length c.entries) (take i columns) (c ∷ [])
-    ∙ ap (λ n. sum_by (λ (c : TableColumn). length c.entries) (take i columns) + n) (let long : 0 + length c.entries ≡ length c.entries = omega arith in long ∙ ap (λ (es : List (ℕ × ℤ)). length es) own)
+    ∙ ap (λ n. sum_by (λ (c : TableColumn). length c.entries) (take i columns) + n)
+    (let long : 0 + length c.entries ≡ length c.entries = omega arith in long ∙ ap (λ (es : List (ℕ × ℤ)). length es) own)
 
 stops : (s n count count' : ℕ) → count ≡ min s (2 ^ 64 - 1) → count' ≡ min (count + n) (2 ^ 64 - 1) → count' ≡ min (s + n) (2 ^ 64 - 1)
 stops s n count count' is is' = omega arith
 
-pub entries-more : (columns : List TableColumn) (i : ℕ) (entries : List (ℕ × ℤ)) (count count' : ℕ) → option_map (λ (c : TableColumn). c.entries) (slice_get columns i) ≡ Some entries
+pub entries-more : (columns : List TableColumn) (i : ℕ) (entries : List (ℕ × ℤ)) (count count' : ℕ)
+    → option_map (λ (c : TableColumn). c.entries) (slice_get columns i) ≡ Some entries
     → count ≡ entry_count (take i columns) → count' ≡ min (count + length entries) (2 ^ 64 - 1) → count' ≡ entry_count (take (i + 1) columns)
 entries-more columns i entries count count' next is is' =
     let one : suc i ≡ i + 1 = omega arith in

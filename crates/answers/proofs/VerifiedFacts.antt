@@ -1,5 +1,7 @@
 -- What certificates show of what groups win.
-use Rattle.std.proofs.Common.{◌≡◌, ◌≤◌, ◌+◌, ◌++◌, ◌==◌, ◌∷◌, ◌∙◌, [], ℕ, true, false, List, Option, None, Some, Result, Ok, Err, IfSome, ◌≢◌, ap, arith, eqb-true, length, map, refl, subst, sym, OnOk, ℤ, codes, slice_index_or, option_map}
+use Rattle.std.proofs.Common.{◌≡◌, ◌≤◌, ◌+◌, ◌++◌, ◌==◌, ◌∷◌, ◌∙◌, [], ℕ, true, false, List, Option, None, Some, Result, Ok}
+use Rattle.std.proofs.Common.{Err, IfSome, ◌≢◌, ap, arith, eqb-true, length, map, refl, subst, sym, OnOk, ℤ, codes}
+use Rattle.std.proofs.Common.{slice_index_or, option_map}
 use Rattle.auction_input.specs.Input.{Input}
 use Rattle.std.specs.List.{AllZip, zip}
 use Rattle.std.proofs.lemmas.Int.{ints}
@@ -30,7 +32,8 @@ use Rattle.auction_terms.specs.Stages.{and_then, each_in_turn}
 use Rattle.answers.specs.Exact.{Writes}
 use Rattle.answers.specs.Claimed.{parsed_claims}
 use Rattle.answers.specs.Pricing.{parsed_pricing}
-use Rattle.answers.specs.Verified.{AreTruePrices, Holds, IsGreatestWithout, IsOnlyOutcome, IsOwnCost, IsPricedOutcome, IsTrueReport, PricesCover, UniqueIsOnly, VerifiedIsTrue, WritesTrueReport}
+use Rattle.answers.specs.Verified.{AreTruePrices, Holds, IsGreatestWithout, IsOnlyOutcome, IsOwnCost, IsPricedOutcome}
+use Rattle.answers.specs.Verified.{IsTrueReport, PricesCover, UniqueIsOnly, VerifiedIsTrue, WritesTrueReport}
 use Rattle.answers.specs.SolutionWinners.{winners_of_groups}
 use Rattle.answers.specs.inside.SolutionWinners.{winners}
 use Rattle.auction_input.specs.declared.part_kind.PartKind.TheVariants as part
@@ -78,14 +81,16 @@ all-greatest : (sale : Sale) (n : ℕ) (groups texts certificates : List (List �
     → length texts ≡ length groups → length certificates ≡ length groups
     → each_in_turn (winners sale) n (zip groups texts) ≡ Ok won → each_in_turn shown n (map (bound_of sale) (zip (zip groups won) certificates)) ≡ Ok all
     → AllZip (IsGreatestWithout sale) groups won
-all-greatest sale n [] texts certificates won all within count counts wins parsed = (let none : [] ≡ won = ok-is _ [] won refl wins in subst (λ (xs : List (List Choice)). AllZip (IsGreatestWithout sale) [] xs) none tt)
+all-greatest sale n [] texts certificates won all within count counts wins parsed =
+    (let none : [] ≡ won = ok-is _ [] won refl wins in subst (λ (xs : List (List Choice)). AllZip (IsGreatestWithout sale) [] xs) none tt)
 all-greatest sale n (group ∷ groups) [] certificates won all within count counts wins parsed = absurd (omega arith)
 all-greatest sale n (group ∷ groups) (text ∷ texts) [] won all within count counts wins parsed = absurd (omega arith)
 all-greatest sale n (group ∷ groups) (text ∷ texts) (certificate ∷ certificates) won all within count counts wins parsed =
     let (a, a_is, more_wins) = ok-behind (winners sale n (group, text)) _ won wins in
     let (more, more_are, are) = ok-behind (each_in_turn (winners sale) (n + 1) (zip groups texts)) _ won more_wins in
     let is : a ∷ more ≡ won = ok-is _ (a ∷ more) won refl are in
-    let parsed_now : each_in_turn shown n (map (bound_of sale) (zip (zip (group ∷ groups) (a ∷ more)) (certificate ∷ certificates))) ≡ Ok all = rw (← is) at parsed in
+    let parsed_now : each_in_turn shown n (map (bound_of sale) (zip (zip (group ∷ groups) (a ∷ more)) (certificate ∷ certificates)))
+    ≡ Ok all = rw (← is) at parsed in
     let (u, u_is, parsed_more) = ok-behind (shown n (bound_of sale ((group, a), certificate))) _ all parsed_now in
     let (us, us_are, _) = ok-behind (each_in_turn shown (n + 1) (map (bound_of sale) (zip (zip groups more) certificates))) _ all parsed_more in
     let head = greatest-of sale n group text certificate a u within a_is u_is in
@@ -94,7 +99,8 @@ all-greatest sale n (group ∷ groups) (text ∷ texts) (certificate ∷ certifi
 
 -- ---- costs
 
-own-costs : (sale : Sale) (first : List Choice) → IsGreatest sale.lots sale.book (λ b. false) first → (groups : List (List ℕ)) (won : List (List Choice)) → AllZip (IsGreatestWithout sale) groups won
+own-costs : (sale : Sale) (first : List Choice) → IsGreatest sale.lots sale.book (λ b. false) first
+    → (groups : List (List ℕ)) (won : List (List Choice)) → AllZip (IsGreatestWithout sale) groups won
     → AllZip (IsOwnCost sale first) groups won
 own-costs sale first best = AllZip-weaken (IsGreatestWithout sale) (IsOwnCost sale first) (λ group a greatest. record {
   own = λ of_all without by_all by_others. costs_are_own sale.lots sale.book group first a of_all without by_all by_others best greatest;
@@ -106,14 +112,17 @@ first-greatest : (sale : Sale) (groups : List (List ℕ)) (won : List (List Choi
 first-greatest sale [] won starts each = absurd (cc)
 first-greatest sale (group ∷ groups) [] starts each = absurd each
 first-greatest sale ([] ∷ groups) (a ∷ won) starts each = each.0
-first-greatest sale ((b ∷ group) ∷ groups) (a ∷ won) starts each = (let none : length (b ∷ group) ≡ 0 = eqb-true (length (b ∷ group)) 0 starts in absurd (omega arith))
+first-greatest sale ((b ∷ group) ∷ groups) (a ∷ won) starts each =
+    (let none : length (b ∷ group) ≡ 0 = eqb-true (length (b ∷ group)) 0 starts in absurd (omega arith))
 
 -- ---- an auction
 
 -- allocations that certificates show to be of greatest total are
-pub certified-greatest : (auction : Auction) (won : List (List Choice)) → IsBook auction.sale.lots auction.sale.book → winners_of_groups auction ≡ Ok won → certified auction won ≡ Ok won → AllZip (IsGreatestWithout auction.sale) auction.groups won
+pub certified-greatest : (auction : Auction) (won : List (List Choice)) → IsBook auction.sale.lots auction.sale.book
+    → winners_of_groups auction ≡ Ok won → certified auction won ≡ Ok won → AllZip (IsGreatestWithout auction.sale) auction.groups won
 certified-greatest auction won within wins certifies =
-    let (starts, count, each) = when-both refusal.FirstGroupNotEmpty (refusal.PartCount part.Solution) (starts_empty auction.groups) (length auction.solutions == length auction.groups) _ won wins in
+    let (starts, count, each) = when-both refusal.FirstGroupNotEmpty (refusal.PartCount part.Solution) (starts_empty auction.groups)
+    (length auction.solutions == length auction.groups) _ won wins in
     let (counts, parsed_all) = when-counted (length auction.certificates == length auction.groups) _ (refusal.PartCount part.Certificate) won certifies in
     let (all, shown_are, same) = ok-behind (each_in_turn shown 1 (bounds_of auction won)) _ won parsed_all in
     all-greatest auction.sale 1 auction.groups auction.solutions auction.certificates won all within (eqb-true _ _ count) (eqb-true _ _ counts) each shown_are
@@ -134,7 +143,8 @@ record Verdicts (auction : Auction) (out : List ℕ) : Type 0 where
   certifies : certified auction won ≡ Ok won
   claims : parsed_claims auction (slice_index_or won 0 []) auction.uniques auction.ties ≡ Ok claim
   prices : parsed_pricing auction won ≡ Ok pricing
-  text : out ≡ report_text auction.sale auction.groups won ++ (pricing_text auction.sale (slice_index_or won 0 []) pricing ++ uniqueness_text auction.sale claim)
+  text : out ≡ report_text auction.sale auction.groups won ++ (pricing_text auction.sale (slice_index_or won 0 []) pricing ++
+      uniqueness_text auction.sale claim)
 
 verdicts : (workers : ℕ) (auction : Auction) (out : List ℕ) → output_of (request.Verify workers) auction ≡ Ok out → Verdicts auction out
 verdicts workers auction out parsed =
@@ -151,10 +161,12 @@ verdicts workers auction out parsed =
       certifies = subst (λ (xs : List (List Choice)). certified auction xs ≡ Ok won) is certifies;
       claims = claim_is;
       prices = pricing_is;
-      text = sym (ok-is _ (report_text auction.sale auction.groups won ++ (pricing_text auction.sale (slice_index_or won 0 []) pricing ++ uniqueness_text auction.sale claim)) out refl written);
+      text = sym (ok-is _ (report_text auction.sale auction.groups won ++
+          (pricing_text auction.sale (slice_index_or won 0 []) pricing ++ uniqueness_text auction.sale claim)) out refl written);
     }
 
-module _ (auction : Auction) (out : List ℕ) (within : IsBook auction.sale.lots auction.sale.book) (sized : length auction.sale.book ≡ length auction.rules.bidders) (v : Verdicts auction out) where
+module _ (auction : Auction) (out : List ℕ) (within : IsBook auction.sale.lots auction.sale.book)
+    (sized : length auction.sale.book ≡ length auction.rules.bidders) (v : Verdicts auction out) where
   greatest : AllZip (IsGreatestWithout auction.sale) auction.groups v.won
   greatest = certified-greatest auction v.won within v.wins v.certifies
 
@@ -185,7 +197,8 @@ module _ (auction : Auction) (out : List ℕ) (within : IsBook auction.sale.lots
         won = v.won;
         pricing = p;
         claim = v.claim;
-        text = subst (λ (x : Option Priced). out ≡ report_text auction.sale auction.groups v.won ++ (pricing_text auction.sale (slice_index_or v.won 0 []) x ++ uniqueness_text auction.sale v.claim)) is v.text;
+        text = subst (λ (x : Option Priced). out ≡ report_text auction.sale auction.groups v.won ++
+            (pricing_text auction.sale (slice_index_or v.won 0 []) x ++ uniqueness_text auction.sale v.claim)) is v.text;
         greatest = first;
         prices = subst (λ (x : Option Priced). IfSome x (AreTruePrices auction (slice_index_or v.won 0 []))) is priced.0;
       }
@@ -194,39 +207,67 @@ module _ (auction : Auction) (out : List ℕ) (within : IsBook auction.sale.lots
 
 pub verified-is-true : VerifiedIsTrue
 verified-is-true workers input out parsed =
-    let (auction, auction_is, text) = ok-behind (parsed_auction (request.Verify workers) input) (output_of (request.Verify workers)) out parsed in
-    (auction, auction_is, true-report auction out (auction-within (request.Verify workers) input auction auction_is).1 (auction-sized (request.Verify workers) input auction auction_is) (verdicts workers auction out text))
+    let (auction, auction_is, text) = ok-behind (parsed_auction (request.Verify workers) input) (output_of (request.Verify workers)) out parsed in (
+      auction,
+      auction_is,
+      true-report auction out (auction-within (request.Verify workers) input auction auction_is).1 (auction-sized
+          (request.Verify workers) input auction auction_is) (verdicts workers auction out text),
+    )
 
 pub prices-cover : PricesCover
 prices-cover workers input out parsed =
-    let (auction, auction_is, text) = ok-behind (parsed_auction (request.Verify workers) input) (output_of (request.Verify workers)) out parsed in
-    (auction, auction_is, priced-outcome auction out (auction-within (request.Verify workers) input auction auction_is).1 (auction-sized (request.Verify workers) input auction auction_is) (verdicts workers auction out text))
+    let (auction, auction_is, text) = ok-behind (parsed_auction (request.Verify workers) input) (output_of (request.Verify workers)) out parsed in (
+      auction,
+      auction_is,
+      priced-outcome auction out (auction-within (request.Verify workers) input auction auction_is).1 (auction-sized
+          (request.Verify workers) input auction auction_is) (verdicts workers auction out text),
+    )
 
 -- some group has a report
-some-report : (sale : Sale) (groups : List (List ℕ)) (won : List (List Choice)) → 1 ≤ length groups → AllZip (IsGreatestWithout sale) groups won → 1 ≤ length (zip groups won)
+some-report : (sale : Sale) (groups : List (List ℕ)) (won : List (List Choice)) → 1 ≤ length groups
+    → AllZip (IsGreatestWithout sale) groups won → 1 ≤ length (zip groups won)
 some-report sale [] won some each = absurd (omega arith)
 some-report sale (group ∷ groups) [] some each = absurd each
 some-report sale (group ∷ groups) (a ∷ won) some each = omega arith
 
 -- a true report that ends with the line `unique`
 only-outcome : (auction : Auction) (before : List ℕ) → 1 ≤ length auction.groups → (won : List (List Choice)) (pricing : Option Priced) (claim : Uniqueness)
-    → before ++ codes "unique\n" ≡ report_text auction.sale auction.groups won ++ (pricing_text auction.sale (slice_index_or won 0 []) pricing ++ uniqueness_text auction.sale claim)
-    → AllZip (IsGreatestWithout auction.sale) auction.groups won → Holds auction.sale (slice_index_or won 0 []) claim → IsOnlyOutcome auction (before ++ codes "unique\n")
-only-outcome auction before some won None uniqueness.Unasked is each holds = absurd (no-report auction.sale auction.groups won before (some-report auction.sale auction.groups won some each) is)
-only-outcome auction before some won (Some p) uniqueness.Unasked is each holds = absurd (no-pricing auction.sale (report_text auction.sale auction.groups won) (slice_index_or won 0 []) p before is)
-only-outcome auction before some won pricing uniqueness.Only is each holds = record { won = won; pricing = pricing; text = is; only = holds; costs = settled-costs auction.sale (slice_index_or won 0 []) holds auction.groups won each }
-only-outcome auction before some won pricing (uniqueness.Tie other) is each holds = absurd (no-tie auction.sale (report_text auction.sale auction.groups won) (pricing_text auction.sale (slice_index_or won 0 []) pricing) other before is)
+    → before ++ codes "unique\n" ≡ report_text auction.sale auction.groups won ++
+    (pricing_text auction.sale (slice_index_or won 0 []) pricing ++ uniqueness_text auction.sale claim)
+    → AllZip (IsGreatestWithout auction.sale) auction.groups won → Holds auction.sale (slice_index_or won 0 []) claim
+    → IsOnlyOutcome auction (before ++ codes "unique\n")
+only-outcome auction before some won None uniqueness.Unasked is each holds =
+    absurd (no-report auction.sale auction.groups won before (some-report auction.sale auction.groups won some each) is)
+only-outcome auction before some won (Some p) uniqueness.Unasked is each holds =
+    absurd (no-pricing auction.sale (report_text auction.sale auction.groups won) (slice_index_or won 0 []) p before is)
+only-outcome auction before some won pricing uniqueness.Only is each holds = record {
+  won = won;
+  pricing = pricing;
+  text = is;
+  only = holds;
+  costs = settled-costs auction.sale (slice_index_or won 0 []) holds
+      auction.groups won each;
+}
+only-outcome auction before some won pricing (uniqueness.Tie other) is each holds = absurd
+    (no-tie auction.sale (report_text auction.sale auction.groups won) (pricing_text auction.sale (slice_index_or won 0 []) pricing) other
+    before is)
 
 pub unique-is-only : UniqueIsOnly
 unique-is-only workers input before parsed =
     let out = before ++ codes "unique\n" in
     let (auction, auction_is, text) = ok-behind (parsed_auction (request.Verify workers) input) (output_of (request.Verify workers)) out parsed in
     let v = verdicts workers auction out text in
-    let report = true-report auction out (auction-within (request.Verify workers) input auction auction_is).1 (auction-sized (request.Verify workers) input auction auction_is) v in
-    (auction, auction_is, only-outcome auction before (some-group auction.groups (wins-first auction v.won v.wins).0) report.won report.pricing report.claim report.text report.greatest report.holds)
+    let report = true-report auction out (auction-within (request.Verify workers) input auction auction_is).1
+    (auction-sized (request.Verify workers) input auction auction_is) v in (
+      auction,
+      auction_is,
+      only-outcome auction before (some-group auction.groups
+          (wins-first auction v.won v.wins).0) report.won report.pricing report.claim report.text report.greatest report.holds,
+    )
 
 -- what is written at Ok is a true report
-pub writes-true : {T E : Type 0} (workers : ℕ) (input : Input) (result : Result T E) (taken taken' : Option (List ℕ)) → OnOk result (Writes (answer (request.Verify workers) input) taken taken') → OnOk result (WritesTrueReport workers input taken taken')
+pub writes-true : {T E : Type 0} (workers : ℕ) (input : Input) (result : Result T E) (taken taken' : Option (List ℕ))
+    → OnOk result (Writes (answer (request.Verify workers) input) taken taken') → OnOk result (WritesTrueReport workers input taken taken')
 writes-true workers input (Ok x) taken taken' (out, parsed, sent) =
     let (auction, auction_is, report) = verified-is-true workers input out parsed in
     record { auction = auction; out = out; parsed = auction_is; is_true = report; sent = sent }

@@ -23,15 +23,20 @@ unshown workers auction won before r parsed (inl refused) = inl (by_refusal (sto
 unshown workers auction won before r parsed (inr (each, wide)) = inr ((won, parsed, inl (each, wide)), refl)
 
 -- solutions and certificates that are taken, and a claim of which nothing comes
-pub unclaimed : (workers : ℕ) (auction : Auction) (won : List (List Choice)) (before : SinkState) (r : Refusal) → winners_of_groups auction ≡ Ok won → certified auction won ≡ Ok won
+pub unclaimed : (workers : ℕ) (auction : Auction) (won : List (List Choice)) (before : SinkState) (r : Refusal)
+    → winners_of_groups auction ≡ Ok won → certified auction won ≡ Ok won
     → Refuses (parsed_claims auction (slice_index_or won 0 []) auction.uniques auction.ties) r ⊎ IsTooWideClaim auction r
     → Ends (output_of (request.Verify workers) auction) before before r ⊎ (IsBeyondSums auction r × (before.taken ≡ before.taken))
-unclaimed workers auction won before r parsed certifies (inl refused) = inl (by_refusal (behind _ won _ r (next _ won _ _ parsed certifies) (stop _ _ r refused)) refl)
+unclaimed workers auction won before r parsed certifies (inl refused) =
+    inl (by_refusal (behind _ won _ r (next _ won _ _ parsed certifies) (stop _ _ r refused)) refl)
 unclaimed workers auction won before r parsed certifies (inr wide) = inr ((won, parsed, inr (certifies, inl wide)), refl)
 
 -- solutions, certificates and a claim that are taken, and prices that aren't
-pub unpriced : (workers : ℕ) (auction : Auction) (won : List (List Choice)) (claim : Uniqueness) (before : SinkState) (r : Refusal) → winners_of_groups auction ≡ Ok won → certified auction won ≡ Ok won
-    → parsed_claims auction (slice_index_or won 0 []) auction.uniques auction.ties ≡ Ok claim → Refuses (parsed_pricing auction won) r ⊎ IsTooWidePricing auction won r
+pub unpriced : (workers : ℕ) (auction : Auction) (won : List (List Choice)) (claim : Uniqueness) (before : SinkState) (r : Refusal)
+    → winners_of_groups auction ≡ Ok won → certified auction won ≡ Ok won
+    → parsed_claims auction (slice_index_or won 0 []) auction.uniques auction.ties ≡ Ok claim
+    → Refuses (parsed_pricing auction won) r ⊎ IsTooWidePricing auction won r
     → Ends (output_of (request.Verify workers) auction) before before r ⊎ (IsBeyondSums auction r × (before.taken ≡ before.taken))
-unpriced workers auction won claim before r parsed certifies claims (inl refused) = inl (by_refusal (behind _ won _ r (next _ won _ _ parsed certifies) (behind _ claim _ r claims (stop _ _ r refused))) refl)
+unpriced workers auction won claim before r parsed certifies claims (inl refused) =
+    inl (by_refusal (behind _ won _ r (next _ won _ _ parsed certifies) (behind _ claim _ r claims (stop _ _ r refused))) refl)
 unpriced workers auction won claim before r parsed certifies claims (inr wide) = inr ((won, parsed, inr (certifies, inr wide)), refl)

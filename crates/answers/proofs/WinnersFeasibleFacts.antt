@@ -16,7 +16,8 @@ use Rattle.answers.specs.SolutionWinners.{solution_refused}
 use Rattle.answers.specs.inside.SolutionWinners.{winners}
 
 -- what a solution wins without a group is feasible
-pub feasible-of : (sale : Sale) (number : ℕ) (group text : List ℕ) (a : List Choice) → IsBook sale.lots sale.book → winners sale number (group, text) ≡ Ok a → IsFeasible sale.lots sale.book (has group) a
+pub feasible-of : (sale : Sale) (number : ℕ) (group text : List ℕ) (a : List Choice) → IsBook sale.lots sale.book
+    → winners sale number (group, text) ≡ Ok a → IsFeasible sale.lots sale.book (has group) a
 feasible-of sale number group text a within won =
     let p : Table = program_for sale group in
     let (point, point_is, wins) = ok-behind (refused_as (solution_refused p number) (solution p text)) _ a won in

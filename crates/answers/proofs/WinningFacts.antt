@@ -1,5 +1,7 @@
 -- What a point of a program wins.
-use Rattle.std.proofs.Common.{◌≡◌, ◌∙◌, ◌≤◌, ℕ, Bool, false, List, [], ◌∷◌, Option, None, Some, length, refl, ap, sym, subst, zero, suc, arith, not, is_some, slice_get, slice_index_or, IfOk, OnErr, Result, Ok, Err}
+use Rattle.std.proofs.Common.{◌≡◌, ◌∙◌, ◌≤◌, ℕ, Bool, false, List, [], ◌∷◌, Option, None, Some, length, refl, ap, sym}
+use Rattle.std.proofs.Common.{subst, zero, suc, arith, not, is_some, slice_get, slice_index_or, IfOk, OnErr, Result, Ok}
+use Rattle.std.proofs.Common.{Err}
 use Rattle.std.specs.Option.{option_map, option_map_or}
 use Rattle.std.specs.List.{range_with_len}
 use Rattle.std.proofs.lemmas.Bool.{and_parts}
@@ -38,7 +40,8 @@ allowed-length (c ∷ columns) (v ∷ values) allowed = ap suc (allowed-length c
 pub feasible-for_all : (lots : Lots) (book : Book) (group : ℕ → Bool) (a : List Choice) → IsFeasible lots book group a → IsFeasible lots book (λ b. false) a
 feasible-for_all lots book group a feasible = record {
   one_bid_each = feasible.one_bid_each;
-  eligible = λ k d small. (and_parts (not (group (slice_index_or a k d).bidder)) (is_some (bid_of book (slice_index_or a k d))) (feasible.eligible k d small)).1;
+  eligible = λ k d small. (and_parts (not (group (slice_index_or a k d).bidder)) (is_some (bid_of book (slice_index_or a k d)))
+      (feasible.eligible k d small)).1;
   fit = feasible.fit;
 }
 
@@ -53,9 +56,11 @@ on-err-of (Ok x) holds = tt
 on-err-of (Err e) holds = holds
 
 -- what a point of the program wins
-pub won-by : (p : Table) (number : ℕ) (text : List ℕ) (point : List Bool) (a : List Choice) → Ok point ≡ solution p text → a ≡ allocation_of p point → winners_by p number text ≡ Ok a
+pub won-by : (p : Table) (number : ℕ) (text : List ℕ) (point : List Bool) (a : List Choice) → Ok point ≡ solution p text
+    → a ≡ allocation_of p point → winners_by p number text ≡ Ok a
 won-by p number text point a tells is =
-    next _ _ _ _ (ap (λ (r : Result (List Bool) SolutionFault). refused_as (solution_refused p number) r) (sym tells)) (ap (λ (won : List Choice). Ok won) (sym is))
+    next _ _ _ _ (ap (λ (r : Result (List Bool) SolutionFault). refused_as (solution_refused p number) r) (sym tells))
+    (ap (λ (won : List Choice). Ok won) (sym is))
 
 -- the name at a place, where there is one
 pub name-at : {X : Type 0} (name : X → List ℕ) (found : Option X) (bytes : List ℕ) → option_map name found ≡ Some bytes → bytes ≡ option_map_or name found []
@@ -69,7 +74,8 @@ no-name name (x ∷ xs) zero least = absurd (omega arith)
 no-name name (x ∷ xs) (suc k) least = no-name name xs k (omega arith)
 
 -- what a solution wins that is taken against the program of kept bids among choices
-module _ (book : Closing) (group : List ℕ) (choices : List Choice) (text : List ℕ) (p : Table) (values : List Bool) (within : IsBook (lots_in book.rules) (book_of book))
+module _ (book : Closing) (group : List ℕ) (choices : List Choice) (text : List ℕ) (p : Table) (values : List Bool)
+    (within : IsBook (lots_in book.rules) (book_of book))
     (is : p ≡ program_among book group choices) (tells : Ok values ≡ solution p text) where
   abbrev lots : Lots
   lots = lots_in book.rules

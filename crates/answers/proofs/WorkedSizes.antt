@@ -13,10 +13,16 @@ use Rattle.answers.specs.Answer.{answer}
 use Rattle.auction_input.specs.declared.refusal.Refusal.TheVariants as refusal
 use Rattle.auction_input.specs.declared.request.Request.TheVariants.{Check}
 
-sizes : answer Check (input_of (codes "NAME wdp\nROWS\n N OBJ\n L B3\n L C1\n L C2\nCOLUMNS\n M1 'MARKER' 'INTORG'\n X3_1 OBJ -12\n X3_1 B3 1\n X3_1 C2 1\n M2 'MARKER' 'INTEND'\nRHS\n RHS B3 1\n RHS C1 2\n RHS C2 1\nBOUNDS\n UP BND X3_1 1\nENDATA\n")) ≡ Ok (codes "rows 3 columns 1 entries 2\n")
+sizes : answer Check
+    (input_of
+    (codes
+    "NAME wdp\nROWS\n N OBJ\n L B3\n L C1\n L C2\nCOLUMNS\n M1 'MARKER' 'INTORG'\n X3_1 OBJ -12\n X3_1 B3 1\n X3_1 C2 1\n M2 'MARKER' 'INTEND'\nRHS\n RHS B3 1\n RHS C1 2\n RHS C2 1\nBOUNDS\n UP BND X3_1 1\nENDATA\n")) ≡ Ok (codes "rows 3 columns 1 entries 2\n")
 unfolding digits meaning fields line_of number fault program
 sizes = refl
 
-row_type : answer Check (input_of (codes "NAME wdp\nROWS\n N OBJ\n Q B3\n L C1\n L C2\nCOLUMNS\n M1 'MARKER' 'INTORG'\n X3_1 OBJ -12\n X3_1 B3 1\n X3_1 C2 1\n M2 'MARKER' 'INTEND'\nRHS\n RHS B3 1\n RHS C1 2\n RHS C2 1\nBOUNDS\n UP BND X3_1 1\nENDATA\n")) ≡ Err (refusal.Program (record { line = 4; kind = kind.RowType }))
+row_type : answer Check
+    (input_of
+    (codes
+    "NAME wdp\nROWS\n N OBJ\n Q B3\n L C1\n L C2\nCOLUMNS\n M1 'MARKER' 'INTORG'\n X3_1 OBJ -12\n X3_1 B3 1\n X3_1 C2 1\n M2 'MARKER' 'INTEND'\nRHS\n RHS B3 1\n RHS C1 2\n RHS C2 1\nBOUNDS\n UP BND X3_1 1\nENDATA\n")) ≡ Err (refusal.Program (record { line = 4; kind = kind.RowType }))
 unfolding digits meaning fields line_of number fault program
 row_type = refl

@@ -27,7 +27,8 @@ unfolding clap_on_literals
 nothing_named = refl
 
 -- of forms in several files the last ones count
-of_many_files : asked (codes "wdp" ∷ codes "report" ∷ codes "a" ∷ codes "--last-wins" ∷ codes "b" ∷ []) ≡ for_answer (record { request = request.Report 1; last_wins = true; files = codes "a" ∷ codes "b" ∷ []; output = None })
+of_many_files : asked (codes "wdp" ∷ codes "report" ∷ codes "a" ∷ codes "--last-wins" ∷ codes "b" ∷ [])
+    ≡ for_answer (record { request = request.Report 1; last_wins = true; files = codes "a" ∷ codes "b" ∷ []; output = None })
 unfolding clap_on_literals
 of_many_files = refl
 
@@ -37,7 +38,8 @@ unfolding clap_on_literals
 of_no_form = refl
 
 -- `check` reads one text
-one_text : asked (codes "wdp" ∷ codes "check" ∷ codes "a" ∷ codes "--output=b" ∷ []) ≡ for_answer (record { request = request.Check; last_wins = false; files = codes "a" ∷ []; output = Some (codes "b") })
+one_text : asked (codes "wdp" ∷ codes "check" ∷ codes "a" ∷ codes "--output=b" ∷ [])
+    ≡ for_answer (record { request = request.Check; last_wins = false; files = codes "a" ∷ []; output = Some (codes "b") })
 unfolding clap_on_literals
 one_text = refl
 

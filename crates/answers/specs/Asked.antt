@@ -1,5 +1,6 @@
 -- What the words on the command line ask for.
-use Rattle.std.specs.Prelude.{ℕ, List, [], ◌∷◌, ◌++◌, Bool, Option, None, Some, Result, Ok, Err, String, false, true, codes, fold, if◌then◌else◌, map, option_and_then, option_map, unwrap_or}
+use Rattle.std.specs.Prelude.{ℕ, List, [], ◌∷◌, ◌++◌, Bool, Option, None, Some, Result, Ok, Err, String, false, true, codes}
+use Rattle.std.specs.Prelude.{fold, if◌then◌else◌, map, option_and_then, option_map, unwrap_or}
 use Rattle.std.specs.Option.{option_map_or}
 use Rattle.std.specs.Str.{bytes_eq}
 use Rattle.std.specs.Str.Parse.{digits_value, without_leading_plus}
@@ -24,7 +25,13 @@ use Rattle.auction_input.specs.Requests.{target_named}
 
 -- how many workers compile: from 1 on, and 1 where nothing is said
 abbrev pub workers : Rule
-workers = record (new_rule (codes "workers")) { long = Some (codes "workers"); value_names = 1; parser = Some (parser.Unsigned 1 MOST_WORKERS); defaults = codes "1" ∷ [] }
+workers = record (new_rule (codes "workers")) {
+  long = Some (codes "workers");
+  value_names = 1;
+  parser = Some
+      (parser.Unsigned 1 MOST_WORKERS);
+  defaults = codes "1" ∷ [];
+}
 
 -- which group is left out: from 1 on
 abbrev pub group : Rule
@@ -76,7 +83,8 @@ commands =
 
 -- the program's own words: a version, and the commands
 abbrev pub wdp : App
-wdp = fold (λ (app command : App). with_subcommand app command.top) (on_top (λ s. record s { has_version = true; disable_help_subcommand = true }) (new_app (codes "wdp"))) commands
+wdp = fold (λ (app command : App). with_subcommand app command.top)
+    (on_top (λ s. record s { has_version = true; disable_help_subcommand = true }) (new_app (codes "wdp"))) commands
 
 -- the number that an option writes, from 1 to the most; where it writes none, 1
 abbrev pub option_number : Text → ℕ → List Row → ℕ

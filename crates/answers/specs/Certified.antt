@@ -40,5 +40,6 @@ certified auction won =
 -- after some certificates that show what they are to comes one that isn't judged, since the leaf at this line has a size of 2^126 or more
 abbrev pub IsTooWide : List (Table × ℤ × List ℕ) → Refusal → Type 0
 IsTooWide bounds r =
-    (before : ℕ) × (line : ℕ) × (bound : Table × ℤ × List ℕ) × (slice_get bounds before ≡ Some bound) × ((all : List (Unit {0})) × (each_in_turn shown 1 (take before bounds) ≡ Ok all))
+    (before : ℕ) × (line : ℕ) × (bound : Table × ℤ × List ℕ) × (slice_get bounds before ≡ Some bound)
+    × ((all : List (Unit {0})) × (each_in_turn shown 1 (take before bounds) ≡ Ok all))
     × IsLargeAt bound.0 bound.1 bound.2 line × (r ≡ refusal.Certificate (before + 1) (record { line = line; kind = certificate.TooLarge }))

@@ -63,4 +63,5 @@ parsed_claims auction first uniques ties = Err (refusal.PartCount part.Unique)
 abbrev pub IsTooWideClaim : Auction → Refusal → Type 0
 IsTooWideClaim auction r =
     (text : List ℕ) × (line : ℕ) × (auction.uniques ≡ text ∷ []) × (auction.ties ≡ [])
-    × ((point : List Bool) × (solution (first_program auction) (slice_index_or auction.solutions 0 []) ≡ Ok point) × IsLargeOnlyAt (first_program auction) point text line) × (r ≡ refusal.Unique (record { line = line; kind = certificate.TooLarge }))
+    × ((point : List Bool) × (solution (first_program auction) (slice_index_or auction.solutions 0 []) ≡ Ok point) × IsLargeOnlyAt
+    (first_program auction) point text line) × (r ≡ refusal.Unique (record { line = line; kind = certificate.TooLarge }))

@@ -26,13 +26,15 @@ Writes parsed taken taken' = (out : List ℕ) × (parsed ≡ Ok out) × Appends 
 -- how a command ends without its output: it is refused; or a put failed, after the first bytes of the output, as many as the refusal says
 pub data Ends (parsed : Result (List ℕ) Refusal) (before after : SinkState) : Refusal → Type 0 where
   by_refusal : {r : Refusal} → Refuses parsed r → after.taken ≡ before.taken → Ends parsed before after r
-  by_put : {written : ℕ} → (out : List ℕ) → parsed ≡ Ok out → SentFront before.taken after.taken out written → HasFailed before.failures after.failures → Ends parsed before after (refusal.Write (write.Sink written))
+  by_put : {written : ℕ} → (out : List ℕ) → parsed ≡ Ok out → SentFront before.taken after.taken out written
+      → HasFailed before.failures after.failures → Ends parsed before after (refusal.Write (write.Sink written))
 
 -- after solutions that are accepted it is a certificate of the groups; after all of these that of the claim; and after that the cover of prices
 abbrev pub IsBeyondSums : Auction → Refusal → Type 0
 IsBeyondSums auction r =
     (won : List (List Choice)) × (winners_of_groups auction ≡ Ok won)
-    × (((length auction.certificates ≡ length auction.groups) × IsTooWide (bounds_of auction won) r) ⊎ ((certified auction won ≡ Ok won) × (IsTooWideClaim auction r ⊎ IsTooWidePricing auction won r)))
+    × (((length auction.certificates ≡ length auction.groups) × IsTooWide (bounds_of auction won) r) ⊎
+    ((certified auction won ≡ Ok won) × (IsTooWideClaim auction r ⊎ IsTooWidePricing auction won r)))
 
 -- `verify` alone adds up in 128 bits
 abbrev pub MeetsLimit : Request → Input → Refusal → Type 0

@@ -38,5 +38,6 @@ RefusesSo asked input r = answer asked input ≡ Err r
 
 -- what `explain` prints for a command is what the command does
 pub record ExplainsFor (command : Target) (input : Input) : Type 0 where
-  pub refused : (bids : Bool) (r : Refusal) → parsed_taken (Explain bids (Some command)) input ≡ Err r → (asked : Request) → target_of asked ≡ Some command → RefusesSo asked input r
+  pub refused : (bids : Bool) (r : Refusal) → parsed_taken (Explain bids (Some command)) input ≡ Err r → (asked : Request)
+      → target_of asked ≡ Some command → RefusesSo asked input r
   pub taken : (bids : Bool) (auction : Auction) → parsed_taken (Explain bids (Some command)) input ≡ Ok auction → IsTakenBy (Some command) input

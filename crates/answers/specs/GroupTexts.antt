@@ -24,7 +24,8 @@ program_bytes book k c =
 abbrev pub programs_bytes : Closing → List GroupProgram → List ℕ
 programs_bytes book programs = in_turn (program_bytes book) 1 programs
 
--- where a sink reports its bytes: what went out is the first bytes of the whole, as many as are reported, and the next byte is one of the line or the text of that group
+-- where a sink reports its bytes: what went out is the first bytes of the whole, as many as are reported, and the next byte is one of the
+-- line or the text of that group
 abbrev pub EndsIn : Closing → List GroupProgram → ℕ → ℕ → Option (List ℕ) → Option (List ℕ) → Type 0
 EndsIn book programs group written None after = ⊤
 EndsIn book programs group written (Some before) None = ⊥
@@ -35,7 +36,8 @@ EndsIn book programs group written (Some before) (Some after) =
 -- a fault after which the output ends as it says
 abbrev pub StopsAsReported : Closing → List GroupProgram → Option (List ℕ) → Option (List ℕ) → RunFault → Type 0
 StopsAsReported book programs before after (fault.OutOfMemory written) = (written ≡ 0) × (after ≡ before)
-StopsAsReported book programs before after (fault.Sink group written) = (1 ≤ group) × (group ≤ length programs) × EndsIn book programs group written before after
+StopsAsReported book programs before after (fault.Sink group written) =
+    (1 ≤ group) × (group ≤ length programs) × EndsIn book programs group written before after
 
 -- a put failed where that is reported
 abbrev pub FailsAsReported : ℕ → ℕ → RunFault → Type 0

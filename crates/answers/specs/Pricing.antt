@@ -1,5 +1,6 @@
 -- What the winners pay: prices that a certificate shows to cover every group, and whether weights show that no lower sum would do.
-use Rattle.std.specs.Prelude.{◌≡◌, ◌∷◌, Bool, false, true, ℕ, List, [], Option, None, Some, Result, Ok, Err, ℤ, pos, neg_ℤ, if◌then◌else◌, length, nat_le, slice_index_or}
+use Rattle.std.specs.Prelude.{◌≡◌, ◌∷◌, Bool, false, true, ℕ, List, [], Option, None, Some, Result, Ok, Err, ℤ, pos, neg_ℤ}
+use Rattle.std.specs.Prelude.{if◌then◌else◌, length, nat_le, slice_index_or}
 use Rattle.std.specs.Option.{option_map, option_or}
 use Rattle.auction_input.specs.Auction.{Auction}
 use Rattle.auction_input.specs.Wanted.{numbers_of, pricing_wants, refused_unless}
@@ -72,7 +73,8 @@ covered auction first prices text =
 -- it isn't judged, since the leaf at this line has a size of 2^126 or more
 abbrev pub IsTooWideCover : Auction → List Choice → List ℕ → List ℕ → Refusal → Type 0
 IsTooWideCover auction first prices text r =
-    (line : ℕ) × IsLargeAt (cover_program auction first prices) (cover_bound auction first prices) text line × (r ≡ refusal.Cover (record { line = line; kind = certificate.TooLarge }))
+    (line : ℕ) × IsLargeAt (cover_program auction first prices) (cover_bound auction first prices) text line
+    × (r ≡ refusal.Cover (record { line = line; kind = certificate.TooLarge }))
 
 -- ---- the weights
 
@@ -107,7 +109,8 @@ abbrev pub parsed_least : Auction → List (List Choice) → List Choice → Lis
 parsed_least auction won first prices [] = Ok false
 parsed_least auction won first prices (text ∷ more) =
     and_then (parsed_weights auction first text) (λ w.
-    Ok (shows_least_sum (reserves_in auction.rules) auction.sale.lots auction.sale.book first (price_in prices) w.scale (weighted auction.groups won w.groups) (price_in w.own)))
+    Ok (shows_least_sum (reserves_in auction.rules) auction.sale.lots auction.sale.book first (price_in prices) w.scale
+    (weighted auction.groups won w.groups) (price_in w.own)))
 
 -- ---- all of it
 
@@ -134,7 +137,9 @@ parsed_pricing auction won = unless (first_failed (pricing_counts auction)) (pri
 -- the cover isn't judged, after prices that are accepted
 abbrev pub IsTooWidePriced : Auction → List Choice → Refusal → Type 0
 IsTooWidePriced auction first r =
-    (prices : List ℕ) × (parsed_prices auction first (slice_index_or auction.prices 0 []) ≡ Ok prices) × IsTooWideCover auction first prices (slice_index_or auction.covers 0 []) r
+    (prices : List ℕ) × (parsed_prices auction first (slice_index_or auction.prices 0 []) ≡ Ok prices)
+    × IsTooWideCover auction first prices (slice_index_or auction.covers 0 []) r
 
 abbrev pub IsTooWidePricing : Auction → List (List Choice) → Refusal → Type 0
-IsTooWidePricing auction won r = (first_failed (pricing_counts auction) ≡ None) × (length auction.prices ≡ 1) × IsTooWidePriced auction (slice_index_or won 0 []) r
+IsTooWidePricing auction won r =
+    (first_failed (pricing_counts auction) ≡ None) × (length auction.prices ≡ 1) × IsTooWidePriced auction (slice_index_or won 0 []) r

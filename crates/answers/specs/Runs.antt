@@ -35,7 +35,8 @@ IsTakenFor asked input = ⊤
 -- the input was read, and what was asked for is written
 abbrev pub IsAnswered : (List ℕ → Option (List ℕ)) → CommandLine → Outside → Outside → Type 0
 IsAnswered content asked before after =
-    (input : Input) × Reads content asked before.left after.left input × IsTakenFor asked.request input × Writes (answer asked.request input) before.output.taken after.output.taken
+    (input : Input) × Reads content asked before.left after.left input × IsTakenFor asked.request input
+    × Writes (answer asked.request input) before.output.taken after.output.taken
 
 -- files are named, to be read or to be written
 abbrev pub NamesFiles : CommandLine → Type 0
@@ -46,12 +47,20 @@ abbrev pub AsksAnswer : Request → Input → Type 0
 AsksAnswer (Explain bids command) input = (bids ≡ true) × IsOk (parsed_taken (Explain bids command) input)
 AsksAnswer asked input = ⊤
 
--- why a command line isn't answered, by the line that says it: a file that is named isn't there to be read or written, and nothing is read; or not all is read, and nothing is written; or the answer that is asked of what was read isn't written; or not all lines of its faults are
+-- why a command line isn't answered, by the line that says it: a file that is named isn't there to be read or written, and nothing is read;
+-- or not all is read, and nothing is written; or the answer that is asked of what was read isn't written; or not all lines of its faults
+-- are
 pub data IsRefused (content : List ℕ → Option (List ℕ)) (asked : CommandLine) (before after : Outside) : List ℕ → Type 0 where
-  by_file : (r : FileRefusal) → NamesFiles asked → after.left ≡ before.left → after.output.taken ≡ before.output.taken → IsRefused content asked before after (refusal_line asked r)
-  by_input : (f : Unread) → IsUnread asked.files f before.left after.left before.failed_reads after.failed_reads → after.output.taken ≡ before.output.taken → IsRefused content asked before after (unread_line asked f)
-  by_text : {r : Refusal} → (input : Input) → Reads content asked before.left after.left input → AsksAnswer asked.request input → IsUnwritten asked.request input before.output after.output r → IsRefused content asked before after (placed_line input.texts r)
-  by_lines : {r : Refusal} → (bids : Bool) → (whose : Option Target) → asked.request ≡ Explain bids whose → (input : Input) → Reads content asked before.left after.left input → IsCutShort (explanation asked.request input) before.output.taken after.output.taken before.output.failures after.output.failures r → IsRefused content asked before after (placed_line input.texts r)
+  by_file : (r : FileRefusal) → NamesFiles asked → after.left ≡ before.left → after.output.taken ≡ before.output.taken
+      → IsRefused content asked before after (refusal_line asked r)
+  by_input : (f : Unread) → IsUnread asked.files f before.left after.left before.failed_reads after.failed_reads
+      → after.output.taken ≡ before.output.taken → IsRefused content asked before after (unread_line asked f)
+  by_text : {r : Refusal} → (input : Input) → Reads content asked before.left after.left input → AsksAnswer asked.request input
+      → IsUnwritten asked.request input before.output after.output r → IsRefused content asked before after (placed_line input.texts r)
+  by_lines : {r : Refusal} → (bids : Bool) → (whose : Option Target) → asked.request ≡ Explain bids whose → (input : Input)
+      → Reads content asked before.left after.left input
+      → IsCutShort (explanation asked.request input) before.output.taken after.output.taken before.output.failures after.output.failures r
+      → IsRefused content asked before after (placed_line input.texts r)
 
 -- what goes out without an input: a text of help, which isn't empty, or the version
 abbrev pub IsShown : Asked → List ℕ → Type 0
@@ -65,13 +74,17 @@ IsDone content asked before after =
     ((command : CommandLine) × (asked ≡ for_answer command) × IsAnswered content command before after)
     ⊎ ((text : List ℕ) × IsShown asked text × (after.left ≡ before.left) × Appends before.output.taken after.output.taken text)
 
--- why a run is refused, by the line that says it: what is asked for is; or help or the version, which is asked for, could not be written; or memory was short before anything was read
+-- why a run is refused, by the line that says it: what is asked for is; or help or the version, which is asked for, could not be written;
+-- or memory was short before anything was read
 pub data IsUndone (content : List ℕ → Option (List ℕ)) (asked : Asked) (before after : Outside) : List ℕ → Type 0 where
-  by_request : {parsed : List ℕ} → (command : CommandLine) → asked ≡ for_answer command → IsRefused content command before after parsed → IsUndone content asked before after parsed
-  by_showing : {r : Refusal} → (text : List ℕ) → IsShown asked text → after.left ≡ before.left → Ends (Ok text) before.output after.output r → IsUndone content asked before after (line r)
+  by_request : {parsed : List ℕ} → (command : CommandLine) → asked ≡ for_answer command → IsRefused content command before after parsed
+      → IsUndone content asked before after parsed
+  by_showing : {r : Refusal} → (text : List ℕ) → IsShown asked text → after.left ≡ before.left → Ends (Ok text) before.output after.output r
+      → IsUndone content asked before after (line r)
   by_memory : after.left ≡ before.left → after.output.taken ≡ before.output.taken → IsUndone content asked before after (line refusal.OutOfMemory)
 
--- `explain` is asked for, and the input was read; it describes no auction, or one that hasn't got what the command that is named wants, and that command refuses it, too; the lines of its faults are written, no read and no put fails, and no line of a refusal is put
+-- `explain` is asked for, and the input was read; it describes no auction, or one that hasn't got what the command that is named wants, and
+-- that command refuses it, too; the lines of its faults are written, no read and no put fails, and no line of a refusal is put
 pub record HasExplained (content : List ℕ → Option (List ℕ)) (asked : Asked) (before after : Outside) : Type 0 where
   pub command : CommandLine
   pub bids : Bool
@@ -95,7 +108,9 @@ pub record IsRun (content : List ℕ → Option (List ℕ)) (asked : Asked) (sta
   -- 0 or 2: no read and no put of the output failed
   pub succeeded : status ≢ 1 → (after.output.failures ≡ before.output.failures) × (after.failed_reads ≡ before.failed_reads)
   -- 1: it isn't done, and the line that says why is put; or `explain` printed faults
-  pub refused : status ≡ 1 → ((parsed : List ℕ) × IsUndone content asked before after parsed × Puts parsed before.faults.taken after.faults.taken before.faults.failures after.faults.failures) ⊎ HasExplained content asked before after
+  pub refused : status ≡ 1 → ((parsed : List ℕ) × IsUndone content asked before after parsed × Puts parsed before.faults.taken
+      after.faults.taken before.faults.failures after.faults.failures) ⊎ HasExplained content asked before after
   -- 2: the words ask for nothing, nothing is read or written, and a text that isn't empty is put among the faults
   pub unasked : status ≡ 2 → (asked ≡ for_nothing) × (after.left ≡ before.left) × (after.output.taken ≡ before.output.taken)
-  pub reported : status ≡ 2 → (text : List ℕ) × (0 < length text) × Puts text before.faults.taken after.faults.taken before.faults.failures after.faults.failures
+  pub reported : status ≡ 2 → (text : List ℕ) × (0 < length text)
+      × Puts text before.faults.taken after.faults.taken before.faults.failures after.faults.failures

@@ -1,4 +1,5 @@
--- What `verify` writes if it ends well: allocations of greatest total, and so the groups' own opportunity costs; prices that cover every group; and what it says of other outcomes.
+-- What `verify` writes if it ends well: allocations of greatest total, and so the groups' own opportunity costs; prices that cover every
+-- group; and what it says of other outcomes.
 use Rattle.std.specs.Prelude.{◌≡◌, ◌≢◌, ◌++◌, ⊤, ℕ, false, true, List, [], Option, Some, IfSome, Ok, codes, slice_index_or}
 use Rattle.auction_input.specs.Input.{Input}
 use Rattle.std.specs.Io.KnownBytes.{Appends}
@@ -36,19 +37,23 @@ Holds sale first uniqueness.Unasked = ⊤
 Holds sale first uniqueness.Only = IsOnly sale.lots sale.book (λ b. false) first
 Holds sale first (uniqueness.Tie other) = IsTie sale.lots sale.book (λ b. false) first other
 
--- prices that are true: each winner's is at most its amount and at least the reserve of its lots, no list of bidders pays less than its opportunity cost, whichever allocations of greatest total are taken, and if their sum is called the least, no whole prices of which the latter two are true have a lower one
+-- prices that are true: each winner's is at most its amount and at least the reserve of its lots, no list of bidders pays less than its
+-- opportunity cost, whichever allocations of greatest total are taken, and if their sum is called the least, no whole prices of which the
+-- latter two are true have a lower one
 pub record AreTruePrices (auction : Auction) (first : List Choice) (p : Priced) : Type 0 where
   pub at_most : ArePrices auction.sale.book first (price_in p.prices)
   pub at_least : MeetReserves (reserves_in auction.rules) auction.sale.book first (price_in p.prices)
   pub covers : CoversEveryGroup auction.sale.lots auction.sale.book first (price_in p.prices)
   pub least : p.is_least ≡ true → IsLeastSum (reserves_in auction.rules) auction.sale.lots auction.sale.book first (price_in p.prices)
 
--- a report on an allocation of greatest total for each group, and on the groups' opportunity costs; and after it true prices, if there are prices, and what is said of other outcomes
+-- a report on an allocation of greatest total for each group, and on the groups' opportunity costs; and after it true prices, if there are
+-- prices, and what is said of other outcomes
 pub record IsTrueReport (auction : Auction) (out : List ℕ) : Type 0 where
   pub won : List (List Choice)
   pub pricing : Option Priced
   pub claim : Uniqueness
-  pub text : out ≡ report_text auction.sale auction.groups won ++ (pricing_text auction.sale (slice_index_or won 0 []) pricing ++ uniqueness_text auction.sale claim)
+  pub text : out ≡ report_text auction.sale auction.groups won ++
+      (pricing_text auction.sale (slice_index_or won 0 []) pricing ++ uniqueness_text auction.sale claim)
   pub greatest : AllZip (IsGreatestWithout auction.sale) auction.groups won
   pub costs : AllZip (IsOwnCost auction.sale (slice_index_or won 0 [])) auction.groups won
   pub prices : IfSome pricing (AreTruePrices auction (slice_index_or won 0 []))
@@ -56,7 +61,8 @@ pub record IsTrueReport (auction : Auction) (out : List ℕ) : Type 0 where
 
 -- what `verify` answers of an input is a true report on the auction that the input describes
 abbrev pub VerifiedIsTrue : Type 0
-VerifiedIsTrue = (workers : ℕ) (input : Input) (out : List ℕ) → answer (Verify workers) input ≡ Ok out → (auction : Auction) × (parsed_auction (Verify workers) input ≡ Ok auction) × IsTrueReport auction out
+VerifiedIsTrue = (workers : ℕ) (input : Input) (out : List ℕ) → answer (Verify workers) input ≡ Ok out
+    → (auction : Auction) × (parsed_auction (Verify workers) input ≡ Ok auction) × IsTrueReport auction out
 
 -- whichever allocations of greatest total are taken, the group's cost is the one that is written
 abbrev pub IsSettledCost : Sale → List Choice → List ℕ → List Choice → Type 0
@@ -75,7 +81,8 @@ pub record IsPricedOutcome (auction : Auction) (out : List ℕ) : Type 0 where
   pub won : List (List Choice)
   pub pricing : Priced
   pub claim : Uniqueness
-  pub text : out ≡ report_text auction.sale auction.groups won ++ (pricing_text auction.sale (slice_index_or won 0 []) (Some pricing) ++ uniqueness_text auction.sale claim)
+  pub text : out ≡ report_text auction.sale auction.groups won ++
+      (pricing_text auction.sale (slice_index_or won 0 []) (Some pricing) ++ uniqueness_text auction.sale claim)
   pub greatest : IsGreatestWithout auction.sale [] (slice_index_or won 0 [])
   pub prices : AreTruePrices auction (slice_index_or won 0 []) pricing
 

@@ -7,12 +7,15 @@ ghost use Rattle.answers.specs.FaithfulAnswers.{CompiledIsFaithful, TextIsFaithf
 ghost use Rattle.answers.specs.FeasibleAnswers.{MappedIsFeasible, ReportedIsFeasible};
 ghost use Rattle.answers.specs.Verified.{PricesCover, UniqueIsOnly, VerifiedIsTrue};
 
-/// What `text` answers of an input is a text that is faithful to the auction that the input describes: each 0-1 point of its program maps back to a feasible allocation of the same total, and each feasible allocation is matched by a point of at least its total.
+/// What `text` answers of an input is a text that is faithful to the auction that the input describes: each 0-1 point of its
+/// program maps back to a feasible allocation of the same total, and each feasible allocation is matched by a point of at least
+/// its total.
 pub fn a_text_is_faithful()
     ensures { TextIsFaithful }
 {}
 
-/// What `compile` answers of an input is the line and the text of each group in order, and each text is faithful to the auction that the input describes, with its group left out.
+/// What `compile` answers of an input is the line and the text of each group in order, and each text is faithful to the auction
+/// that the input describes, with its group left out.
 pub fn compiled_texts_are_faithful()
     ensures { CompiledIsFaithful }
 {}
@@ -22,22 +25,29 @@ pub fn a_mapped_allocation_is_feasible()
     ensures { MappedIsFeasible }
 {}
 
-/// What `report` answers of an input is a report on an allocation for each group that is feasible in the auction that the input describes, with the group left out.
+/// What `report` answers of an input is a report on an allocation for each group that is feasible in the auction that the input
+/// describes, with the group left out.
 pub fn reported_allocations_are_feasible()
     ensures { ReportedIsFeasible }
 {}
 
-/// What `verify` answers of an input is a report on allocations of greatest total, each without its group, of the auction that the input describes; and so each cost is the group's opportunity cost, and keeps the law on costs. What it says of other outcomes holds, too: the winners with nobody left out are the only ones, or the other allocation ties.
+/// What `verify` answers of an input is a report on allocations of greatest total, each without its group, of the auction that
+/// the input describes; and so each cost is the group's opportunity cost, and keeps the law on costs. What it says of other
+/// outcomes holds, too: the winners with nobody left out are the only ones, or the other allocation ties.
 pub fn a_verified_report_is_true()
     ensures { VerifiedIsTrue }
 {}
 
-/// If an input has prices, what `verify` answers has them, too, and no list of bidders pays less than its opportunity cost, whichever allocations of greatest total are taken; each winner pays at most its amount and at least the reserve of its lots. If `least` is printed, no whole prices that cover every list of bidders so and meet the reserves have a lower sum.
+/// If an input has prices, what `verify` answers has them, too, and no list of bidders pays less than its opportunity cost,
+/// whichever allocations of greatest total are taken; each winner pays at most its amount and at least the reserve of its lots.
+/// If `least` is printed, no whole prices that cover every list of bidders so and meet the reserves have a lower sum.
 pub fn printed_prices_cover_every_group()
     ensures { PricesCover }
 {}
 
-/// Where what `verify` answers of an input ends with the line `unique`, no other feasible allocation of the auction that the input describes has as great a total; and so the winners, and each group's cost, follow from the rules, the bids and the group alone.
+/// Where what `verify` answers of an input ends with the line `unique`, no other feasible allocation of the auction that the
+/// input describes has as great a total; and so the winners, and each group's cost, follow from the rules, the bids and the group
+/// alone.
 pub fn unique_winners_are_the_only_ones()
     ensures { UniqueIsOnly }
 {}

@@ -1,5 +1,6 @@
 -- What the stages of an auction give.
-use Rattle.std.proofs.Common.{◌≡◌, ◌≤◌, ◌<◌, ◌+◌, ◌∷◌, ◌∙◌, [], ℕ, Bool, zero, suc, List, Option, None, Some, Result, Ok, Err, ap, ap₂, arith, length, map, refl, sym, inl, inr, ◌≢◌, Vec, codes, Global}
+use Rattle.std.proofs.Common.{◌≡◌, ◌≤◌, ◌<◌, ◌+◌, ◌∷◌, ◌∙◌, [], ℕ, Bool, zero, suc, List, Option, None, Some, Result, Ok}
+use Rattle.std.proofs.Common.{Err, ap, ap₂, arith, length, map, refl, sym, inl, inr, ◌≢◌, Vec, codes, Global}
 use Rattle.std.specs.List.{last_or, range_with_len}
 use Rattle.auction_terms.specs.Allocations.{Book}
 use Rattle.auction_terms.specs.Terms.{Terms, lots_in}
@@ -52,9 +53,11 @@ module _ (asked : Request) (input : Input) (held : Vec declared.Part Global) whe
 abbrev no_parts : PartFault → Result (Vec declared.Part Global) PartFault
 no_parts f = Err f
 
-pub parts-refused : (asked : Request) (input : Input) (f : PartFault) → TellsParts asked (no_parts f) input → Refuses (parsed_parts asked input) (refusal.Parts f)
+pub parts-refused : (asked : Request) (input : Input) (f : PartFault) → TellsParts asked (no_parts f) input
+    → Refuses (parsed_parts asked input) (refusal.Parts f)
 parts-refused asked input fault.OutOfMemory parsed = inr refl
-parts-refused asked input f parsed = inl (ap (λ (found : Option PartFault). and_then (refused_as refusal.Parts (unless found (Ok (input_parts input)))) (count-stage asked)) parsed)
+parts-refused asked input f parsed = inl (ap (λ (found : Option PartFault). and_then
+    (refused_as refusal.Parts (unless found (Ok (input_parts input)))) (count-stage asked)) parsed)
 
 -- ---- the stages after the parts
 
@@ -69,19 +72,51 @@ pub record Rest : Type 0 where
   pub weights : List (List ℕ)
 
 abbrev pub rest_in : List Part → Rest
-rest_in parts = record { solutions = parts_named (codes "%solution") parts; certificates = parts_named (codes "%certificate") parts; uniques = parts_named (codes "%unique") parts; ties = parts_named (codes "%tie") parts; prices = parts_named (codes "%prices") parts; covers = parts_named (codes "%cover") parts; weights = parts_named (codes "%weights") parts }
+rest_in parts = record {
+  solutions = parts_named (codes "%solution") parts;
+  certificates = parts_named (codes "%certificate") parts;
+  uniques = parts_named (codes "%unique") parts;
+  ties = parts_named (codes "%tie") parts;
+  prices = parts_named (codes "%prices") parts;
+  covers = parts_named (codes "%cover") parts;
+  weights = parts_named (codes "%weights") parts;
+}
 
 abbrev pub rest_held : Beside → Rest
-rest_held beside = record { solutions = bytes_of beside.solutions.items; certificates = bytes_of beside.certificates.items; uniques = bytes_of beside.uniques.items; ties = bytes_of beside.ties.items; prices = bytes_of beside.prices.items; covers = bytes_of beside.covers.items; weights = bytes_of beside.weights.items }
+rest_held beside = record {
+  solutions = bytes_of beside.solutions.items;
+  certificates = bytes_of beside.certificates.items;
+  uniques =
+      bytes_of beside.uniques.items;
+  ties = bytes_of beside.ties.items;
+  prices = bytes_of beside.prices.items;
+  covers = bytes_of
+      beside.covers.items;
+  weights = bytes_of beside.weights.items;
+}
 
 pub rest-same : (beside : Beside) (parts : List Part) → HoldTexts parts beside → rest_in parts ≡ rest_held beside
 rest-same beside parts hold = rw (hold.solutions, hold.certificates, hold.uniques, hold.ties, hold.prices, hold.covers, hold.weights) refl
 
 -- the auction that forms leave, with groups and these texts
 abbrev auction_of : Terms → List Offers → List (List ℕ) → Rest → Auction
-auction_of t forms groups rest = record { rules = t; sale = sale_left t forms; form_bidders = bidders_of forms; groups = groups; solutions = rest.solutions; certificates = rest.certificates; uniques = rest.uniques; ties = rest.ties; prices = rest.prices; covers = rest.covers; weights = rest.weights }
+auction_of t forms groups rest = record {
+  rules = t;
+  sale = sale_left t forms;
+  form_bidders = bidders_of forms;
+  groups = groups;
+  solutions =
+      rest.solutions;
+  certificates = rest.certificates;
+  uniques = rest.uniques;
+  ties = rest.ties;
+  prices = rest.prices;
+  covers = rest.covers;
+  weights = rest.weights;
+}
 
-module _ (asked : Request) (input : Input) (last_wins : Bool) (same : input.last_wins ≡ last_wins) (parts : List Part) (cut : parsed_parts asked input ≡ Ok parts) where
+module _ (asked : Request) (input : Input) (last_wins : Bool) (same : input.last_wins ≡ last_wins) (parts : List Part)
+    (cut : parsed_parts asked input ≡ Ok parts) where
   pub terms-refused : (r : Refusal) → Refuses (parsed_terms (only_text (parts_named (codes "%rules") parts))) r → Refuses (parsed_auction asked input) r
   terms-refused r refused = behind _ parts _ r cut (stop _ _ r refused)
 
@@ -106,7 +141,8 @@ module _ (asked : Request) (input : Input) (last_wins : Bool) (same : input.last
         in-one-is : in-one input.last_wins ≡ Ok forms
         in-one-is = in-one-same ∙ ap checked-by alone
 
-        pub groups-refused : (r : Refusal) → Refuses (parsed_groups t (only_text (parts_named (codes "%groups") parts))) r → Refuses (parsed_auction asked input) r
+        pub groups-refused : (r : Refusal) → Refuses (parsed_groups t (only_text (parts_named (codes "%groups") parts))) r
+            → Refuses (parsed_auction asked input) r
         groups-refused r refused = behind _ parts _ r cut (behind _ t _ r rules (behind _ forms _ r each (behind _ forms _ r in-one-is (stop _ _ r refused))))
 
         module _ (groups : List (List ℕ)) (known : parsed_groups t (only_text (parts_named (codes "%groups") parts)) ≡ Ok groups) where
@@ -116,7 +152,8 @@ module _ (asked : Request) (input : Input) (last_wins : Bool) (same : input.last
           abbrev no-auction : Refusal → Result Auction Refusal
           no-auction r = Err r
 
-          pub calls-refused : (number : ℕ) (r : Refusal) → first_fault one_too_many [] forms ≡ Some number → r ≡ refusal.CallLimit number → Refuses (parsed_auction asked input) r
+          pub calls-refused : (number : ℕ) (r : Refusal) → first_fault one_too_many [] forms ≡ Some number → r ≡ refusal.CallLimit number
+              → Refuses (parsed_auction asked input) r
           calls-refused number r found is =
               let limit : parsed-by (first_fault one_too_many [] forms) ≡ Err r = ap parsed-by found ∙ ap no-auction (sym is) in
               behind _ parts _ r cut (behind _ t _ r rules (behind _ forms _ r each (behind _ forms _ r in-one-is (behind _ groups _ r known (inl limit)))))
@@ -125,17 +162,25 @@ module _ (asked : Request) (input : Input) (last_wins : Bool) (same : input.last
           auction-is accepted = next _ _ _ _ cut (next _ _ _ _ rules (next _ _ _ _ each (next _ _ _ _ in-one-is (next _ _ _ _ known (ap parsed-by accepted)))))
 
   -- the auction that parts describe
-  pub parsed-is : (t : Terms) (forms : List Offers) (groups : List (List ℕ)) (parsed : Tell last_wins parts t forms groups) → parsed_auction asked input ≡ Ok (auction_of t forms groups (rest_in parts))
+  pub parsed-is : (t : Terms) (forms : List Offers) (groups : List (List ℕ)) (parsed : Tell last_wins parts t forms groups)
+      → parsed_auction asked input ≡ Ok (auction_of t forms groups (rest_in parts))
   parsed-is t forms groups parsed = auction-is t parsed.rules forms parsed.each parsed.alone groups parsed.known parsed.accepted
 
   -- a round that leaves no book leaves no auction
   pub run-refused : asked ≢ request.Check → (r : Refusal) → RefusesRun last_wins parts r → RefusesAuction asked input r
   run-refused reads r (inl refused) = inl (refused asked input same cut)
   run-refused reads r (inr unanswered) =
-      inr (reads, auction_of unanswered.t unanswered.forms unanswered.groups (rest_in parts), parsed-is unanswered.t unanswered.forms unanswered.groups unanswered.parsed, unanswered.is)
+      inr (
+        reads,
+        auction_of unanswered.t unanswered.forms unanswered.groups (rest_in
+            parts),
+        parsed-is unanswered.t unanswered.forms unanswered.groups unanswered.parsed,
+        unanswered.is,
+      )
 
 -- what the round leaves is a matter of the desk, or of memory
-pub round-refused : (last_wins : Bool) (parts : List Part) (t : Terms) (forms : List Offers) (groups : List (List ℕ)) → Tell last_wins parts t forms groups → (f : RoundFault) → RefusesRun last_wins parts (refusal.Round f)
+pub round-refused : (last_wins : Bool) (parts : List Part) (t : Terms) (forms : List Offers) (groups : List (List ℕ))
+    → Tell last_wins parts t forms groups → (f : RoundFault) → RefusesRun last_wins parts (refusal.Round f)
 round-refused last_wins parts t forms groups parsed round.OutOfMemory = inl (λ asked input same cut. inr refl)
 round-refused last_wins parts t forms groups parsed round.WrongAnswer = inr (record { t = t; forms = forms; groups = groups; parsed = parsed; is = refl })
 
@@ -144,7 +189,8 @@ round-refused last_wins parts t forms groups parsed round.WrongAnswer = inr (rec
 -- two functions that agree on a range have one list there
 same-on : {X : Type 0} (f g : ℕ → X) (n k : ℕ) → ((b : ℕ) → k ≤ b → b < k + n → f b ≡ g b) → map f (range_with_len k n) ≡ map g (range_with_len k n)
 same-on f g zero k agree = refl
-same-on f g (suc n) k agree = ap₂ (λ x xs. x ∷ xs) (agree k (omega arith) (omega arith)) (same-on f g n (k + 1) (λ b least most. agree b (omega arith) (omega arith)))
+same-on f g (suc n) k agree = ap₂ (λ x xs. x ∷ xs) (agree k (omega arith) (omega arith))
+    (same-on f g n (k + 1) (λ b least most. agree b (omega arith) (omega arith)))
 
 abbrev sale_with : Terms → Book → Sale
 sale_with t book = record { names = map (λ bidder. bidder.name) t.bidders; lots = lots_in t; book = book }
@@ -158,10 +204,24 @@ sale-is book forms submitted =
     ap (sale_with book.rules) same
 
 abbrev pub sold : Terms → Sale → List ℕ → List (List ℕ) → Rest → Auction
-sold t sale bidders groups rest = record { rules = t; sale = sale; form_bidders = bidders; groups = groups; solutions = rest.solutions; certificates = rest.certificates; uniques = rest.uniques; ties = rest.ties; prices = rest.prices; covers = rest.covers; weights = rest.weights }
+sold t sale bidders groups rest = record {
+  rules = t;
+  sale = sale;
+  form_bidders = bidders;
+  groups = groups;
+  solutions = rest.solutions;
+  certificates = rest.certificates;
+  uniques = rest.uniques;
+  ties = rest.ties;
+  prices = rest.prices;
+  covers = rest.covers;
+  weights =
+      rest.weights;
+}
 
 -- the auction that a settled book and groups are, with the texts after them
 pub auction-held : (book : Closing) (t : Terms) (forms : List Offers) (groups : List (List ℕ)) (rest : Rest) → book.rules ≡ t → AreSubmitted forms book
     → auction_of t forms groups rest ≡ sold book.rules (sale_of book) (bidders_of forms) groups rest
 auction-held book t forms groups rest rules submitted =
-    ap (λ (u : Terms). auction_of u forms groups rest) (sym rules) ∙ ap (λ (sale : Sale). sold book.rules sale (bidders_of forms) groups rest) (sym (sale-is book forms submitted))
+    ap (λ (u : Terms). auction_of u forms groups rest) (sym rules)
+    ∙ ap (λ (sale : Sale). sold book.rules sale (bidders_of forms) groups rest) (sym (sale-is book forms submitted))

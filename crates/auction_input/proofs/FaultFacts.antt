@@ -25,14 +25,17 @@ no_groups f = Err f
 parsed-as : {A F : Type 0} (parse : F → Refusal) (f : F) (x : Result A F) → Err f ≡ x → Refuses (refused_as parse x) (parse f)
 parsed-as parse f x is = inl (ap (λ r. refused_as parse r) (sym is))
 
-pub rules-refuse : (f : RulesFault) (x : Result Terms RulesFault) → Answers rules_text.is_rules_memory (no_rules f) x → Refuses (refused_as refusal.Rules x) (refusal.Rules f)
+pub rules-refuse : (f : RulesFault) (x : Result Terms RulesFault) → Answers rules_text.is_rules_memory (no_rules f) x
+    → Refuses (refused_as refusal.Rules x) (refusal.Rules f)
 rules-refuse rules.OutOfMemory x is = inr refl
 rules-refuse f x is = parsed-as refusal.Rules f x is
 
-pub groups-refuse : (f : GroupFault) (x : Result (List (List ℕ)) GroupFault) → Answers groups_text.is_groups_memory (no_groups f) x → Refuses (refused_as refusal.Groups x) (refusal.Groups f)
+pub groups-refuse : (f : GroupFault) (x : Result (List (List ℕ)) GroupFault) → Answers groups_text.is_groups_memory (no_groups f) x
+    → Refuses (refused_as refusal.Groups x) (refusal.Groups f)
 groups-refuse groups.OutOfMemory x is = inr refl
 groups-refuse f x is = parsed-as refusal.Groups f x is
 
-pub form-refuses : (n : ℕ) (f : FormFault) (x : Result Offers FormFault) → Answers form_text.is_form_memory (Err f) x → Refuses (refused_as (refusal.Form n) x) (refusal.Form n f)
+pub form-refuses : (n : ℕ) (f : FormFault) (x : Result Offers FormFault) → Answers form_text.is_form_memory (Err f) x
+    → Refuses (refused_as (refusal.Form n) x) (refusal.Form n f)
 form-refuses n form.OutOfMemory x is = inr refl
 form-refuses n f x is = parsed-as (refusal.Form n) f x is

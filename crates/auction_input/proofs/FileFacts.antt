@@ -36,20 +36,31 @@ module _ (content : List ℕ → Option (List ℕ)) where
       by true (consumed, end) = (bytes, consumed)
       by false (same, is) = subst (λ (l : Option (List ℕ)). IsReadInPart left l) (sym same) (nothing-read left)
 
-  pub texts-in-part : (names : List (List ℕ)) (left left' : Option (List ℕ)) (texts : List Given) → AreRead content names left left' texts → IsReadInPart left left'
+  pub texts-in-part : (names : List (List ℕ)) (left left' : Option (List ℕ)) (texts : List Given) → AreRead content names left left' texts
+      → IsReadInPart left left'
   texts-in-part [] left left' texts (none, same) = subst (λ (l : Option (List ℕ)). IsReadInPart left l) (sym same) (nothing-read left)
-  texts-in-part (name ∷ names) left left' texts (bytes, more, mid, are, text, rest) = part-then left mid left' (text-in-part name left mid bytes text) (texts-in-part names mid left' more rest)
+  texts-in-part (name ∷ names) left left' texts (bytes, more, mid, are, text, rest) =
+      part-then left mid left' (text-in-part name left mid bytes text) (texts-in-part names mid left' more rest)
 
   -- one text more
-  pub read-more : (names : List (List ℕ)) (left mid left' : Option (List ℕ)) (texts : List Given) (given : Given) → AreRead content names left mid texts → IsTextOf content given.name mid left' given.bytes
+  pub read-more : (names : List (List ℕ)) (left mid left' : Option (List ℕ)) (texts : List Given) (given : Given)
+      → AreRead content names left mid texts → IsTextOf content given.name mid left' given.bytes
       → AreRead content (names ++ given.name ∷ []) left left' (texts ++ given ∷ [])
-  read-more [] left mid left' texts given (none, same) text =
-      (given.bytes, [], left', ap (λ (xs : List Given). xs ++ given ∷ []) none, subst (λ (l : Option (List ℕ)). IsTextOf content given.name l left' given.bytes) same text, (refl, refl))
+  read-more [] left mid left' texts given (none, same) text = (
+    given.bytes,
+    [],
+    left',
+    ap (λ (xs : List Given). xs ++ given ∷ []) none,
+    subst (λ (l : Option (List ℕ)). IsTextOf content given.name
+        l left' given.bytes) same text,
+    (refl, refl),
+  )
   read-more (name ∷ names) left mid left' texts given (bytes, more, between, are, first, rest) text =
       (bytes, more ++ given ∷ [], between, ap (λ (xs : List Given). xs ++ given ∷ []) are, first, read-more names between mid left' more given rest text)
 
 -- after texts that are read one isn't
-pub unread-behind : (f : Unread) (a b c : Option (List ℕ)) (reads mid reads' : ℕ) → IsReadInPart a b → mid ≡ reads → IsUnreadOf f b c mid reads' → IsUnreadOf f a c reads reads'
+pub unread-behind : (f : Unread) (a b c : Option (List ℕ)) (reads mid reads' : ℕ) → IsReadInPart a b → mid ≡ reads
+    → IsUnreadOf f b c mid reads' → IsUnreadOf f a c reads reads'
 unread-behind (unread.Input input.ReadFailed) a b c reads mid reads' part same (failed, rest) = (rw same at failed, part-then a b c part rest)
 unread-behind (unread.Input input.TooLarge) a b c reads mid reads' part same (kept, rest) = (kept ∙ same, part-then a b c part rest)
 unread-behind (unread.Input input.OutOfMemory) a b c reads mid reads' part same (kept, rest) = (kept ∙ same, part-then a b c part rest)
@@ -59,7 +70,8 @@ unread-behind (unread.File r) a b c reads mid reads' part same (kept, rest) = (k
 abbrev pub bytes_in : List Given → ℕ
 bytes_in texts = sum_by (λ (given : Given). length given.bytes) texts
 
-pub bytes-more : (old new : List Given) (given : Given) (room limit count : ℕ) → new ≡ old ++ given ∷ [] → bytes_in old + room ≡ limit → count ≡ length given.bytes → length given.bytes ≤ room → bytes_in new + (room - count) ≡ limit
+pub bytes-more : (old new : List Given) (given : Given) (room limit count : ℕ) → new ≡ old ++ given ∷ [] → bytes_in old + room ≡ limit
+    → count ≡ length given.bytes → length given.bytes ≤ room → bytes_in new + (room - count) ≡ limit
 bytes-more old new given room limit count added before own within =
     let sizes = sum_by-append (λ (g : Given). length g.bytes) old (given ∷ []) in
     let one : bytes_in (given ∷ []) ≡ length given.bytes = omega arith in

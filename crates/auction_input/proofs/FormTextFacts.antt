@@ -1,5 +1,7 @@
 -- Knowing the text of each bidder's first form, form by form.
-use Rattle.std.proofs.Common.{◌≡◌, ◌<◌, ◌+◌, ◌++◌, ◌==◌, ◌∷◌, ◌∙◌, [], ℕ, Bool, Option, true, false, List, None, Some, ap, arith, cond, if◌then◌else◌, inl, inr, is_some, length, length-set, get_or-set_other, get_or-set_same, refl, slice_index_or, slice_set, sym}
+use Rattle.std.proofs.Common.{◌≡◌, ◌<◌, ◌+◌, ◌++◌, ◌==◌, ◌∷◌, ◌∙◌, [], ℕ, Bool, Option, true, false, List, None, Some, ap}
+use Rattle.std.proofs.Common.{arith, cond, if◌then◌else◌, inl, inr, is_some, length, length-set, get_or-set_other}
+use Rattle.std.proofs.Common.{get_or-set_same, refl, slice_index_or, slice_set, sym}
 use Rattle.std.proofs.lemmas.Bool.{cases_Bool, eqb-false, eqb-true}
 use Rattle.std.specs.List.{zip}
 use Rattle.std.specs.Option.{option_or}
@@ -34,7 +36,8 @@ first-text-more b (x ∷ forms) form = elim (cases_Bool (x.0.bidder == b)) [ inl
 
 -- a form of another bidder changes nothing
 first-text-other : (b : ℕ) (forms : List Placed) (form : Placed) → (form.0.bidder == b) ≡ false → first_text b (forms ++ form ∷ []) ≡ first_text b forms
-first-text-other b forms form other = first-text-more b forms form ∙ ap (λ (t : Bool). option_or (first_text b forms) (cond t (Some form.1) None)) other ∙ option_or-none (first_text b forms)
+first-text-other b forms form other = first-text-more b forms form
+    ∙ ap (λ (t : Bool). option_or (first_text b forms) (cond t (Some form.1) None)) other ∙ option_or-none (first_text b forms)
 
 -- nor does one of a bidder whose first form is known
 first-text-known : (b first : ℕ) (forms : List Placed) (form : Placed) → first_text b forms ≡ Some first → first_text b (forms ++ form ∷ []) ≡ Some first
@@ -48,7 +51,8 @@ first-text-own forms form none =
 
 -- ---- what is known of the forms
 
-pub no-text-known : (t : Terms) (known : FormTexts) → known.refused ≡ None → length known.first ≡ TEXTS_LEN → ((b : ℕ) → b < TEXTS_LEN → slice_index_or known.first b None ≡ None) → KnowsTexts t known []
+pub no-text-known : (t : Terms) (known : FormTexts) → known.refused ≡ None → length known.first ≡ TEXTS_LEN
+    → ((b : ℕ) → b < TEXTS_LEN → slice_index_or known.first b None ≡ None) → KnowsTexts t known []
 no-text-known t known none long empty = record { refused = none ∙ sym (first-none (another_form t)); long = long; first = λ _ b within. empty b within }
 
 module _ (t : Terms) (known : FormTexts) (forms : List Placed) (form : Placed) (knows : KnowsTexts t known forms) where
@@ -61,20 +65,24 @@ module _ (t : Terms) (known : FormTexts) (forms : List Placed) (form : Placed) (
 
   module _ (none : known.refused ≡ None) (small : form.0.bidder < TEXTS_LEN) where
     -- the bidder's first form
-    pub first-of-bidder : slice_index_or known.first form.0.bidder None ≡ None → KnowsTexts t (record known { first = slice_set known.first form.0.bidder (Some form.1) }) (forms ++ form ∷ [])
+    pub first-of-bidder : slice_index_or known.first form.0.bidder None ≡ None
+        → KnowsTexts t (record known { first = slice_set known.first form.0.bidder (Some form.1) }) (forms ++ form ∷ [])
     first-of-bidder unknown =
         let long = knows.long in
         let no_form : first_text form.0.bidder forms ≡ None = sym (knows.first none form.0.bidder small) ∙ unknown in
         record {
-          refused = none ∙ sym (ap (elsewhere form.1 (another t (length forms + 1) form.0)) no_form) ∙ sym (next-first (another_form t) forms form known.refused none knows.refused);
+          refused = none ∙ sym (ap (elsewhere form.1 (another t (length forms + 1) form.0)) no_form)
+              ∙ sym (next-first (another_form t) forms form known.refused none knows.refused);
           long = length-set known.first form.0.bidder (Some form.1) ∙ long;
           first = λ _ b within. elim (cases_Bool (form.0.bidder == b)) [
             | inl same ↦ (
                 let is : form.0.bidder ≡ b = eqb-true form.0.bidder b same in
-                ap (λ i. slice_index_or (slice_set known.first form.0.bidder (Some form.1)) i None) (sym is) ∙ get_or-set_same known.first form.0.bidder (Some form.1) None (omega arith)
+                ap (λ i. slice_index_or (slice_set known.first form.0.bidder (Some form.1)) i None) (sym is)
+                ∙ get_or-set_same known.first form.0.bidder (Some form.1) None (omega arith)
                 ∙ sym (first-text-own forms form no_form) ∙ ap (λ i. first_text i (forms ++ form ∷ [])) is)
             | inr other ↦ (
-                get_or-set_other known.first form.0.bidder b (Some form.1) None (λ e. eqb-false form.0.bidder b other (sym e)) ∙ knows.first none b within ∙ sym (first-text-other b forms form other))
+                get_or-set_other known.first form.0.bidder b (Some form.1) None (λ e. eqb-false form.0.bidder b other (sym e))
+                ∙ knows.first none b within ∙ sym (first-text-other b forms form other))
           ];
         }
 
@@ -88,7 +96,8 @@ module _ (t : Terms) (known : FormTexts) (forms : List Placed) (form : Placed) (
       -- a further form in the same text
       pub in-that-text : first ≡ form.1 → KnowsTexts t known (forms ++ form ∷ [])
       in-that-text is_same = (let same = is-equal first form.1 is_same in record {
-        refused = none ∙ sym (fault-is ∙ ap (λ (b : Bool). cond b None (Some (another t (length forms + 1) form.0 first))) same) ∙ sym (next-first (another_form t) forms form known.refused none knows.refused);
+        refused = none ∙ sym (fault-is ∙ ap (λ (b : Bool). cond b None (Some (another t (length forms + 1) form.0 first))) same)
+            ∙ sym (next-first (another_form t) forms form known.refused none knows.refused);
         long = knows.long;
         first = λ _ b within. elim (cases_Bool (form.0.bidder == b)) [
           | inl this ↦ (
@@ -100,9 +109,11 @@ module _ (t : Terms) (known : FormTexts) (forms : List Placed) (form : Placed) (
       })
 
       -- one in another
-      pub in-another-text : (n : ℕ) → n ≡ length forms + 1 → (first ≡ form.1 → ⊥) → KnowsTexts t (record known { refused = Some (another t n form.0 first) }) (forms ++ form ∷ [])
+      pub in-another-text : (n : ℕ) → n ≡ length forms + 1 → (first ≡ form.1 → ⊥)
+          → KnowsTexts t (record known { refused = Some (another t n form.0 first) }) (forms ++ form ∷ [])
       in-another-text n number differs = (let other = is-other first form.1 differs in record {
-        refused = ap (λ k. Some (another t k form.0 first)) number ∙ sym (fault-is ∙ ap (λ (b : Bool). cond b None (Some (another t (length forms + 1) form.0 first))) other)
+        refused = ap (λ k. Some (another t k form.0 first)) number
+            ∙ sym (fault-is ∙ ap (λ (b : Bool). cond b None (Some (another t (length forms + 1) form.0 first))) other)
             ∙ sym (next-first (another_form t) forms form known.refused none knows.refused);
         long = knows.long;
         first = λ is_none b within. cc;

@@ -10,9 +10,12 @@ module _ (known : Known) (given : List GivenNumber) (place : ℕ) (ahead rest : 
   -- the next line
   from_line : ahead ≡ line ∷ rest → (r : Result (Option GivenNumber) PriceFault) → r ≡ parsed_line known given place line
       → all ≡ and_then r (λ g. parsed_lines known (with_given given g) (place + 1) rest)
-  from_line next r is = so_far ∙ ap (λ (lines : List (List ℕ)). parsed_lines known given place lines) next ∙ ap (λ (x : Result (Option GivenNumber) PriceFault). and_then x (λ g. parsed_lines known (with_given given g) (place + 1) rest)) (sym is)
+  from_line next r is = so_far ∙ ap (λ (lines : List (List ℕ)). parsed_lines known given place lines) next
+      ∙ ap (λ (x : Result (Option GivenNumber) PriceFault). and_then x (λ g. parsed_lines known (with_given given g) (place + 1) rest))
+      (sym is)
 
-  pub one_line : (found : Option GivenNumber) (after : List GivenNumber) → ahead ≡ line ∷ rest → Ok found ≡ parsed_line known given place line → after ≡ with_given given found → all ≡ parsed_lines known after (place + 1) rest
+  pub one_line : (found : Option GivenNumber) (after : List GivenNumber) → ahead ≡ line ∷ rest
+      → Ok found ≡ parsed_line known given place line → after ≡ with_given given found → all ≡ parsed_lines known after (place + 1) rest
   one_line found after next is now = from_line next (Ok found) is ∙ ap (λ (g : List GivenNumber). parsed_lines known g (place + 1) rest) (sym now)
 
   pub faulty_line : (fault : PriceFault) → ahead ≡ line ∷ rest → Err fault ≡ parsed_line known given place line → all ≡ Err fault

@@ -1,5 +1,7 @@
 -- The book that an input leaves is within the limits.
-use Rattle.std.proofs.Common.{◌≡◌, ◌≤◌, ◌<◌, ◌+◌, ◌==◌, ◌++◌, ◌∷◌, ◌∙◌, [], ℕ, zero, suc, Bool, true, false, List, Option, None, Some, Result, Ok, Err, append_assoc, arith, drop, length-drop, eqb-true, leb-true, length, length-append, map, refl, subst, sym, cond, filter, nat_le, nat_lt, inl, inr}
+use Rattle.std.proofs.Common.{◌≡◌, ◌≤◌, ◌<◌, ◌+◌, ◌==◌, ◌++◌, ◌∷◌, ◌∙◌, [], ℕ, zero, suc, Bool, true, false, List, Option}
+use Rattle.std.proofs.Common.{None, Some, Result, Ok, Err, append_assoc, arith, drop, length-drop, eqb-true, leb-true}
+use Rattle.std.proofs.Common.{length, length-append, map, refl, subst, sym, cond, filter, nat_le, nat_lt, inl, inr}
 use Rattle.std.specs.List.{AllByRecursion, last_or, list_all, range_with_len}
 use Rattle.std.proofs.lemmas.Bool.{and_parts, cases_Bool, ltb-true}
 use Rattle.std.proofs.lemmas.List.{append-nil, length-map}
@@ -31,7 +33,8 @@ use Rattle.auction_input.proofs.RecordFacts.{few-of-kind, kind-checks-hold, neit
 -- ---- rules
 
 -- after records of bidders there is room for the one that has no fault
-bidder-room : (v : Version) (before : List Record) (r : Record) → record_kind v r ≡ Some kind.Bidder → entry_fault v before r ≡ None → length (of_kind v kind.Bidder before) < MOST_BIDDERS
+bidder-room : (v : Version) (before : List Record) (r : Record) → record_kind v r ≡ Some kind.Bidder → entry_fault v before r ≡ None
+    → length (of_kind v kind.Bidder before) < MOST_BIDDERS
 bidder-room v before r is free =
     let checks = kind-checks-hold v kind.Bidder before r is free in
     let room : nat_lt (length (map bidder_of (of_kind v kind.Bidder before))) MOST_BIDDERS ≡ true = checks.1.1.1.1.1.0 in
@@ -39,7 +42,8 @@ bidder-room v before r is free =
     let count = length-map (of_kind v kind.Bidder before) bidder_of in
     omega arith
 
-few-bidders : (v : Version) (more : List Record) → first_fault (entry_fault v) [] more ≡ None → (step : ℕ) → length (terms_of step (entries_of v more)).bidders ≤ MOST_BIDDERS
+few-bidders : (v : Version) (more : List Record) → first_fault (entry_fault v) [] more ≡ None → (step : ℕ)
+    → length (terms_of step (entries_of v more)).bidders ≤ MOST_BIDDERS
 few-bidders v more none step =
     let within = few-of-kind v kind.Bidder MOST_BIDDERS (bidder-room v) [] more none (omega arith) in
     let number = length-map (of_kind v kind.Bidder more) bidder_of in
@@ -51,7 +55,8 @@ few-bidders v more none step =
 abbrev pub IsWithin : Lots → Offers → Type 0
 IsWithin lots form = (length form.bids ≤ MOST_BIDS) × AllByRecursion (IsBid lots) form.bids
 
-small : (quantities : List ℕ) → list_all (λ (quantity : ℕ). nat_le quantity GREATEST_QUANTITY) quantities ≡ true → AllByRecursion (λ n. n ≤ GREATEST_QUANTITY) quantities
+small : (quantities : List ℕ) → list_all (λ (quantity : ℕ). nat_le quantity GREATEST_QUANTITY) quantities ≡ true
+    → AllByRecursion (λ n. n ≤ GREATEST_QUANTITY) quantities
 small [] are = tt
 small (n ∷ quantities) are = (let parts = and_parts _ _ are in (leb-true n GREATEST_QUANTITY parts.0, small quantities parts.1))
 
@@ -103,8 +108,10 @@ terms-few text t parsed =
     let inside = ok-refused_as _ _ t parsed in
     rules-parsed (λ t. length t.bidders ≤ MOST_BIDDERS) few-bidders _ t (unless-large _ rules_fault.TooLarge _ t inside)
 
-pub forms-within : (t : Terms) (n : ℕ) (texts : List (List ℕ)) (forms : List Offers) → each_in_turn (parsed_form t) n texts ≡ Ok forms → AllByRecursion (IsWithin (lots_in t)) forms
-forms-within t n [] forms parsed = (let none : [] ≡ forms = ok-is _ [] forms refl parsed in subst (λ (fs : List Offers). AllByRecursion (IsWithin (lots_in t)) fs) none tt)
+pub forms-within : (t : Terms) (n : ℕ) (texts : List (List ℕ)) (forms : List Offers) → each_in_turn (parsed_form t) n texts ≡ Ok forms
+    → AllByRecursion (IsWithin (lots_in t)) forms
+forms-within t n [] forms parsed = (let none : [] ≡ forms = ok-is _ [] forms refl parsed in subst
+    (λ (fs : List Offers). AllByRecursion (IsWithin (lots_in t)) fs) none tt)
 forms-within t n (text ∷ texts) forms parsed =
     let first = ok-behind (parsed_form t n text) _ forms parsed in
     let second = ok-behind (each_in_turn (parsed_form t) (n + 1) texts) _ forms first.2 in
@@ -119,7 +126,8 @@ forms-within t n (text ∷ texts) forms parsed =
 abbrev BidsWithin : Lots → List Bid → Type 0
 BidsWithin lots bids = (length bids ≤ MOST_BIDS) × AllByRecursion (IsBid lots) bids
 
-last-within : (lots : Lots) (bidder : ℕ) (before : Option Offers) (forms : List Offers) → BidsWithin lots (bids_in before) → AllByRecursion (IsWithin lots) forms
+last-within : (lots : Lots) (bidder : ℕ) (before : Option Offers) (forms : List Offers) → BidsWithin lots (bids_in before)
+    → AllByRecursion (IsWithin lots) forms
     → BidsWithin lots (bids_in (last_or before (filter (λ (form : Offers). form.bidder == bidder) forms)))
 last-within lots bidder before [] so_far within = so_far
 last-within lots bidder before (form ∷ forms) so_far within =
@@ -133,7 +141,8 @@ in-each P f has a zero = tt
 in-each P f has a (suc n) = (has a, in-each P f has (a + 1) n)
 
 -- the book that forms leave
-pub book-within : (t : Terms) (forms : List Offers) → length t.bidders ≤ MOST_BIDDERS → AllByRecursion (IsWithin (lots_in t)) forms → IsBook (lots_in t) (sale_left t forms).book
+pub book-within : (t : Terms) (forms : List Offers) → length t.bidders ≤ MOST_BIDDERS → AllByRecursion (IsWithin (lots_in t)) forms
+    → IsBook (lots_in t) (sale_left t forms).book
 book-within t forms few within =
     let bids_of = λ (bidder : ℕ). bids_in (last_or None (forms_of bidder forms)) in
     let each : (b : ℕ) → BidsWithin (lots_in t) (bids_of b) = λ b. last-within (lots_in t) b None forms (omega arith, tt) within in

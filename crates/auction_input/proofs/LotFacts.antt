@@ -8,7 +8,8 @@ use Rattle.auction_terms.specs.Entries.{is_member_of, pool_with, terms_of}
 use Rattle.auction_terms.specs.FirstFault.{first_fault}
 use Rattle.auction_terms.specs.Limits.{IsLots, IsWeightedCap}
 use Rattle.auction_terms.specs.Records.{Record}
-use Rattle.auction_terms.specs.RulesText.{category_of, entries_of, entry_fault, field_number, is_between, parsed_numeral, entry_numbers, of_kind, record_kind, value_text}
+use Rattle.auction_terms.specs.RulesText.{category_of, entries_of, entry_fault, field_number, is_between, parsed_numeral}
+use Rattle.auction_terms.specs.RulesText.{entry_numbers, of_kind, record_kind, value_text}
 use Rattle.auction_terms.specs.inside.RulesText.{member_of, pool_of}
 use Rattle.auction_terms.specs.Terms.{Terms, lots_in}
 use Rattle.auction_terms.specs.inside.Terms.{cap_of}
@@ -25,7 +26,8 @@ use Rattle.auction_input.proofs.RecordFacts.{each-of-kind, few-of-kind, kind-che
 
 -- ---- a record without a fault
 
-in-range : (numbers : List (List ℕ × ℕ × ℕ)) → list_all (λ (n : List ℕ × ℕ × ℕ). is_between n.1 n.2 (parsed_numeral n.0)) numbers ≡ true → AllByRecursion (λ n. parsed_numeral n.0 ≤ n.2) numbers
+in-range : (numbers : List (List ℕ × ℕ × ℕ)) → list_all (λ (n : List ℕ × ℕ × ℕ). is_between n.1 n.2 (parsed_numeral n.0)) numbers ≡ true
+    → AllByRecursion (λ n. parsed_numeral n.0 ≤ n.2) numbers
 in-range [] are = tt
 in-range (n ∷ numbers) are =
     let parts = and_parts (is_between n.1 n.2 (parsed_numeral n.0)) (list_all (λ (n : List ℕ × ℕ × ℕ). is_between n.1 n.2 (parsed_numeral n.0)) numbers) are in
@@ -58,30 +60,44 @@ pool-checks v before r is free =
     let count = length-map (of_kind v kind.Pool before) pool_of in
     (ranges.0, omega arith)
 
-member-checks : (v : Version) (before : List Record) (r : Record) → record_kind v r ≡ Some kind.Member → entry_fault v before r ≡ None → field_number 4 r ≤ GREATEST_WEIGHT
+member-checks : (v : Version) (before : List Record) (r : Record) → record_kind v r ≡ Some kind.Member → entry_fault v before r ≡ None
+    → field_number 4 r ≤ GREATEST_WEIGHT
 member-checks v before r is free =
     (in-range (entry_numbers v r kind.Member) (kind-checks-hold v kind.Member before r is free).1.1.1.0).0
 
 -- ---- what records without a fault make
 
 -- what holds of each element holds of each value that is made of one
-each-made : {X Y : Type 0} (P : X → Type 0) (Q : Y → Type 0) (f : X → Y) → ((x : X) → P x → Q (f x)) → (xs : List X) → AllByRecursion P xs → AllByRecursion Q (map f xs)
+each-made : {X Y : Type 0} (P : X → Type 0) (Q : Y → Type 0) (f : X → Y) → ((x : X) → P x → Q (f x)) → (xs : List X) → AllByRecursion P xs
+    → AllByRecursion Q (map f xs)
 each-made P Q f made [] h = tt
 each-made P Q f made (x ∷ xs) h = (made x h.0, each-made P Q f made xs h.1)
 
 -- the weight of a category that a member names, and of one that none does
-weight-in : (test : Member → Bool) (members : List Member) → AllByRecursion (λ (member : Member). member.weight ≤ GREATEST_WEIGHT) members → option_map_or (λ (member : Member). member.weight) (find test members) 0 ≤ GREATEST_WEIGHT
+weight-in : (test : Member → Bool) (members : List Member) → AllByRecursion (λ (member : Member). member.weight ≤ GREATEST_WEIGHT) members
+    → option_map_or (λ (member : Member). member.weight) (find test members) 0 ≤ GREATEST_WEIGHT
 weight-in test [] h = omega arith
 weight-in test (member ∷ members) h = elim (cases_Bool (test member)) [ inl is ↦ rw is h.0 | inr is ↦ rw is (weight-in test members h.1) ]
 
-weights-in : (members : List Member) (pool : List ℕ) (categories : List Category) → AllByRecursion (λ (member : Member). member.weight ≤ GREATEST_WEIGHT) members → AllByRecursion (λ n. n ≤ GREATEST_WEIGHT) (map (λ (category : Category). option_map_or (λ (member : Member). member.weight) (find (is_member_of pool category.name) members) 0) categories)
+weights-in : (members : List Member) (pool : List ℕ) (categories : List Category)
+    → AllByRecursion (λ (member : Member). member.weight ≤ GREATEST_WEIGHT) members
+    → AllByRecursion (λ n. n ≤ GREATEST_WEIGHT) (map (λ (category : Category). option_map_or (λ (member : Member). member.weight)
+    (find (is_member_of pool category.name) members) 0) categories)
 weights-in members pool [] h = tt
 weights-in members pool (category ∷ categories) h = (weight-in (is_member_of pool category.name) members h, weights-in members pool categories h)
 
-small-pools : (categories : List Category) (members : List Member) → AllByRecursion (λ (member : Member). member.weight ≤ GREATEST_WEIGHT) members → (records : List Record)
-    → AllByRecursion (λ r. field_number 3 r ≤ GREATEST_AMOUNT) records → AllByRecursion IsWeightedCap (map cap_of (map (pool_with categories members) (map pool_of records)))
+small-pools : (categories : List Category) (members : List Member)
+    → AllByRecursion (λ (member : Member). member.weight ≤ GREATEST_WEIGHT) members → (records : List Record)
+    → AllByRecursion (λ r. field_number 3 r ≤ GREATEST_AMOUNT) records
+    → AllByRecursion IsWeightedCap (map cap_of (map (pool_with categories members) (map pool_of records)))
 small-pools categories members small [] h = tt
-small-pools categories members small (r ∷ records) h = (record { cap = h.0; weights = weights-in members (pool_of r).name categories small }, small-pools categories members small records h.1)
+small-pools categories members small (r ∷ records) h = (
+  record {
+    cap = h.0;
+    weights = weights-in members (pool_of r).name categories small;
+  },
+  small-pools categories members small records h.1,
+)
 
 made-lots : (v : Version) (more : List Record) → first_fault (entry_fault v) [] more ≡ None → (step : ℕ) → IsLots (lots_in (terms_of step (entries_of v more)))
 made-lots v more none step =
@@ -91,7 +107,8 @@ made-lots v more none step =
     let few_pools = few-of-kind v kind.Pool MOST_POOLS (λ before r is free. (pool-checks v before r is free).1) [] more none (omega arith) in
     let each = each-of-kind v kind.Category (IsCategoryRecord v) (λ before r is free. (category-checks v before r is free).0) [] more none in
     let caps = each-of-kind v kind.Pool (λ r. field_number 3 r ≤ GREATEST_AMOUNT) (λ before r is free. (pool-checks v before r is free).0) [] more none in
-    let weights = each-made _ (λ (member : Member). member.weight ≤ GREATEST_WEIGHT) member_of (λ r h. h) _ (each-of-kind v kind.Member (λ r. field_number 4 r ≤ GREATEST_WEIGHT) (member-checks v) [] more none) in
+    let weights = each-made _ (λ (member : Member). member.weight ≤ GREATEST_WEIGHT) member_of (λ r h. h) _
+    (each-of-kind v kind.Member (λ r. field_number 4 r ≤ GREATEST_WEIGHT) (member-checks v) [] more none) in
     let parsed = length-map categories (category_of v) in
     let count = length-map (map (category_of v) categories) (λ (category : Category). category.supply) in
     let parsed_pools = length-map pools pool_of in
@@ -99,8 +116,10 @@ made-lots v more none step =
     let pool_count = length-map (terms_of step (entries_of v more)).pools cap_of in
     record {
       categories = omega arith;
-      supplies = each-made _ _ (λ (category : Category). category.supply) (λ _ h. h) _ (each-made _ (λ (category : Category). category.supply ≤ GREATEST_QUANTITY) (category_of v) (λ r h. h.supply) categories each);
-      values = each-made _ _ (λ (category : Category). category.value) (λ _ h. h) _ (each-made _ (λ (category : Category). category.value ≤ GREATEST_VALUE) (category_of v) (λ r h. h.value) categories each);
+      supplies = each-made _ _ (λ (category : Category). category.supply) (λ _ h. h) _
+          (each-made _ (λ (category : Category). category.supply ≤ GREATEST_QUANTITY) (category_of v) (λ r h. h.supply) categories each);
+      values = each-made _ _ (λ (category : Category). category.value) (λ _ h. h) _
+          (each-made _ (λ (category : Category). category.value ≤ GREATEST_VALUE) (category_of v) (λ r h. h.value) categories each);
       few_pools = omega arith;
       pools = small-pools (entries_of v more).categories (entries_of v more).members weights pools caps;
     }

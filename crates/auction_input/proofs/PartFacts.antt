@@ -1,5 +1,8 @@
 -- The first line of a text, and what is before the next part.
-use Rattle.std.proofs.Common.{◌≡◌, ◌≤◌, ◌<◌, ◌+◌, ◌∷◌, ◌++◌, ◌∙◌, Bool, true, false, ℕ, zero, suc, List, [], drop, take, length, refl, Result, Err, Vec, Global, ap, append_assoc, subst, sym, arith, ◌⊎◌, inl, inr, ◌==◌, ◌||◌, Option, None, Some, count_by, filter, find, map, slice_index, slice_index_or, not, Bor, bytes_eq}
+use Rattle.std.proofs.Common.{◌≡◌, ◌≤◌, ◌<◌, ◌+◌, ◌∷◌, ◌++◌, ◌∙◌, Bool, true, false, ℕ, zero, suc, List, [], drop, take}
+use Rattle.std.proofs.Common.{length, refl, Result, Err, Vec, Global, ap, append_assoc, subst, sym, arith, ◌⊎◌, inl, inr}
+use Rattle.std.proofs.Common.{◌==◌, ◌||◌, Option, None, Some, count_by, filter, find, map, slice_index, slice_index_or, not}
+use Rattle.std.proofs.Common.{Bor, bytes_eq}
 use Rattle.auction_terms.specs.FirstFault.{first_fault}
 use Rattle.auction_terms.proofs.FirstFaultFacts.{CheckedSoFar}
 use Rattle.auction_input.proofs.CallFacts.{first-append}
@@ -16,7 +19,9 @@ use Rattle.auction_input.specs.declared.request.Request.{Request}
 use Rattle.auction_input.specs.declared.request.Target.TheVariants as target
 use Rattle.auction_input.specs.declared.request.Target.{Target}
 use Rattle.memchr.specs.Find.{FindsNeedle, OccursAt}
-use Rattle.auction_input.specs.Parts.{Part, TellsParts, bytes_before, onto_first_line, cut_lines, has_bytes_before, heads_part, input_fault, name_of, names_for, part_fault, part_names, parts_from, parts_held, parts_in, parts_named, input_parts, text_numbers}
+use Rattle.auction_input.specs.Parts.{Part, TellsParts, bytes_before, onto_first_line, cut_lines, has_bytes_before}
+use Rattle.auction_input.specs.Parts.{heads_part, input_fault, name_of, names_for, part_fault, part_names, parts_from}
+use Rattle.auction_input.specs.Parts.{parts_held, parts_in, parts_named, input_parts, text_numbers}
 use Rattle.auction_input.specs.Input.{Given, Input}
 use Rattle.auction_input.specs.ParsedParts.{only_text}
 use Rattle.auction_input.specs.inside.Parts.{HaveAdded, IsFaultBehind, is_held, kind_named, kinds_for, known_kinds, part}
@@ -35,7 +40,8 @@ not-false true is = refl
 not-false false is = cc
 
 -- a text with a line feed, none before it
-pub cut-at : (text : List ℕ) (end : ℕ) → end < length text → ((k : ℕ) → k < end → is_line_feed (slice_index text k) ≡ false) → is_line_feed (slice_index text end) ≡ true
+pub cut-at : (text : List ℕ) (end : ℕ) → end < length text → ((k : ℕ) → k < end → is_line_feed (slice_index text k) ≡ false)
+    → is_line_feed (slice_index text end) ≡ true
     → cut_lines text ≡ take (suc end) text ∷ cut_lines (drop (suc end) text)
 cut-at [] end small none is = absurd (omega arith)
 cut-at (b ∷ rest) zero small none is = rw is refl
@@ -67,7 +73,8 @@ headed (b ∷ text) (suc n) some is = is
 -- the parts of a text that begins with one: that one, and those after it
 pub parts-headed : (text : List ℕ) (n end : ℕ) → 0 < n → heads_part text ≡ true
     → cut_lines text ≡ take n text ∷ cut_lines (drop n text)
-    → bytes_before (cut_lines (drop n text)) ≡ take end (drop n text) → ((at : ℕ) → parts_in at (cut_lines (drop n text)) ≡ parts_in at (cut_lines (drop end (drop n text))))
+    → bytes_before (cut_lines (drop n text)) ≡ take end (drop n text)
+    → ((at : ℕ) → parts_in at (cut_lines (drop n text)) ≡ parts_in at (cut_lines (drop end (drop n text))))
     → (at : ℕ) → parts_in at (cut_lines text) ≡ part at (take n text) (take end (drop n text)) ∷ parts_in at (cut_lines (drop end (drop n text)))
 parts-headed text n end some is cut bytes parts at =
     let head : heads_part (take n text) ≡ true = headed text n some is in
@@ -81,7 +88,8 @@ module _ (name : List ℕ) where
   NamedIn names None = list_any (bytes_eq name) names ≡ false
   NamedIn names (Some k) = (name ≡ name_of k) × (list_any (bytes_eq name) names ≡ true)
 
-  behind : (first : List ℕ) (names : List (List ℕ)) (found : Option PartKind) → bytes_eq name first ≡ false → NamedIn names found → NamedIn (first ∷ names) found
+  behind : (first : List ℕ) (names : List (List ℕ)) (found : Option PartKind) → bytes_eq name first ≡ false → NamedIn names found
+      → NamedIn (first ∷ names) found
   behind first names None other named = rw other named
   behind first names (Some k) other named = (named.0, rw other named.1)
 
@@ -113,7 +121,8 @@ pub known-part : (asked : Request) (before : List Part) (p : Part) (k : PartKind
 known-part asked before p k is = rw (named-so p.name asked (Some k) is).1 refl
 
 -- a part of no known kind
-pub unknown-part : (asked : Request) (before : List Part) (p : Part) → kind_named asked p.name ≡ None → part_fault asked before p ≡ Some (fault.PartName (length before + 1))
+pub unknown-part : (asked : Request) (before : List Part) (p : Part) → kind_named asked p.name ≡ None
+    → part_fault asked before p ≡ Some (fault.PartName (length before + 1))
 unknown-part asked before p is = rw (named-so p.name asked None is) refl
 
 abbrev held_part : declared.Part → Part
@@ -123,18 +132,21 @@ abbrev so_named : ℕ → List ℕ → List ℕ → Part
 so_named n bytes name = record { text = n; name = name; bytes = bytes }
 
 -- one part more is held
-pub held-more : (old new : List declared.Part) (asked : Request) (name : List ℕ) (part : declared.Part) → kind_named asked name ≡ Some part.kind → new ≡ old ++ part ∷ []
+pub held-more : (old new : List declared.Part) (asked : Request) (name : List ℕ) (part : declared.Part)
+    → kind_named asked name ≡ Some part.kind → new ≡ old ++ part ∷ []
     → parts_held new ≡ parts_held old ++ so_named part.text part.bytes.now name ∷ []
 held-more old new asked name part parsed grown =
     ap parts_held grown ∙ map-append held_part old (part ∷ [])
     ∙ ap (λ (n : List ℕ). parts_held old ++ so_named part.text part.bytes.now n ∷ []) (sym (named-so name asked (Some part.kind) parsed).0)
 
 -- where nothing is before the first part, the first fault is that of a part
-pub fault-of-parts : (asked : Request) (input : Input) → list_any has_bytes_before input.texts ≡ false → input_fault asked input ≡ first_fault (part_fault asked) [] (input_parts input)
+pub fault-of-parts : (asked : Request) (input : Input) → list_any has_bytes_before input.texts ≡ false
+    → input_fault asked input ≡ first_fault (part_fault asked) [] (input_parts input)
 fault-of-parts asked input none = rw none refl
 
 -- a text of those with nothing before their first parts
-pub none-at : (texts : List Given) (place : ℕ) (d : Given) → place < length texts → list_any has_bytes_before texts ≡ false → has_bytes_before (slice_index_or texts place d) ≡ false
+pub none-at : (texts : List Given) (place : ℕ) (d : Given) → place < length texts → list_any has_bytes_before texts ≡ false
+    → has_bytes_before (slice_index_or texts place d) ≡ false
 none-at [] place d within none = absurd (omega arith)
 none-at (given ∷ texts) zero d within none = (or-false _ _ none).0
 none-at (given ∷ texts) (suc place) d within none = none-at texts place d (omega arith) (or-false _ _ none).1
@@ -147,7 +159,8 @@ pub record CheckedBehind (asked : Request) (old all before rest : List Part) : T
   pub all_is : old ++ all ≡ before ++ rest
   pub fault_is : first_fault (part_fault asked) old all ≡ first_fault (part_fault asked) before rest
 
-pub behind-more : (asked : Request) (old all before ahead rest : List Part) (p : Part) → CheckedBehind asked old all before ahead → ahead ≡ p ∷ rest → part_fault asked before p ≡ None
+pub behind-more : (asked : Request) (old all before ahead rest : List Part) (p : Part) → CheckedBehind asked old all before ahead
+    → ahead ≡ p ∷ rest → part_fault asked before p ≡ None
     → CheckedBehind asked old all (before ++ p ∷ []) rest
 unfolding first_fault
 behind-more asked old all before ahead rest p so_far next none =
@@ -157,7 +170,8 @@ behind-more asked old all before ahead rest p so_far next none =
       fault_is = parsed;
     }
 
-pub behind-fault : (asked : Request) (old all before ahead rest : List Part) (p : Part) (f : PartFault) → CheckedBehind asked old all before ahead → ahead ≡ p ∷ rest → part_fault asked before p ≡ Some f
+pub behind-fault : (asked : Request) (old all before ahead rest : List Part) (p : Part) (f : PartFault)
+    → CheckedBehind asked old all before ahead → ahead ≡ p ∷ rest → part_fault asked before p ≡ Some f
     → first_fault (part_fault asked) old all ≡ Some f
 unfolding first_fault
 behind-fault asked old all before ahead rest p f so_far next found =
@@ -173,12 +187,14 @@ module _ (asked : Request) (all before more rest : List Part) (held : List Part)
   pub text-more : HaveAdded asked before held more → CheckedSoFar (part_fault asked) all held rest
   text-more added = record {
     all_is = so_far.all_is ∙ sym (append_assoc before more rest) ∙ ap (λ (xs : List Part). xs ++ rest) (sym added.held);
-    fault_is = so_far.fault_is ∙ first-append (part_fault asked) before more rest ∙ ap (λ (o : Option PartFault). option_or o (first_fault (part_fault asked) (before ++ more) rest)) added.sound
+    fault_is = so_far.fault_is ∙ first-append (part_fault asked) before more rest
+        ∙ ap (λ (o : Option PartFault). option_or o (first_fault (part_fault asked) (before ++ more) rest)) added.sound
         ∙ ap (λ (xs : List Part). first_fault (part_fault asked) xs rest) (sym added.held);
   }
 
   pub text-fault : (f : PartFault) → first_fault (part_fault asked) before more ≡ Some f → first_fault (part_fault asked) [] all ≡ Some f
-  text-fault f found = so_far.fault_is ∙ first-append (part_fault asked) before more rest ∙ ap (λ (o : Option PartFault). option_or o (first_fault (part_fault asked) (before ++ more) rest)) found
+  text-fault f found = so_far.fault_is ∙ first-append (part_fault asked) before more rest
+      ∙ ap (λ (o : Option PartFault). option_or o (first_fault (part_fault asked) (before ++ more) rest)) found
 
 abbrev no_parts : PartFault → Result (Vec declared.Part Global) PartFault
 no_parts f = Err f
@@ -187,8 +203,10 @@ no_parts f = Err f
 pub text-refused : (asked : Request) (input : Input) (before more rest : List Part) (f : PartFault) → list_any has_bytes_before input.texts ≡ false
     → CheckedSoFar (part_fault asked) (input_parts input) before (more ++ rest) → IsFaultBehind asked before more f → TellsParts asked (no_parts f) input
 text-refused asked input before more rest fault.OutOfMemory none so_far found = tt
-text-refused asked input before more rest fault.BeforeFirst none so_far found = fault-of-parts asked input none ∙ text-fault asked (input_parts input) before more rest [] so_far fault.BeforeFirst found
-text-refused asked input before more rest (fault.PartName n) none so_far found = fault-of-parts asked input none ∙ text-fault asked (input_parts input) before more rest [] so_far (fault.PartName n) found
+text-refused asked input before more rest fault.BeforeFirst none so_far found =
+    fault-of-parts asked input none ∙ text-fault asked (input_parts input) before more rest [] so_far fault.BeforeFirst found
+text-refused asked input before more rest (fault.PartName n) none so_far found =
+    fault-of-parts asked input none ∙ text-fault asked (input_parts input) before more rest [] so_far (fault.PartName n) found
 
 -- the text that is next, and those after it
 pub next-text : (texts : List Given) (place : ℕ) (d : Given) → place < length texts
@@ -196,7 +214,8 @@ pub next-text : (texts : List Given) (place : ℕ) (d : Given) → place < lengt
 next-text texts place d within = ap (parts_from place) (drop_more texts place d within)
 
 -- whether the scan for the first part goes on
-pub before-is : (text : List ℕ) (n : ℕ) → n ≤ length text → bytes_before (cut_lines text) ≡ take n text → not (length (bytes_before (cut_lines text)) == 0) ≡ nat_lt 0 n
+pub before-is : (text : List ℕ) (n : ℕ) → n ≤ length text → bytes_before (cut_lines text) ≡ take n text
+    → not (length (bytes_before (cut_lines text)) == 0) ≡ nat_lt 0 n
 before-is text n within is = rw (is, length-take-le n text within) (is-some n)
   where
     is-some : (k : ℕ) → not (k == 0) ≡ nat_lt 0 k
@@ -208,7 +227,8 @@ before-is text n within is = rw (is, length-take-le n text within) (is-some n)
 -- there are as many numbers of texts as texts
 pub as-many-numbers : (name : List ℕ) (parts : List Part) → length (text_numbers name parts) ≡ length (parts_named name parts)
 as-many-numbers name parts =
-    length-map (filter (λ (p : Part). bytes_eq p.name name) parts) (λ (p : Part). p.text) ∙ sym (length-map (filter (λ (p : Part). bytes_eq p.name name) parts) (λ (p : Part). p.bytes))
+    length-map (filter (λ (p : Part). bytes_eq p.name name) parts) (λ (p : Part). p.text)
+    ∙ sym (length-map (filter (λ (p : Part). bytes_eq p.name name) parts) (λ (p : Part). p.bytes))
 
 module _ (k : PartKind) where
   abbrev held_named : List declared.Part → List (List ℕ)
@@ -225,7 +245,8 @@ module _ (k : PartKind) where
     | inr is ↦ rw is (texts_held held)
   ]
 
-  pub numbers_held : (held : List declared.Part) → map (λ (part : declared.Part). part.text) (filter (is_held k) held) ≡ text_numbers (name_of k) (parts_held held)
+  pub numbers_held : (held : List declared.Part)
+      → map (λ (part : declared.Part). part.text) (filter (is_held k) held) ≡ text_numbers (name_of k) (parts_held held)
   numbers_held [] = refl
   numbers_held (part ∷ held) = elim (cases_Bool (is_held k part)) [
     | inl is ↦ rw is (ap (λ (ns : List ℕ). part.text ∷ ns) (numbers_held held))
@@ -235,9 +256,11 @@ module _ (k : PartKind) where
   pub count_held : (held : List declared.Part) → count_by (is_held k) held ≡ length (held_named held)
   count_held held =
       let bytes = λ (part : declared.Part). part.bytes in
-      sym (length-filter (is_held k) held) ∙ sym (length-map (filter (is_held k) held) bytes) ∙ sym (length-map (map bytes (filter (is_held k) held)) (λ (text : Bor (List ℕ)). text.now)) ∙ ap length (texts_held held)
+      sym (length-filter (is_held k) held) ∙ sym (length-map (filter (is_held k) held) bytes)
+      ∙ sym (length-map (map bytes (filter (is_held k) held)) (λ (text : Bor (List ℕ)). text.now)) ∙ ap length (texts_held held)
 
-  pub first_held : (held : List declared.Part) (found : Option declared.Part) → find (is_held k) held ≡ found → option_map_or (λ (part : declared.Part). part.bytes.now) found [] ≡ only_text (held_named held)
+  pub first_held : (held : List declared.Part) (found : Option declared.Part) → find (is_held k) held ≡ found
+      → option_map_or (λ (part : declared.Part). part.bytes.now) found [] ≡ only_text (held_named held)
   first_held [] found is = ap (λ (o : Option declared.Part). option_map_or (λ (part : declared.Part). part.bytes.now) o []) (sym is)
   first_held (part ∷ held) found is = elim (cases_Bool (is_held k part)) [
     | inl here ↦ rw here (ap (λ (o : Option declared.Part). option_map_or (λ (p : declared.Part). p.bytes.now) o []) (sym (rw here at is)))
@@ -290,7 +313,8 @@ module _ (at : ℕ) where
 
   -- the first line, and what is before the next part after it, are so many bytes
   abbrev pub IsBody : List ℕ → ℕ → Type 0
-  IsBody text n = (first_line (cut_lines text) ++ bytes_before (rest_of (cut_lines text)) ≡ take n text) × (parts_in at (rest_of (cut_lines text)) ≡ parts_in at (cut_lines (drop n text)))
+  IsBody text n = (first_line (cut_lines text) ++ bytes_before (rest_of (cut_lines text)) ≡ take n text)
+      × (parts_in at (rest_of (cut_lines text)) ≡ parts_in at (cut_lines (drop n text)))
 
   -- the same of a text that begins with no part
   abbrev pub IsBefore : List ℕ → ℕ → Type 0

@@ -1,5 +1,6 @@
 -- Where texts count so much each: the text with a number of all, and how much is counted.
-use Rattle.std.proofs.Common.{◌≡◌, ◌≤◌, ◌<◌, ◌+◌, ◌-◌, ◌∷◌, ◌∙◌, Bool, true, false, ℕ, List, [], Option, None, Some, ap, arith, drop, inl, inr, length, map, refl, slice_index_or, sym}
+use Rattle.std.proofs.Common.{◌≡◌, ◌≤◌, ◌<◌, ◌+◌, ◌-◌, ◌∷◌, ◌∙◌, Bool, true, false, ℕ, List, [], Option, None, Some, ap}
+use Rattle.std.proofs.Common.{arith, drop, inl, inr, length, map, refl, slice_index_or, sym}
 use Rattle.std.proofs.lemmas.Bool.{cases_Bool}
 use Rattle.std.proofs.lemmas.Bool.Decides.{leb_tells}
 use Rattle.std.specs.Prelude.{if◌then◌else◌, option_map}
@@ -21,19 +22,26 @@ pub shifted-none : (found : Option Spot) → found ≡ shifted 0 found
 shifted-none None = refl
 shifted-none (Some at) = (let e : at.text ≡ at.text + 0 = omega arith in ap (λ (t : ℕ). Some (record at { text = t })) e)
 
-shifted-more : (k : ℕ) (found : Option Spot) → shifted k (option_map (λ (at : Spot). record { text = at.text + 1; number = at.number }) found) ≡ shifted (k + 1) found
+shifted-more : (k : ℕ) (found : Option Spot)
+    → shifted k (option_map (λ (at : Spot). record { text = at.text + 1; number = at.number }) found) ≡ shifted (k + 1) found
 shifted-more k None = refl
 shifted-more k (Some at) = (let e : at.text + 1 + k ≡ at.text + (k + 1) = omega arith in ap (λ (t : ℕ). Some (record at { text = t })) e)
 
 -- the number is among those of the next text
 pub located-here : (k n count : ℕ) (more : List ℕ) → n ≤ count → shifted k (located (count ∷ more) n) ≡ Some (record { text = k; number = n })
-located-here k n count more within = elim (leb_tells n count) [ inl (is, _) ↦ rw is (let e : 0 + k ≡ k = omega arith in ap (λ (t : ℕ). Some (spot t n)) e) | inr (_, above) ↦ absurd (omega arith) ]
+located-here k n count more within = elim (leb_tells n count) [
+  | inl (is, _) ↦ rw is
+      (let e : 0 + k ≡ k = omega arith in ap (λ (t : ℕ). Some (spot t n)) e)
+  | inr (_, above) ↦ absurd (omega arith)
+]
 
 -- or after them
 pub located-behind : (k n count : ℕ) (more : List ℕ) → count < n → shifted k (located (count ∷ more) n) ≡ shifted (k + 1) (located more (n - count))
-located-behind k n count more above = elim (leb_tells n count) [ inl (_, within) ↦ absurd (omega arith) | inr (is, _) ↦ rw is (shifted-more k (located more (n - count))) ]
+located-behind k n count more above =
+    elim (leb_tells n count) [ inl (_, within) ↦ absurd (omega arith) | inr (is, _) ↦ rw is (shifted-more k (located more (n - count))) ]
 
 -- one part more
-pub counted-more : (kind : Option PartKind) (p : Part) (parts : List Part) → parts_counted kind (p ∷ parts) ≡ (if is_counted kind p.name then 1 else 0) + parts_counted kind parts
+pub counted-more : (kind : Option PartKind) (p : Part) (parts : List Part)
+    → parts_counted kind (p ∷ parts) ≡ (if is_counted kind p.name then 1 else 0) + parts_counted kind parts
 counted-more None p parts = (omega arith)
 counted-more (Some kind) p parts = elim (cases_Bool (bytes_eq p.name (name_of kind))) [ inl is ↦ rw is (omega arith) | inr other ↦ rw other (omega arith) ]

@@ -36,13 +36,15 @@ module _ {X A E : Type 0} (parse : ℕ → X → Result A E) where
   pub left-first : (items : List X) → IsLeft 1 items [] items
   left-first items = onto-none (each_in_turn parse 1 items)
 
-  onto-all : (parsed ys : List A) (r : Result (List A) E) → and_then (and_then r (λ zs. Ok (ys ++ zs))) (λ more. Ok (parsed ++ more)) ≡ and_then r (λ more. Ok ((parsed ++ ys) ++ more))
+  onto-all : (parsed ys : List A) (r : Result (List A) E)
+      → and_then (and_then r (λ zs. Ok (ys ++ zs))) (λ more. Ok (parsed ++ more)) ≡ and_then r (λ more. Ok ((parsed ++ ys) ++ more))
   onto-all parsed ys (Ok zs) = ap (λ (xs : List A). Ok xs) (sym (append_assoc parsed ys zs))
   onto-all parsed ys (Err e) = refl
 
   -- items of which the first give their values, and what the rest gives
   apart : (parsed : Result A E) (front back : Result (List A) E)
-      → and_then parsed (λ y. and_then (and_then front (λ ys. and_then back (λ zs. Ok (ys ++ zs)))) (λ more. Ok (y ∷ more))) ≡ and_then (and_then parsed (λ y. and_then front (λ ys. Ok (y ∷ ys)))) (λ ys. and_then back (λ zs. Ok (ys ++ zs)))
+      → and_then parsed (λ y. and_then (and_then front (λ ys. and_then back (λ zs. Ok (ys ++ zs)))) (λ more. Ok (y ∷ more)))
+      ≡ and_then (and_then parsed (λ y. and_then front (λ ys. Ok (y ∷ ys)))) (λ ys. and_then back (λ zs. Ok (ys ++ zs)))
   apart (Ok y) (Ok ys) (Ok zs) = refl
   apart (Ok y) (Ok ys) (Err e) = refl
   apart (Ok y) (Err e) back = refl
@@ -58,27 +60,34 @@ module _ {X A E : Type 0} (parse : ℕ → X → Result A E) where
       ∙ apart (parse n x) (each_in_turn parse (n + 1) front) (each_in_turn parse m back)
 
   -- the next items give their values
-  pub left-stage : (n m : ℕ) (items : List X) (parsed : List A) (stage rest : List X) (ys : List A) → n + length stage ≡ m → IsLeft n items parsed (stage ++ rest) → each_in_turn parse n stage ≡ Ok ys
+  pub left-stage : (n m : ℕ) (items : List X) (parsed : List A) (stage rest : List X) (ys : List A) → n + length stage ≡ m
+      → IsLeft n items parsed (stage ++ rest) → each_in_turn parse n stage ≡ Ok ys
       → IsLeft m items (parsed ++ ys) rest
   left-stage n m items parsed stage rest ys count left tells =
       left ∙ ap (λ (r : Result (List A) E). and_then r (λ more. Ok (parsed ++ more))) (each-apart n m stage rest count)
-      ∙ ap (λ (r : Result (List A) E). and_then (and_then r (λ front. and_then (each_in_turn parse m rest) (λ zs. Ok (front ++ zs)))) (λ more. Ok (parsed ++ more))) tells
+      ∙ ap (λ (r : Result (List A) E). and_then (and_then r (λ front. and_then (each_in_turn parse m rest) (λ zs. Ok (front ++ zs))))
+      (λ more. Ok (parsed ++ more))) tells
       ∙ onto-all parsed ys (each_in_turn parse m rest)
 
-  pub left-stage-fault : (n : ℕ) (items : List X) (parsed : List A) (stage rest : List X) (e : E) → IsLeft n items parsed (stage ++ rest) → each_in_turn parse n stage ≡ Err e → each_in_turn parse 1 items ≡ Err e
+  pub left-stage-fault : (n : ℕ) (items : List X) (parsed : List A) (stage rest : List X) (e : E) → IsLeft n items parsed (stage ++ rest)
+      → each_in_turn parse n stage ≡ Err e → each_in_turn parse 1 items ≡ Err e
   left-stage-fault n items parsed stage rest e left tells =
       left ∙ ap (λ (r : Result (List A) E). and_then r (λ more. Ok (parsed ++ more))) (each-apart n (n + length stage) stage rest refl)
-      ∙ ap (λ (r : Result (List A) E). and_then (and_then r (λ front. and_then (each_in_turn parse (n + length stage) rest) (λ zs. Ok (front ++ zs)))) (λ more. Ok (parsed ++ more))) tells
+      ∙ ap (λ (r : Result (List A) E). and_then (and_then r (λ front. and_then (each_in_turn parse (n + length stage) rest)
+      (λ zs. Ok (front ++ zs)))) (λ more. Ok (parsed ++ more))) tells
 
   -- an item is a stage of one
-  pub left-more : (n : ℕ) (items : List X) (parsed : List A) (x : X) (rest : List X) (y : A) → IsLeft n items parsed (x ∷ rest) → parse n x ≡ Ok y → IsLeft (n + 1) items (parsed ++ y ∷ []) rest
+  pub left-more : (n : ℕ) (items : List X) (parsed : List A) (x : X) (rest : List X) (y : A) → IsLeft n items parsed (x ∷ rest)
+      → parse n x ≡ Ok y → IsLeft (n + 1) items (parsed ++ y ∷ []) rest
   left-more n items parsed x rest y left tells = left-stage n (n + 1) items parsed (x ∷ []) rest (y ∷ []) refl left (rw tells refl)
 
-  pub left-fault : (n : ℕ) (items : List X) (parsed : List A) (x : X) (rest : List X) (e : E) → IsLeft n items parsed (x ∷ rest) → parse n x ≡ Err e → each_in_turn parse 1 items ≡ Err e
+  pub left-fault : (n : ℕ) (items : List X) (parsed : List A) (x : X) (rest : List X) (e : E) → IsLeft n items parsed (x ∷ rest)
+      → parse n x ≡ Err e → each_in_turn parse 1 items ≡ Err e
   left-fault n items parsed x rest e left tells = left-stage-fault n items parsed (x ∷ []) rest e left (rw tells refl)
 
   -- as many values are parsed as there are items
-  one-more : (parsed : Result A E) (r : Result (List A) E) (ys : List A) (n : ℕ) → ((zs : List A) → r ≡ Ok zs → length zs ≡ n) → and_then parsed (λ y. and_then r (λ more. Ok (y ∷ more))) ≡ Ok ys → length ys ≡ n + 1
+  one-more : (parsed : Result A E) (r : Result (List A) E) (ys : List A) (n : ℕ) → ((zs : List A) → r ≡ Ok zs → length zs ≡ n)
+      → and_then parsed (λ y. and_then r (λ more. Ok (y ∷ more))) ≡ Ok ys → length ys ≡ n + 1
   one-more (Ok y) (Ok zs) [] n as_many is = cc
   one-more (Ok y) (Ok zs) (x ∷ ys) n as_many is =
       let same : ys ≡ zs = cc in
@@ -99,12 +108,14 @@ module _ {X A E : Type 0} (parse : ℕ → X → Result A E) where
   left-none n items parsed left = left ∙ ap (λ (xs : List A). Ok xs) (append-nil parsed)
 
 -- a stage of items refuses
-pub left-stage-refused : {X A : Type 0} (parse : ℕ → X → Result A Refusal) (n : ℕ) (items : List X) (parsed : List A) (stage rest : List X) (r : Refusal) → IsLeft parse n items parsed (stage ++ rest)
+pub left-stage-refused : {X A : Type 0} (parse : ℕ → X → Result A Refusal) (n : ℕ) (items : List X) (parsed : List A) (stage rest : List X)
+    (r : Refusal) → IsLeft parse n items parsed (stage ++ rest)
     → Refuses (each_in_turn parse n stage) r → Refuses (each_in_turn parse 1 items) r
 left-stage-refused parse n items parsed stage rest r left (inl is) = inl (left-stage-fault parse n items parsed stage rest _ left is)
 left-stage-refused parse n items parsed stage rest r left (inr memory) = inr memory
 
 -- the next item refuses
-pub left-refused : {X A : Type 0} (parse : ℕ → X → Result A Refusal) (n : ℕ) (items : List X) (parsed : List A) (x : X) (rest : List X) (r : Refusal) → IsLeft parse n items parsed (x ∷ rest) → Refuses (parse n x) r
+pub left-refused : {X A : Type 0} (parse : ℕ → X → Result A Refusal) (n : ℕ) (items : List X) (parsed : List A) (x : X) (rest : List X)
+    (r : Refusal) → IsLeft parse n items parsed (x ∷ rest) → Refuses (parse n x) r
     → Refuses (each_in_turn parse 1 items) r
 left-refused parse n items parsed x rest r left refused = left-stage-refused parse n items parsed (x ∷ []) rest r left (stop _ _ r refused)

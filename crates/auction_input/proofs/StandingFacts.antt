@@ -1,5 +1,7 @@
 -- What stands of a bidder whose first session submitted its forms, where no other session made a call.
-use Rattle.std.proofs.Common.{◌≡◌, ◌≢◌, ◌≤◌, ◌-◌, ◌==◌, ◌&&◌, ◌∷◌, ◌∙◌, [], ℕ, Bool, true, false, List, ap, ap₂, arith, cond, length, map, refl, subst, suc, sym, All, Err, IfOk, None, Ok, Result, Option, Some, count_by, filter, option_and_then, option_map, Global, Vec, inl, inr}
+use Rattle.std.proofs.Common.{◌≡◌, ◌≢◌, ◌≤◌, ◌-◌, ◌==◌, ◌&&◌, ◌∷◌, ◌∙◌, [], ℕ, Bool, true, false, List, ap, ap₂, arith}
+use Rattle.std.proofs.Common.{cond, length, map, refl, subst, suc, sym, All, Err, IfOk, None, Ok, Result, Option, Some}
+use Rattle.std.proofs.Common.{count_by, filter, option_and_then, option_map, Global, Vec, inl, inr}
 use Rattle.std.specs.List.{last_or}
 use Rattle.std.proofs.lemmas.Bool.{and_from, and_parts, cases_Bool, eq-eqb, eqb-false, eqb-true, false≢true}
 use Rattle.std.proofs.lemmas.List.{length-map}
@@ -36,7 +38,8 @@ abbrev form_left : Option (Entry Offers) → Option Offers
 form_left last = option_map (λ (s : Standing Offers). s.form) (option_and_then (λ (e : Entry Offers). left_standing e.call e.reply) last)
 
 -- of entries that are accepted submissions, the last one's form stands
-stands-last : (entries : History) (forms : List Offers) (last : Option (Entry Offers)) (form : Option Offers) → AreAccepted forms (map pair_of entries) → form_left last ≡ form
+stands-last : (entries : History) (forms : List Offers) (last : Option (Entry Offers)) (form : Option Offers)
+    → AreAccepted forms (map pair_of entries) → form_left last ≡ form
     → form_left (last_or last (changes entries)) ≡ last_or form forms
 stands-last [] [] last form accepted is = is
 stands-last [] (f ∷ forms) last form accepted is = absurd accepted
@@ -47,8 +50,10 @@ stands-last (e ∷ entries) (f ∷ forms) last form accepted is =
     let call : e.call ≡ Submit f over = ap (λ (p : Call Offers × Reply Offers). p.0) accepted.0.2 in
     let reply : e.reply ≡ Accepted number = ap (λ (p : Call Offers × Reply Offers). p.1) accepted.0.2 in
     let change : is_change_reply e.reply ≡ true = ap is_change_reply reply in
-    let left : form_left (Some e) ≡ Some f = ap₂ (λ (c : Call Offers) (r : Reply Offers). option_map (λ (s : Standing Offers). s.form) (left_standing c r)) call reply in
-    ap (λ (t : Bool). form_left (last_or last (cond t (e ∷ changes entries) (changes entries)))) change ∙ stands-last entries forms (Some e) (Some f) accepted.1 left
+    let left : form_left (Some e) ≡ Some f =
+    ap₂ (λ (c : Call Offers) (r : Reply Offers). option_map (λ (s : Standing Offers). s.form) (left_standing c r)) call reply in
+    ap (λ (t : Bool). form_left (last_or last (cond t (e ∷ changes entries) (changes entries)))) change
+    ∙ stands-last entries forms (Some e) (Some f) accepted.1 left
 
 -- a caller with no call made neither the first call nor a later one
 not-own : (e : Entry Offers) (h : History) (c : Caller) → own_pairs (e ∷ h) c ≡ [] → (is_same_caller c e.caller ≡ false) × (own_pairs h c ≡ [])
@@ -57,7 +62,8 @@ not-own e h c none = elim (cases_Bool (is_same_caller c e.caller)) [ inl is ↦ 
 
 module _ (t : Terms) (b : ℕ) where
   -- a caller of a bidder is its first session, if it is none of the others
-  first-alone : (c : Caller) → IsCallerOf t c → ((s : ℕ) → IsSessionOf t b s → s ≢ 1 → is_same_caller (Session b s) c ≡ false) → is_beside (Session b 0) c ≡ is_same_caller (Session b 1) c
+  first-alone : (c : Caller) → IsCallerOf t c → ((s : ℕ) → IsSessionOf t b s → s ≢ 1 → is_same_caller (Session b s) c ≡ false)
+      → is_beside (Session b 0) c ≡ is_same_caller (Session b 1) c
   first-alone Chair known other = refl
   first-alone (Session c s) known other = by (b == c) refl (1 == s) refl
     where
@@ -108,7 +114,8 @@ the-one {X} p P xs one all = pick (filter p xs) (length-filter p xs ∙ one) (fi
 
 module _ (history : History) (forms : List Offers) where
   -- what a session has submitted is what the history has of it
-  has-first : (x : SessionOwn) (b : ℕ) → is_named b 1 x ≡ true → HasSubmitted forms x → OwnIs history x → AreAccepted (forms_of b forms) (own_pairs history (Session b 1))
+  has-first : (x : SessionOwn) (b : ℕ) → is_named b 1 x ≡ true → HasSubmitted forms x → OwnIs history x
+      → AreAccepted (forms_of b forms) (own_pairs history (Session b 1))
   has-first x b named has own =
       let parts = and_parts (x.bidder == b) (x.session == 1) named in
       let session = eqb-true x.session 1 parts.1 in
@@ -123,11 +130,13 @@ module _ (history : History) (forms : List Offers) where
       ap₂ (λ n m. own_pairs history (Session n m)) (sym (eqb-true x.bidder b parts.0)) (sym session) ∙ own ∙ has.other (λ one. other (sym session ∙ one))
 
 -- the book of a settled round, whose sessions have submitted the forms
-pub settled-submitted : (book : Closing) (chair : ChairOwn) (sessions : List SessionOwn) (forms : List Offers) → AreTerms book.rules → IsSettled book.rules book.history chair sessions
+pub settled-submitted : (book : Closing) (chair : ChairOwn) (sessions : List SessionOwn) (forms : List Offers) → AreTerms book.rules
+    → IsSettled book.rules book.history chair sessions
     → All (HasSubmitted forms) sessions → AreSubmitted forms book
 settled-submitted book chair sessions forms terms settled submitted =
     let the-session : (b s : ℕ) → IsSessionOf book.rules b s → (x : SessionOwn) × (is_named b s x ≡ true) × (HasSubmitted forms x × OwnIs book.history x) =
-    λ b s known. the-one (is_named b s) (λ x. HasSubmitted forms x × OwnIs book.history x) sessions (settled.once b s known) (λ k d l. (submitted k d l, settled.own_is k d l)) in
+    λ b s known. the-one (is_named b s) (λ x. HasSubmitted forms x × OwnIs book.history x) sessions (settled.once b s known)
+    (λ k d l. (submitted k d l, settled.own_is k d l)) in
     let first : (b : ℕ) → IsSessionOf book.rules b 1 → AreAccepted (forms_of b forms) (own_pairs book.history (Session b 1)) =
     λ b known. (let found = the-session b 1 known in has-first book.history forms found.0 b found.1 found.2.0 found.2.1) in
     let others : (b s : ℕ) → IsSessionOf book.rules b s → s ≢ 1 → own_pairs book.history (Session b s) ≡ [] =
@@ -135,11 +144,14 @@ settled-submitted book chair sessions forms terms settled submitted =
     record {
       first = first;
       others = others;
-      standing = λ b least most. stands book.rules b book.history (forms_of b forms) settled.callers (first b (first-known book.rules terms b least most)) (others b);
+      standing = λ b least most. stands book.rules b book.history (forms_of b forms) settled.callers
+          (first b (first-known book.rules terms b least most)) (others b);
     }
 
-pub round-submitted : {E : Type 0} (result : Result Closing E) (t : Terms) (chair : ChairOwn) (sessions : List SessionOwn) (lists : List (Vec (Arc Offers Global) Global)) → AreTerms t → IfOk result (λ book. book.rules ≡ t)
+pub round-submitted : {E : Type 0} (result : Result Closing E) (t : Terms) (chair : ChairOwn) (sessions : List SessionOwn)
+    (lists : List (Vec (Arc Offers Global) Global)) → AreTerms t → IfOk result (λ book. book.rules ≡ t)
     → IfOk result (λ book. IsSettled t book.history chair sessions) → HaveSubmitted lists sessions → IfOk result (HoldsLists lists)
 round-submitted (Ok book) t chair sessions lists terms rules settled submitted =
-    λ forms by. settled-submitted book chair sessions forms (subst AreTerms (sym rules) terms) (subst (λ (u : Terms). IsSettled u book.history chair sessions) (sym rules) settled) (submitted forms by)
+    λ forms by. settled-submitted book chair sessions forms (subst AreTerms (sym rules) terms)
+    (subst (λ (u : Terms). IsSettled u book.history chair sessions) (sym rules) settled) (submitted forms by)
 round-submitted (Err e) t chair sessions lists terms rules settled submitted = tt

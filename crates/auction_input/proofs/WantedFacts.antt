@@ -1,5 +1,6 @@
 -- Tests of what a command wants.
-use Rattle.std.proofs.Common.{◌≡◌, ◌<◌, ◌+◌, ◌++◌, ◌∷◌, ◌∙◌, ℕ, Bool, true, false, List, [], Option, None, Some, Ok, Err, ap, drop, length, refl, slice_index_or, sym}
+use Rattle.std.proofs.Common.{◌≡◌, ◌<◌, ◌+◌, ◌++◌, ◌∷◌, ◌∙◌, ℕ, Bool, true, false, List, [], Option, None, Some, Ok, Err}
+use Rattle.std.proofs.Common.{ap, drop, length, refl, slice_index_or, sym}
 use Rattle.std.proofs.lemmas.List.{drop_more}
 use Rattle.std.specs.Option.{option_or}
 use Rattle.auction_input.specs.Auction.{Auction}
@@ -11,7 +12,9 @@ use Rattle.auction_terms.specs.Stages.{unless}
 use Rattle.auction_input.specs.declared.request.Target.{Target}
 
 -- tests after others
-pub failed-behind : (first second : List (Bool × Unmet)) → first_failed (refused_unless (first ++ second)) ≡ option_or (first_failed (refused_unless first)) (first_failed (refused_unless second))
+pub failed-behind : (first second : List (Bool × Unmet))
+    → first_failed (refused_unless (first ++ second)) ≡ option_or (first_failed (refused_unless first))
+    (first_failed (refused_unless second))
 failed-behind [] second = refl
 failed-behind ((true, u) ∷ more) second = failed-behind more second
 failed-behind ((false, u) ∷ more) second = refl

@@ -18,7 +18,8 @@ use Rattle.auction_input.proofs.LimitFacts.{book-within, forms-within, terms-few
 use Rattle.auction_input.proofs.LotFacts.{lots-within}
 
 -- an auction that is parsed has lots and a book within the limits
-pub auction-within : (asked : Request) (input : Input) (auction : Auction) → parsed_auction asked input ≡ Ok auction → IsLots auction.sale.lots × IsBook auction.sale.lots auction.sale.book
+pub auction-within : (asked : Request) (input : Input) (auction : Auction) → parsed_auction asked input ≡ Ok auction
+    → IsLots auction.sale.lots × IsBook auction.sale.lots auction.sale.book
 auction-within asked input auction parsed =
     let (parts, parts_are, more) = ok-behind (parsed_parts asked input) _ auction parsed in
     let rules = only_text (parts_named (codes "%rules") parts) in
@@ -27,7 +28,22 @@ auction-within asked input auction parsed =
     let (forms, forms_are, more_groups) = ok-behind (in_one_text input.last_wins t (text_numbers (codes "%form") parts) read) _ auction more_texts in
     let same : read ≡ forms = (unless-ok _ read forms (ok-refused_as refusal.AnotherForm _ forms forms_are)).1 in
     let (groups, groups_are, more_calls) = ok-behind (parsed_groups t (only_text (parts_named (codes "%groups") parts))) _ auction more_groups in
-    let whole : Auction = record { rules = t; sale = sale_left t forms; form_bidders = bidders_of forms; groups = groups; solutions = parts_named (codes "%solution") parts; certificates = parts_named (codes "%certificate") parts; uniques = parts_named (codes "%unique") parts; ties = parts_named (codes "%tie") parts; prices = parts_named (codes "%prices") parts; covers = parts_named (codes "%cover") parts; weights = parts_named (codes "%weights") parts } in
+    let whole : Auction = record {
+      rules = t;
+      sale = sale_left t forms;
+      form_bidders = bidders_of forms;
+      groups = groups;
+      solutions =
+          parts_named (codes "%solution") parts;
+      certificates = parts_named (codes "%certificate") parts;
+      uniques = parts_named
+          (codes "%unique") parts;
+      ties = parts_named (codes "%tie") parts;
+      prices = parts_named (codes "%prices") parts;
+      covers = parts_named
+          (codes "%cover") parts;
+      weights = parts_named (codes "%weights") parts;
+    } in
     let is : whole ≡ auction = (unless-ok _ whole auction (ok-refused_as refusal.CallLimit _ auction more_calls)).1 in
     let each = subst (λ (fs : List Offers). each_in_turn (parsed_form t) 1 (parts_named (codes "%form") parts) ≡ Ok fs) same read_are in
     let within = book-within t forms (terms-few rules t t_is) (forms-within t 1 (parts_named (codes "%form") parts) forms each) in

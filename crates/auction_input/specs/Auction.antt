@@ -16,7 +16,9 @@ use Rattle.auction_terms.specs.Terms.{Terms}
 use Rattle.bid_desk.specs.Sale.{Sale}
 use Rattle.bid_forms.specs.Offers.{Offers}
 
--- the rules, the sale by them, the bidder of each form in the order of the input, the groups that are left out of the sale, and the texts of solutions and of certificates; what is claimed of other outcomes: texts of certificates that there is none as good, and of solutions that are; and texts of prices, of certificates that they cover every group, and of weights
+-- the rules, the sale by them, the bidder of each form in the order of the input, the groups that are left out of the sale, and the texts
+-- of solutions and of certificates; what is claimed of other outcomes: texts of certificates that there is none as good, and of solutions
+-- that are; and texts of prices, of certificates that they cover every group, and of weights
 pub record Auction : Type 0 where
   pub rules : Terms
   pub sale : Sale

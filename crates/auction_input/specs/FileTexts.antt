@@ -22,7 +22,8 @@ IsContent (Some whole) bytes = bytes ≡ whole
 
 -- what is read by a name: standard input to its end, or a file, of which standard input knows nothing
 abbrev pub IsTextOf : (List ℕ → Option (List ℕ)) → List ℕ → Option (List ℕ) → Option (List ℕ) → List ℕ → Type 0
-IsTextOf content name left left' bytes = MatchBool (is_standard_input name) (Consumes left left' bytes × IsAtEnd left') ((left' ≡ left) × IsContent (content name) bytes)
+IsTextOf content name left left' bytes =
+    MatchBool (is_standard_input name) (Consumes left left' bytes × IsAtEnd left') ((left' ≡ left) × IsContent (content name) bytes)
 
 -- the bytes of names
 abbrev pub named_files : {Z : Type 0} → List (String Z) → List (List ℕ)
@@ -32,9 +33,11 @@ named_files names = map (λ name. name.bytes.items) names
 abbrev pub AreRead : (List ℕ → Option (List ℕ)) → List (List ℕ) → Option (List ℕ) → Option (List ℕ) → List Given → Type 0
 AreRead content [] left left' texts = (texts ≡ []) × (left' ≡ left)
 AreRead content (name ∷ names) left left' texts =
-    (bytes : List ℕ) × (more : List Given) × (mid : Option (List ℕ)) × (texts ≡ record { name = name; bytes = bytes } ∷ more) × IsTextOf content name left mid bytes × AreRead content names mid left' more
+    (bytes : List ℕ) × (more : List Given) × (mid : Option (List ℕ)) × (texts ≡ record { name = name; bytes = bytes } ∷ more)
+    × IsTextOf content name left mid bytes × AreRead content names mid left' more
 
--- the texts that a command reads: without names standard input, as one text by itself; else the texts of the names, which have no more bytes together than an input may have
+-- the texts that a command reads: without names standard input, as one text by itself; else the texts of the names, which have no more
+-- bytes together than an input may have
 abbrev pub IsInputRead : (List ℕ → Option (List ℕ)) → List (List ℕ) → Option (List ℕ) → Option (List ℕ) → List Given → Type 0
 IsInputRead content [] left left' texts = (bytes : List ℕ) × IsWhole INPUT_LIMIT left left' bytes × (texts ≡ unnamed bytes ∷ [])
 IsInputRead content names left left' texts = AreRead content names left left' texts × (sum_by (λ given. length given.bytes) texts ≤ INPUT_LIMIT)

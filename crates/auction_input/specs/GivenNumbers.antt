@@ -1,5 +1,7 @@
--- Texts of prices and of weights: each line gives a bidder or a group a number, by its name, or is a scale. Blank lines and lines that begin with # give nothing.
-use Rattle.std.specs.Prelude.{◌+◌, ◌==◌, ◌&&◌, ◌++◌, Bool, true, false, not, ℕ, List, [], ◌∷◌, Option, None, Some, Result, Ok, Err, find, is_some, map, nat_le, position, slice_index, if◌then◌else◌}
+-- Texts of prices and of weights: each line gives a bidder or a group a number, by its name, or is a scale. Blank lines and lines that
+-- begin with # give nothing.
+use Rattle.std.specs.Prelude.{◌+◌, ◌==◌, ◌&&◌, ◌++◌, Bool, true, false, not, ℕ, List, [], ◌∷◌, Option, None, Some, Result}
+use Rattle.std.specs.Prelude.{Ok, Err, find, is_some, map, nat_le, position, slice_index, if◌then◌else◌}
 use Rattle.std.specs.Option.{option_map, option_map_or}
 use Rattle.std.specs.List.{list_any, range_with_len}
 use Rattle.std.specs.Str.{bytes_eq}
@@ -41,7 +43,8 @@ parsed_winner known place (Some b) = if list_any (λ c. c.bidder == b) known.win
 
 -- whom a line at this place names: a group by its number, or a bidder by its name, which begins with a letter
 abbrev pub parsed_name : Known → ℕ → List ℕ → Result Subject PriceFault
-parsed_name known place name = elim (number_of name) [ Some k ↦ parsed_group known place k | None ↦ parsed_winner known place (bidder_named known.bidders name) ]
+parsed_name known place name =
+    elim (number_of name) [ Some k ↦ parsed_group known place k | None ↦ parsed_winner known place (bidder_named known.bidders name) ]
 
 abbrev pub same_subject : Subject → Subject → Bool
 same_subject subject.Scale subject.Scale = true

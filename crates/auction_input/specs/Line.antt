@@ -63,8 +63,13 @@ refusal_text (refusal.Solution n f) = (codes "solution " ++ (decimal n ++ codes 
 refusal_text (refusal.BoundBroken n name) = (codes "solution " ++ (decimal n ++ codes ": ")) ++ (codes "7 BoundBroken at column " ++ name)
 refusal_text (refusal.RowBroken n name) = (codes "solution " ++ (decimal n ++ codes ": ")) ++ (codes "8 RowBroken at row " ++ name)
 refusal_text (refusal.Certificate n f) =
-    elim (f.kind) [ certificate.OutOfMemory ↦ codes "out of memory" | k ↦ (codes "certificate " ++ (decimal n ++ codes ": ")) ++ certificate_fault_text f.line f.kind ]
-refusal_text (refusal.Unique f) = elim (f.kind) [ certificate.OutOfMemory ↦ codes "out of memory" | k ↦ codes "unique: " ++ certificate_fault_text f.line f.kind ]
+    elim (f.kind) [
+      | certificate.OutOfMemory ↦ codes "out of memory"
+      | k ↦ (codes "certificate " ++ (decimal n ++ codes ": ")) ++
+          certificate_fault_text f.line f.kind
+    ]
+refusal_text (refusal.Unique f) =
+    elim (f.kind) [ certificate.OutOfMemory ↦ codes "out of memory" | k ↦ codes "unique: " ++ certificate_fault_text f.line f.kind ]
 refusal_text (refusal.Tie f) = codes "tie: " ++ solution_fault_text f
 refusal_text (refusal.TieBoundBroken name) = codes "tie: 7 BoundBroken at column " ++ name
 refusal_text (refusal.TieRowBroken name) = codes "tie: 8 RowBroken at row " ++ name

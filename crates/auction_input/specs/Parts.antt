@@ -1,5 +1,6 @@
 -- The parts of the input. A line that begins with a percent sign heads a part, whose bytes run up to the next such line.
-use Rattle.std.specs.Prelude.{Vec, ◌≡◌, ◌==◌, ◌+◌, ◌++◌, Bool, ⊤, not, ℕ, List, [], ◌∷◌, Option, None, Some, Result, Ok, Err, codes, filter, if◌then◌else◌, length, map, slice_index, slice_index_or}
+use Rattle.std.specs.Prelude.{Vec, ◌≡◌, ◌==◌, ◌+◌, ◌++◌, Bool, ⊤, not, ℕ, List, [], ◌∷◌, Option, None, Some, Result, Ok}
+use Rattle.std.specs.Prelude.{Err, codes, filter, if◌then◌else◌, length, map, slice_index, slice_index_or}
 use Rattle.std.specs.Option.{option_or}
 use Rattle.std.specs.List.{list_any}
 use Rattle.std.specs.Str.{bytes_eq}
@@ -44,7 +45,11 @@ bytes_before (line ∷ more) = if heads_part line then [] else line ++ bytes_bef
 -- the parts of the lines of text n
 abbrev pub parts_in : ℕ → List (List ℕ) → List Part
 parts_in n [] = []
-parts_in n (line ∷ more) = if heads_part line then record { text = n; name = slice_index_or (lines_of line) 0 []; bytes = bytes_before more } ∷ parts_in n more else parts_in n more
+parts_in n (line ∷ more) = if heads_part line then record {
+  text = n;
+  name = slice_index_or (lines_of line) 0 [];
+  bytes = bytes_before more;
+} ∷ parts_in n more else parts_in n more
 
 -- the parts of texts, which are numbered from n on; each text is cut by itself
 abbrev pub parts_from : ℕ → List Given → List Part
@@ -59,10 +64,13 @@ input_parts input = parts_from 0 input.texts
 abbrev pub has_bytes_before : Given → Bool
 has_bytes_before given = not (length (bytes_before (cut_lines given.bytes)) == 0)
 
--- the names that a part may have; certificates, what is claimed of other outcomes, and prices are for `verify`, and for `explain` where it names no command, which ignores them
+-- the names that a part may have; certificates, what is claimed of other outcomes, and prices are for `verify`, and for `explain` where it
+-- names no command, which ignores them
 abbrev pub names_for : Option Target → List (List ℕ)
-names_for (Some target.Verify) = codes "%rules" ∷ codes "%form" ∷ codes "%groups" ∷ codes "%solution" ∷ codes "%certificate" ∷ codes "%unique" ∷ codes "%tie" ∷ codes "%prices" ∷ codes "%cover" ∷ codes "%weights" ∷ []
-names_for None = codes "%rules" ∷ codes "%form" ∷ codes "%groups" ∷ codes "%solution" ∷ codes "%certificate" ∷ codes "%unique" ∷ codes "%tie" ∷ codes "%prices" ∷ codes "%cover" ∷ codes "%weights" ∷ []
+names_for (Some target.Verify) = codes "%rules" ∷ codes "%form" ∷ codes "%groups" ∷ codes "%solution" ∷ codes "%certificate" ∷ codes
+    "%unique" ∷ codes "%tie" ∷ codes "%prices" ∷ codes "%cover" ∷ codes "%weights" ∷ []
+names_for None = codes "%rules" ∷ codes "%form" ∷ codes "%groups" ∷ codes "%solution" ∷ codes "%certificate" ∷ codes "%unique" ∷ codes
+    "%tie" ∷ codes "%prices" ∷ codes "%cover" ∷ codes "%weights" ∷ []
 names_for (Some command) = codes "%rules" ∷ codes "%form" ∷ codes "%groups" ∷ codes "%solution" ∷ []
 
 abbrev pub part_names : Request → List (List ℕ)

@@ -9,7 +9,8 @@ use Rattle.auction_input.specs.declared.request.Target.TheVariants as target
 use Rattle.auction_input.specs.declared.request.Target.{Target}
 use Rattle.auction_terms.specs.FirstFault.{first_failed}
 
--- whether a command takes so many parts of groups, and so many of solutions. Of a report there is to be a solution for each group, which is tested once these are read, and `explain` that names no command lets them be
+-- whether a command takes so many parts of groups, and so many of solutions. Of a report there is to be a solution for each group, which is
+-- tested once these are read, and `explain` that names no command lets them be
 abbrev pub takes : Option Target → ℕ → ℕ → Bool × Bool
 takes (Some target.Text) groups solutions = (groups == 0, solutions == 0)
 takes (Some target.Compile) groups solutions = (groups == 1, solutions == 0)

@@ -9,7 +9,8 @@ use Rattle.byte_sinks.specs.Sinks.{HasFailed}
 abbrev pub IsWhole : ℕ → Option (List ℕ) → Option (List ℕ) → List ℕ → Type 0
 IsWhole limit left left' text = (length text ≤ limit) × Consumes left left' text × IsAtEnd left'
 
--- what was read of a text that isn't taken: of one that is too large, one byte above the limit; else at most as much. The counts of failed reads before and after rise where that is the fault, and stay where it isn't
+-- what was read of a text that isn't taken: of one that is too large, one byte above the limit; else at most as much. The counts of failed
+-- reads before and after rise where that is the fault, and stay where it isn't
 abbrev pub IsUntaken : ℕ → InputFault → Option (List ℕ) → Option (List ℕ) → ℕ → ℕ → Type 0
 IsUntaken limit fault.TooLarge left left' reads reads' = (reads' ≡ reads) × ((front : List ℕ) × Consumes left left' front × (length front ≡ limit + 1))
 IsUntaken limit fault.ReadFailed left left' reads reads' = HasFailed reads reads' × ((front : List ℕ) × Consumes left left' front × (length front ≤ limit + 1))

@@ -21,9 +21,25 @@ use Rattle.bid_desk.specs.Sale.{sale_of}
 
 -- what an auction that is settled holds
 abbrev pub held : declared.Auction → Auction
-held auction = record { rules = auction.book.rules; sale = sale_of auction.book; form_bidders = auction.form_bidders.items; groups = auction.groups; solutions = bytes_of auction.solutions.items; certificates = bytes_of auction.certificates.items; uniques = bytes_of auction.uniques.items; ties = bytes_of auction.ties.items; prices = bytes_of auction.prices.items; covers = bytes_of auction.covers.items; weights = bytes_of auction.weights.items }
+held auction = record {
+  rules = auction.book.rules;
+  sale = sale_of auction.book;
+  form_bidders = auction.form_bidders.items;
+  groups =
+      auction.groups;
+  solutions = bytes_of auction.solutions.items;
+  certificates = bytes_of auction.certificates.items;
+  uniques = bytes_of
+      auction.uniques.items;
+  ties = bytes_of auction.ties.items;
+  prices = bytes_of auction.prices.items;
+  covers = bytes_of
+      auction.covers.items;
+  weights = bytes_of auction.weights.items;
+}
 
--- the auction, which the request reads, is accepted, and yet a wrong answer of the desk is reported: that it gave one isn't said, since nothing is known of what a lock gives
+-- the auction, which the request reads, is accepted, and yet a wrong answer of the desk is reported: that it gave one isn't said, since
+-- nothing is known of what a lock gives
 abbrev pub IsUnsettled : Request → Input → Refusal → Type 0
 IsUnsettled asked input r = (asked ≢ request.Check) × (auction : Auction) × (parsed_auction asked input ≡ Ok auction) × (r ≡ refusal.Round round.WrongAnswer)
 

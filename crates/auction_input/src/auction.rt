@@ -28,7 +28,8 @@ use std::alloc::{AllocError, Global};
 use std::sync::Wait;
 use std::thread::Threads;
 
-/// A settled auction, the bidder of each form in the order of the input, the groups that are left out of it, and the texts of solutions and of certificates; what is claimed of
+/// A settled auction, the bidder of each form in the order of the input, the groups that are left out of it, and the texts of
+/// solutions and of certificates; what is claimed of
 /// other outcomes: texts of certificates that there is none as good, and of solutions that are; and texts of prices, of
 /// certificates that they cover every group, and of weights.
 #[derive(Drop)]

@@ -3,7 +3,8 @@
 ghost use Rattle.std.specs.Prelude.{◌≡◌, ◌≤◌, ◌<◌, ◌++◌, ◌∷◌, ◌⊎◌, ℕ, [], IfErr, IfOk, OnOk, drop, filter, find, length, map, take, true};
 ghost use Rattle.std.specs.List.{list_any};
 ghost use Rattle.std.specs.Option.{option_copied};
-ghost use Rattle.auction_input.specs.Parts.{TellsParts, heads_part, bytes_before, cut_lines, has_bytes_before, name_of, parts_held, parts_in, parts_named, text_numbers};
+ghost use Rattle.auction_input.specs.Parts.{TellsParts, heads_part, bytes_before, cut_lines, has_bytes_before, name_of};
+ghost use Rattle.auction_input.specs.Parts.{parts_held, parts_in, parts_named, text_numbers};
 ghost use Rattle.auction_input.specs.ParsedParts.{only_text};
 ghost use Rattle.auction_terms.specs.Lines.{bytes_of};
 ghost use Rattle.auction_input.specs.inside.Parts.{HaveAdded, IsFaultBehind, is_held, part, part_name};

@@ -1,5 +1,6 @@
 -- All faults of a list are those of its items, and the accepted ones have none.
-use Rattle.std.proofs.Common.{◌≡◌, ◌≤◌, ◌+◌, ◌∷◌, ◌++◌, ◌∙◌, Bool, ℕ, List, [], ap, append_assoc, append-nil, arith, inl, inr, length, length-append, map, refl, subst, sym}
+use Rattle.std.proofs.Common.{◌≡◌, ◌≤◌, ◌+◌, ◌∷◌, ◌++◌, ◌∙◌, Bool, ℕ, List, [], ap, append_assoc, append-nil, arith, inl}
+use Rattle.std.proofs.Common.{inr, length, length-append, map, refl, subst, sym}
 use Rattle.std.specs.Prelude.{true, false, Option, Some, None, if◌then◌else◌, option_map, option_to_list}
 use Rattle.std.specs.List.{Contains}
 use Rattle.std.proofs.lemmas.List.Elements.{Contains-append_cases, Contains-append_left, Contains-append_right}
@@ -18,7 +19,9 @@ or_else-none (x ∷ xs) ys e = cc e
 
 module _ {R F : Type 0} (faults_of : ℕ → List R → R → List F) where
   -- faults, and accepted ones, of a list joined of two
-  faults-append : (n : ℕ) (accepted xs ys : List R) → all_faults faults_of n accepted (xs ++ ys) ≡ all_faults faults_of n accepted xs ++ all_faults faults_of (n + length xs) (accepted_of faults_of n accepted xs) ys
+  faults-append : (n : ℕ) (accepted xs ys : List R)
+      → all_faults faults_of n accepted (xs ++ ys) ≡ all_faults faults_of n accepted xs ++ all_faults faults_of (n + length xs)
+      (accepted_of faults_of n accepted xs) ys
   unfolding all_faults accepted_of
   faults-append n accepted [] ys = (let e : n + 0 ≡ n = omega arith in rw e refl)
   faults-append n accepted (x ∷ xs) ys =
@@ -70,18 +73,22 @@ module _ {R F : Type 0} (faults_of : ℕ → List R → R → List F) where
       let accepted = accepted_of faults_of n [] it.before in
       let own = faults_of (n + length it.before) accepted it.item in
       let rest = all_faults faults_of (n + length it.before + 1) (accepted_with own accepted it.item) it.after in
-      let whole : all_faults faults_of n [] items ≡ all_faults faults_of n [] it.before ++ (own ++ rest) = rw it.items_are (faults-append n [] it.before (it.item ∷ it.after)) in
-      subst (λ fs. Contains fs fault) (sym whole) (Contains-append_right (all_faults faults_of n [] it.before) (own ++ rest) fault (Contains-append_left own rest fault it.fault_is))
+      let whole : all_faults faults_of n [] items ≡ all_faults faults_of n [] it.before ++ (own ++ rest) =
+      rw it.items_are (faults-append n [] it.before (it.item ∷ it.after)) in
+      subst (λ fs. Contains fs fault) (sym whole) (Contains-append_right (all_faults faults_of n [] it.before) (own ++ rest) fault
+      (Contains-append_left own rest fault it.fault_is))
 
   module _ (stays : StaysFaultless faults_of) where
     -- items after accepted ones without a fault, whose numbers are as high at least
-    none-of-accepted : (n k : ℕ) (accepted items : List R) → n + length accepted ≤ k → all_faults faults_of n [] accepted ≡ [] → all_faults faults_of n [] (accepted_of faults_of k accepted items) ≡ []
+    none-of-accepted : (n k : ℕ) (accepted items : List R) → n + length accepted ≤ k → all_faults faults_of n [] accepted ≡ []
+        → all_faults faults_of n [] (accepted_of faults_of k accepted items) ≡ []
     unfolding all_faults accepted_of
     none-of-accepted n k accepted [] low none = none
     none-of-accepted n k accepted (x ∷ xs) low none = by (faults_of k accepted x) refl (λ next. none-of-accepted n (k + 1) next xs)
       where
         by : (own : List F) → faults_of k accepted x ≡ own
-            → ((next : List R) → n + length next ≤ k + 1 → all_faults faults_of n [] next ≡ [] → all_faults faults_of n [] (accepted_of faults_of (k + 1) next xs) ≡ [])
+            → ((next : List R) → n + length next ≤ k + 1 → all_faults faults_of n [] next ≡ [] → all_faults faults_of n []
+            (accepted_of faults_of (k + 1) next xs) ≡ [])
             → all_faults faults_of n [] (accepted_of faults_of (k + 1) (accepted_with own accepted x) xs) ≡ []
         by (f ∷ fs) is more = more accepted (omega arith) none
         by [] is more =
@@ -105,7 +112,8 @@ module _ {R F : Type 0} (faults_of : ℕ → List R → R → List F) where
     }
 
 -- what is found by others that have no fault where these have none
-pub all-alike : {R F : Type 0} (faults_of others_of : ℕ → List R → R → List F) → ((n : ℕ) (before : List R) (item : R) → faults_of n before item ≡ [] → others_of n before item ≡ [])
+pub all-alike : {R F : Type 0} (faults_of others_of : ℕ → List R → R → List F)
+    → ((n : ℕ) (before : List R) (item : R) → faults_of n before item ≡ [] → others_of n before item ≡ [])
     → (n : ℕ) (accepted items : List R) → all_faults faults_of n accepted items ≡ [] → all_faults others_of n accepted items ≡ []
 unfolding all_faults
 all-alike faults_of others_of same n accepted [] none = refl
@@ -132,7 +140,8 @@ fail-alike {F} (check ∷ some) (other ∷ others) same none =
     let rest : tests_of some ≡ tests_of others = cc in
     by check.0 other.0 head (λ passed. fail-alike some others rest passed) none
   where
-    by : (a b : Bool) → a ≡ b → (first_failed some ≡ None → first_failed others ≡ None) → (if a then first_failed some else Some check.1) ≡ None → (if b then first_failed others else Some other.1) ≡ None
+    by : (a b : Bool) → a ≡ b → (first_failed some ≡ None → first_failed others ≡ None)
+        → (if a then first_failed some else Some check.1) ≡ None → (if b then first_failed others else Some other.1) ≡ None
     by true true is more none = more none
     by true false is more none = cc is
     by false b is more none = cc none
@@ -148,5 +157,6 @@ one-none {F} field checks none = by (first_failed checks) none
 pub none-one : {F : Type 0} (field : ℕ) (checks : List (Bool × F)) → first_failed checks ≡ None → one_failed field checks ≡ []
 none-one field checks none = rw none refl
 
-pub one-alike : {F : Type 0} (field : ℕ) (some others : List (Bool × F)) → tests_of some ≡ tests_of others → one_failed field some ≡ [] → one_failed field others ≡ []
+pub one-alike : {F : Type 0} (field : ℕ) (some others : List (Bool × F)) → tests_of some ≡ tests_of others → one_failed field some ≡ []
+    → one_failed field others ≡ []
 one-alike field some others same none = none-one field others (fail-alike some others same (one-none field some none))

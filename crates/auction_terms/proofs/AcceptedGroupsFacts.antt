@@ -25,10 +25,13 @@ line-stays : (bidders : List Bidder) → StaysFaultless (λ place before line. a
 line-stays bidders m n before line low none =
     let both = both-none (or_else (all_failed 0 (line_checks n line)) (all_name_faults bidders n (names_in line))) (all_failed 0 (room_checks n)) none in
     let front = or_else-none (all_failed 0 (line_checks n line)) (all_name_faults bidders n (names_in line)) both.0 in
-    let some : all_failed 0 (line_checks m line) ≡ [] = all-one 0 _ ∙ one-alike 0 (line_checks n line) (line_checks m line) refl (sym (all-one 0 _) ∙ front.0) in
+    let some : all_failed 0 (line_checks m line) ≡ [] =
+    all-one 0 _ ∙ one-alike 0 (line_checks n line) (line_checks m line) refl (sym (all-one 0 _) ∙ front.0) in
     let names : all_name_faults bidders m (names_in line) ≡ [] =
-    all-alike (fault_of_name bidders n) (fault_of_name bidders m) (λ k accepted name. one-alike k (name_checks bidders n accepted name) (name_checks bidders m accepted name) refl) 1 [] (names_in line) front.1 in
-    let few : all_failed 0 (room_checks m) ≡ [] = all-one 0 _ ∙ none-one 0 (room_checks m) (room m n low (one-none 0 (room_checks n) (sym (all-one 0 _) ∙ both.1))) in
+    all-alike (fault_of_name bidders n) (fault_of_name bidders m) (λ k accepted name. one-alike k (name_checks bidders n accepted name)
+    (name_checks bidders m accepted name) refl) 1 [] (names_in line) front.1 in
+    let few : all_failed 0 (room_checks m) ≡ [] =
+    all-one 0 _ ∙ none-one 0 (room_checks m) (room m n low (one-none 0 (room_checks n) (sym (all-one 0 _) ∙ both.1))) in
     rw (some, names, few) refl
 
 pub lines-are-of-items : (bidders : List Bidder) → AreOfItems (λ place before line. all_line_faults bidders place line)

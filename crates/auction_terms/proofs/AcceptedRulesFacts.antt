@@ -25,7 +25,8 @@ use Rattle.auction_terms.specs.declared.rules_text.RulesFault.TheVariants as fau
 same-tests : (v : Version) (m n : ℕ) (before : Entries) (r : Record) → tests_of (entry_checks v m before r) ≡ tests_of (entry_checks v n before r)
 same-tests v m n before r = by (record_kind v r)
   where
-    by : (o : Option RecordKind) → tests_of ((length r == field_count v, fault.FieldCount m) ∷ option_map_or (kind_checks v m before r) o ((false, fault.Kind m) ∷ []))
+    by : (o : Option RecordKind) → tests_of ((length r == field_count v, fault.FieldCount m) ∷ option_map_or (kind_checks v m before r) o
+        ((false, fault.Kind m) ∷ []))
         ≡ tests_of ((length r == field_count v, fault.FieldCount n) ∷ option_map_or (kind_checks v n before r) o ((false, fault.Kind n) ∷ []))
     by None = refl
     by (Some kind.Category) = refl
@@ -41,7 +42,8 @@ none-at_field field_of (Some f) none = cc none
 entry-stays : (v : Version) → StaysFaultless (fault_of_entry v)
 entry-stays v m n before r low none =
     let e = entries_of v before in
-    let passed = fail-alike (entry_checks v n e r) (entry_checks v m e r) (same-tests v n m e r) (none-at_field (entry_field v e r) (first_failed (entry_checks v n e r)) none) in
+    let passed = fail-alike (entry_checks v n e r) (entry_checks v m e r) (same-tests v n m e r)
+    (none-at_field (entry_field v e r) (first_failed (entry_checks v n e r)) none) in
     rw passed refl
 
 pub entries-are-of-items : (v : Version) → AreOfItems (fault_of_entry v)
@@ -67,10 +69,12 @@ of-records v header entries is =
           let found_in : List (Found RulesFault) = all_faults (fault_of_entry v) 2 [] entries in
           elim (or_else-cases (of_header ++ found_in) (lacking v entries) f (rw (whole entries) at has)) [
             | inr end ↦ inr (inr end)
-            | inl some ↦ elim (Contains-append_cases of_header found_in f some) [ inl front ↦ inl front | inr record_ ↦ inr (inl ((own.each 2 entries f).0 record_)) ]
+            | inl some ↦ elim (Contains-append_cases of_header found_in f some)
+                [ inl front ↦ inl front | inr record_ ↦ inr (inl ((own.each 2 entries f).0 record_)) ]
           ];
       none = whole (accepted_entries v entries) ∙ rw (own.none 2 entries, append-nil of_header) refl;
       alone = λ r some.
           let accepted = accepted_entries v entries in
-          whole (accepted ++ r ∷ []) ∙ rw (own.alone 2 entries r) (or_else-some of_header (fault_of_entry v (2 + length accepted) accepted r) (lacking v (accepted ++ r ∷ [])) some);
+          whole (accepted ++ r ∷ []) ∙ rw (own.alone 2 entries r) (or_else-some of_header
+          (fault_of_entry v (2 + length accepted) accepted r) (lacking v (accepted ++ r ∷ [])) some);
     }

@@ -1,5 +1,6 @@
 -- How lists of all faults grow, and that they begin with the first fault.
-use Rattle.std.proofs.Common.{◌≡◌, ◌≤◌, ◌<◌, ◌+◌, ◌-◌, ◌∷◌, ◌++◌, ◌∙◌, ℕ, List, [], Option, Some, None, refl, sym, ap, arith, append_assoc, append-nil, take, length, length-append, length-take, take_all}
+use Rattle.std.proofs.Common.{◌≡◌, ◌≤◌, ◌<◌, ◌+◌, ◌-◌, ◌∷◌, ◌++◌, ◌∙◌, ℕ, List, [], Option, Some, None, refl, sym, ap}
+use Rattle.std.proofs.Common.{arith, append_assoc, append-nil, take, length, length-append, length-take, take_all}
 use Rattle.std.proofs.lemmas.List.{take-append-le}
 use Rattle.std.specs.Prelude.{◌^◌, min, Bool, true, false, if◌then◌else◌, option_map, option_to_list, Ok, Result}
 use Rattle.std.specs.Option.{option_or}
@@ -54,7 +55,8 @@ all-one {F} field check = by check.0
 -- what was found so far and what is still to be found, with the next item
 pub found-more : {R F : Type 0} (faults_of : ℕ → List R → R → List F) (whole so_far : List F) (number : ℕ) (accepted ahead rest : List R) (item : R)
     → whole ≡ so_far ++ all_faults faults_of number accepted ahead → ahead ≡ item ∷ rest
-    → whole ≡ (so_far ++ faults_of number accepted item) ++ all_faults faults_of (number + 1) (accepted_with (faults_of number accepted item) accepted item) rest
+    → whole ≡ (so_far ++ faults_of number accepted item) ++ all_faults faults_of (number + 1)
+    (accepted_with (faults_of number accepted item) accepted item) rest
 unfolding all_faults
 found-more faults_of whole so_far number accepted ahead rest item is next =
     let parsed = rw next at is in
@@ -71,7 +73,8 @@ pub keeps-none : {F : Type 0} (held : Faults F) → KeepsMore held held []
 keeps-none held faults keeps = rw (append-nil faults) keeps
 
 -- some, and then others
-pub keeps-both : {F : Type 0} (first second third : Faults F) (some others : List (Found F)) → KeepsMore first second some → KeepsMore second third others → KeepsMore first third (some ++ others)
+pub keeps-both : {F : Type 0} (first second third : Faults F) (some others : List (Found F)) → KeepsMore first second some
+    → KeepsMore second third others → KeepsMore first third (some ++ others)
 keeps-both first second third some others front back faults keeps = rw (← append_assoc faults some others) (back (faults ++ some) (front faults keeps))
 
 -- ---------- all faults begin with the first one ----------
@@ -81,12 +84,14 @@ abbrev pub BeginAs : {F : Type 0} → List (Found F) → Option F → Type 0
 BeginAs faults None = faults ≡ []
 BeginAs {F} faults (Some fault) = (field : ℕ) × (more : List (Found F)) × (faults ≡ found field fault ∷ more)
 
-pub begin-both : {F : Type 0} (some others : List (Found F)) (first second : Option F) → BeginAs some first → BeginAs others second → BeginAs (some ++ others) (option_or first second)
+pub begin-both : {F : Type 0} (some others : List (Found F)) (first second : Option F) → BeginAs some first → BeginAs others second
+    → BeginAs (some ++ others) (option_or first second)
 begin-both some others None second is rest = rw is rest
 begin-both some others (Some fault) second (field, more, is) rest = (field, more ++ others, ap (λ faults. faults ++ others) is)
 
 -- the others matter only where there is none before them
-pub begin-or_else : {F : Type 0} (some others : List (Found F)) (first second : Option F) → BeginAs some first → (first ≡ None → BeginAs others second) → BeginAs (or_else some others) (option_or first second)
+pub begin-or_else : {F : Type 0} (some others : List (Found F)) (first second : Option F) → BeginAs some first
+    → (first ≡ None → BeginAs others second) → BeginAs (or_else some others) (option_or first second)
 begin-or_else some others None second is rest = rw is (rest refl)
 begin-or_else some others (Some fault) second (field, more, is) rest = (field, more, ap (λ faults. or_else faults others) is)
 
@@ -112,7 +117,8 @@ pub begin-all_faults : {R F : Type 0} (faults_of : ℕ → List R → R → List
     → (before items : List R) → BeginAs (all_faults faults_of (length before + start) before items) (first_fault fault_of before items)
 unfolding all_faults first_fault
 begin-all_faults faults_of fault_of start each before [] = refl
-begin-all_faults {R} {F} faults_of fault_of start each before (item ∷ more) = by (fault_of before item) (each before item) (begin-all_faults faults_of fault_of start each (before ++ item ∷ []) more)
+begin-all_faults {R} {F} faults_of fault_of start each before (item ∷ more) =
+    by (fault_of before item) (each before item) (begin-all_faults faults_of fault_of start each (before ++ item ∷ []) more)
   where
     by : (o : Option F) → BeginAs (faults_of (length before + start) before item) o
         → BeginAs (all_faults faults_of (length (before ++ item ∷ []) + start) (before ++ item ∷ []) more) (first_fault fault_of (before ++ item ∷ []) more)
@@ -143,12 +149,14 @@ none-kept held (fault ∷ more) keeps none =
     absurd (omega arith)
 
 -- faults of which some are kept, so that what rests on their absence isn't looked at
-pub kept-some : {F : Type 0} (held : Faults F) (faults others : List (Found F)) → Keeps held faults → (length held.kept.items ≡ 0 → ⊥) → Keeps held (or_else faults others)
+pub kept-some : {F : Type 0} (held : Faults F) (faults others : List (Found F)) → Keeps held faults → (length held.kept.items ≡ 0 → ⊥)
+    → Keeps held (or_else faults others)
 kept-some held [] others keeps some = absurd (some (let n = ap length keeps.kept in omega arith))
 kept-some held (fault ∷ more) others keeps some = keeps
 
 -- and of which none is kept, so that what rests on it comes after
-pub kept-none : {F : Type 0} (held new : Faults F) (faults others : List (Found F)) → Keeps held faults → length held.kept.items ≡ 0 → KeepsMore held new others → Keeps new (or_else faults others)
+pub kept-none : {F : Type 0} (held new : Faults F) (faults others : List (Found F)) → Keeps held faults → length held.kept.items ≡ 0
+    → KeepsMore held new others → Keeps new (or_else faults others)
 kept-none held new faults others keeps none more =
     let empty = none-kept held faults keeps none in
     rw empty (more [] (rw empty at keeps))

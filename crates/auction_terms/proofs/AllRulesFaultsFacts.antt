@@ -2,7 +2,8 @@
 use Rattle.std.proofs.Common.{◌≡◌, ◌+◌, ◌∷◌, ◌++◌, ◌∙◌, ℕ, List, [], length, refl, sym, ap, arith, length-append, append_assoc, append-nil}
 use Rattle.std.specs.Prelude.{Option, Some, None, Ok, ok_or}
 use Rattle.std.specs.Option.{option_map_or, option_or}
-use Rattle.auction_terms.proofs.AllFaultsFacts.{BeginAs, begin-all_faults, begin-both, begin-one_failed, begin-or_else, begin-parsed, found-all, found-more, unless-or}
+use Rattle.auction_terms.proofs.AllFaultsFacts.{BeginAs, begin-all_faults, begin-both, begin-one_failed, begin-or_else}
+use Rattle.auction_terms.proofs.AllFaultsFacts.{begin-parsed, found-all, found-more, unless-or}
 use Rattle.auction_terms.specs.FirstFault.{first_failed, first_fault}
 use Rattle.auction_terms.specs.Stages.{and_then, unless}
 use Rattle.auction_terms.specs.declared.rules_text.RulesFault.TheVariants as fault
@@ -58,7 +59,8 @@ taken-more v all ahead rest count old new so_far r so next took =
     }
 
 -- no record is left
-pub taken-all : (v : Version) (all ahead : List Record) (count : ℕ) (draft : Entries) (so_far : List (Found RulesFault)) → TakenSoFar v all ahead count draft so_far → ahead ≡ []
+pub taken-all : (v : Version) (all ahead : List Record) (count : ℕ) (draft : Entries) (so_far : List (Found RulesFault))
+    → TakenSoFar v all ahead count draft so_far → ahead ≡ []
     → (count ≡ length all) × (all_faults (fault_of_entry v) 2 [] all ≡ so_far) × (all_faults (fault_of_entry v) 2 [] all ≡ [] → draft ≡ entries_of v all)
 taken-all v all ahead count draft so_far so none =
     let whole : all ≡ so.before = so.all_is ∙ rw none (append-nil so.before) in
@@ -79,9 +81,13 @@ begin-version header more v =
     let of_entries = first_fault (entry_fault v) [] more in
     let of_end = first_failed (end_checks (length more + 1) (entries_of v more)) in
     let terms = terms_of (field_number 3 header) (entries_of v more) in
-    let entries_begin = begin-all_faults (fault_of_entry v) (entry_fault v) 2 (λ before r. begin-at_field (entry_field v (entries_of v before) r) (first_failed (entry_checks v (length before + 2) (entries_of v before) r))) [] more in
-    let front = begin-both (fault_of_header v header) (all_faults (fault_of_entry v) 2 [] more) of_header of_entries (begin-at_field header_field of_header) entries_begin in
-    let whole = begin-or_else (fault_of_header v header ++ all_faults (fault_of_entry v) 2 [] more) (one_failed 0 (end_checks (length more + 1) (entries_of v more))) (option_or of_header of_entries) of_end
+    let entries_begin = begin-all_faults (fault_of_entry v) (entry_fault v) 2
+    (λ before r. begin-at_field (entry_field v (entries_of v before) r)
+    (first_failed (entry_checks v (length before + 2) (entries_of v before) r))) [] more in
+    let front = begin-both (fault_of_header v header) (all_faults (fault_of_entry v) 2 [] more) of_header of_entries
+    (begin-at_field header_field of_header) entries_begin in
+    let whole = begin-or_else (fault_of_header v header ++ all_faults (fault_of_entry v) 2 [] more)
+    (one_failed 0 (end_checks (length more + 1) (entries_of v more))) (option_or of_header of_entries) of_end
     front (λ none. begin-one_failed 0 (end_checks (length more + 1) (entries_of v more))) in
     let parsed = begin-parsed (faults_of_version header more v) (option_or (option_or of_header of_entries) of_end) terms whole in
     rw (unless-or (option_or of_header of_entries) of_end (Ok terms), unless-or of_header of_entries (unless of_end (Ok terms))) at parsed

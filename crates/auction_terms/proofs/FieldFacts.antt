@@ -1,5 +1,7 @@
 -- How bytes read: a field, the fields of a record, and the records.
-use Rattle.std.proofs.Common.{◌≡◌, ◌≢◌, ◌≤◌, ◌<◌, ◌+◌, ◌∷◌, ◌++◌, ◌⊎◌, inl, inr, ⊎_elim, true, false, ℕ, zero, suc, List, [], length, Option, Some, None, refl, sym, ap, ◌∙◌, arith, add-one, take, drop, subst, ne_eqb, eq-eqb, slice_index}
+use Rattle.std.proofs.Common.{◌≡◌, ◌≢◌, ◌≤◌, ◌<◌, ◌+◌, ◌∷◌, ◌++◌, ◌⊎◌, inl, inr, ⊎_elim, true, false, ℕ, zero, suc, List}
+use Rattle.std.proofs.Common.{[], length, Option, Some, None, refl, sym, ap, ◌∙◌, arith, add-one, take, drop, subst, ne_eqb}
+use Rattle.std.proofs.Common.{eq-eqb, slice_index}
 use Rattle.std.specs.List.{AllByRecursion}
 use Rattle.std.proofs.lemmas.Bool.{both_ways, cases_eq, eqb-true}
 use Rattle.std.proofs.lemmas.List.{append_assoc, append-nil, drop_all, take-append-drop, take_all}
@@ -23,14 +25,17 @@ joins_field : (b : ℕ) → IsInside b → step default_config st.InField b ≡ 
 joins_field b i = rw (ne_eqb b 44 i.no_comma, ne_eqb b 13 i.no_return, ne_eqb b 10 i.no_feed) refl
 
 -- bytes inside a field join it
-run_joins : (fields : List (List ℕ)) (field run tail : List ℕ) → AllByRecursion IsInside run → next_record default_config st.InField fields field (run ++ tail) ≡ next_record default_config st.InField fields (field ++ run) tail
+run_joins : (fields : List (List ℕ)) (field run tail : List ℕ) → AllByRecursion IsInside run
+    → next_record default_config st.InField fields field (run ++ tail) ≡ next_record default_config st.InField fields (field ++ run) tail
 unfolding next_record
 run_joins fields field [] tail a = ap (λ (f : List ℕ). next_record default_config st.InField fields f tail) (sym (append-nil field))
 run_joins fields field (b ∷ run) tail a =
-    rw (joins_field b a.0) (run_joins fields (field ++ b ∷ []) run tail a.1 ∙ ap (λ (f : List ℕ). next_record default_config st.InField fields f tail) (append_assoc field (b ∷ []) run))
+    rw (joins_field b a.0) (run_joins fields (field ++ b ∷ []) run tail a.1 ∙ ap
+    (λ (f : List ℕ). next_record default_config st.InField fields f tail) (append_assoc field (b ∷ []) run))
 
 -- the bytes before the first comma or line end are inside
-insides_before : (bytes : List ℕ) (n : ℕ) → n ≤ length bytes → ((k : ℕ) → k < n → ends_field (slice_index bytes k) ≢ true) → AllByRecursion IsInside (take n bytes)
+insides_before : (bytes : List ℕ) (n : ℕ) → n ≤ length bytes → ((k : ℕ) → k < n → ends_field (slice_index bytes k) ≢ true)
+    → AllByRecursion IsInside (take n bytes)
 insides_before bytes zero within none = tt
 insides_before [] (suc n) within none = absurd (omega arith)
 insides_before (b ∷ bytes) (suc n) within none = (
@@ -50,18 +55,21 @@ up_to_end fields field bytes n within none =
     ∙ run_joins fields field (take n bytes) (drop n bytes) (insides_before bytes n within (λ k less. none k (omega arith) less))
 
 -- a field that begins with no quotation mark is read as if within it
-begins_plainly : (fields : List (List ℕ)) (bytes : List ℕ) → begins_with quote bytes ≡ false → next_record default_config st.StartField fields [] bytes ≡ next_record default_config st.InField fields [] bytes
+begins_plainly : (fields : List (List ℕ)) (bytes : List ℕ) → begins_with quote bytes ≡ false
+    → next_record default_config st.StartField fields [] bytes ≡ next_record default_config st.InField fields [] bytes
 unfolding next_record
 begins_plainly fields [] plain = refl
 begins_plainly fields (b ∷ bytes) plain = rw plain refl
 
 -- so is what comes after a quotation mark and is none
-goes_on_plainly : (fields : List (List ℕ)) (field bytes : List ℕ) → begins_with quote bytes ≡ false → next_record default_config st.AfterQuote fields field bytes ≡ next_record default_config st.InField fields field bytes
+goes_on_plainly : (fields : List (List ℕ)) (field bytes : List ℕ) → begins_with quote bytes ≡ false
+    → next_record default_config st.AfterQuote fields field bytes ≡ next_record default_config st.InField fields field bytes
 unfolding next_record
 goes_on_plainly fields field [] plain = refl
 goes_on_plainly fields field (b ∷ bytes) plain = rw plain refl
 
-pub plain_field : (bytes : List ℕ) (n : ℕ) → begins_with quote bytes ≡ false → n ≤ length bytes → Nowhere (Passes ends_field bytes) 0 n → IsAtFieldEnd (drop n bytes) → GivesField st.StartField [] bytes (take n bytes) (drop n bytes)
+pub plain_field : (bytes : List ℕ) (n : ℕ) → begins_with quote bytes ≡ false → n ≤ length bytes → Nowhere (Passes ends_field bytes) 0 n
+    → IsAtFieldEnd (drop n bytes) → GivesField st.StartField [] bytes (take n bytes) (drop n bytes)
 plain_field bytes n plain within none ends = (λ fields. begins_plainly fields bytes plain ∙ up_to_end fields [] bytes n within none, ends)
 
 end_is_no_mark : (bytes : List ℕ) → IsAtFieldEnd bytes → begins_with quote bytes ≡ false
@@ -77,9 +85,14 @@ split_first byte [] begins = cc begins
 split_first byte (b ∷ bytes) begins = ap (λ (first : ℕ). first ∷ bytes) (eqb-true b byte begins)
 
 -- a quotation mark opens a field
-pub opened : (bytes field rest : List ℕ) → begins_with quote bytes ≡ true → GivesField st.InQuoted [] (drop 1 bytes) field rest → GivesField st.StartField [] bytes field rest
+pub opened : (bytes field rest : List ℕ) → begins_with quote bytes ≡ true → GivesField st.InQuoted [] (drop 1 bytes) field rest
+    → GivesField st.StartField [] bytes field rest
 unfolding next_record
-opened bytes field rest begins gives = (λ fields. ap (λ (all : List ℕ). next_record default_config st.StartField fields [] all) (split_first quote bytes begins) ∙ gives.0 fields, gives.1)
+opened bytes field rest begins gives = (
+  λ fields. ap (λ (all : List ℕ). next_record default_config st.StartField fields [] all) (split_first
+      quote bytes begins) ∙ gives.0 fields,
+  gives.1,
+)
 
 joins_quoted : (b : ℕ) → b ≢ 34 → step default_config st.InQuoted b ≡ (st.InQuoted, act.Copy)
 joins_quoted b other = rw (ne_eqb b 34 other) refl
@@ -95,7 +108,8 @@ quoted_run fields field (b ∷ bytes) (suc n) within none =
     (quoted_run fields (field ++ b ∷ []) bytes n (omega arith) (λ k less. none (suc k) (omega arith))
     ∙ ap (λ (f : List ℕ). next_record default_config st.InQuoted fields f (drop n bytes)) (append_assoc field (b ∷ []) (take n bytes)))
 
-never_marked : (fields : List (List ℕ)) (field : List ℕ) → next_record default_config st.InQuoted fields field [] ≡ next_record default_config st.InField fields field []
+never_marked : (fields : List (List ℕ)) (field : List ℕ)
+    → next_record default_config st.InQuoted fields field [] ≡ next_record default_config st.InField fields field []
 unfolding next_record
 never_marked fields field = refl
 
@@ -108,19 +122,26 @@ never_closed field bytes none = (
   tt,
 )
 
-at_mark : (fields : List (List ℕ)) (field after : List ℕ) → next_record default_config st.InQuoted fields field (34 ∷ after) ≡ next_record default_config st.AfterQuote fields field after
+at_mark : (fields : List (List ℕ)) (field after : List ℕ)
+    → next_record default_config st.InQuoted fields field (34 ∷ after) ≡ next_record default_config st.AfterQuote fields field after
 unfolding next_record
 at_mark fields field after = refl
 
-one_mark : (fields : List (List ℕ)) (field more : List ℕ) → next_record default_config st.AfterQuote fields field (34 ∷ more) ≡ next_record default_config st.InQuoted fields (field ++ 34 ∷ []) more
+one_mark : (fields : List (List ℕ)) (field more : List ℕ)
+    → next_record default_config st.AfterQuote fields field (34 ∷ more)
+    ≡ next_record default_config st.InQuoted fields (field ++ 34 ∷ []) more
 unfolding next_record
 one_mark fields field more = refl
 
-module _ (field bytes after : List ℕ) (n : ℕ) (within : n < length bytes) (none : Nowhere (Passes (is_byte quote) bytes) 0 n) (marks : is_byte quote (slice_index bytes n) ≡ true) (behind : after ≡ drop (n + 1) bytes) where
-  up_to_mark : (fields : List (List ℕ)) → next_record default_config st.InQuoted fields field bytes ≡ next_record default_config st.AfterQuote fields (field ++ take n bytes) after
+module _ (field bytes after : List ℕ) (n : ℕ) (within : n < length bytes) (none : Nowhere (Passes (is_byte quote) bytes) 0 n)
+    (marks : is_byte quote (slice_index bytes n) ≡ true) (behind : after ≡ drop (n + 1) bytes) where
+  up_to_mark : (fields : List (List ℕ)) → next_record default_config st.InQuoted fields field bytes
+      ≡ next_record default_config st.AfterQuote fields (field ++ take n bytes) after
   up_to_mark fields =
       let mark : slice_index bytes n ≡ 34 = eqb-true (slice_index bytes n) 34 marks in
-      let left : drop n bytes ≡ 34 ∷ after = drop-cons bytes n 0 within ∙ ap (λ (k : ℕ). slice_index bytes n ∷ drop k bytes) (sym (add-one n)) ∙ ap (λ (more : List ℕ). slice_index bytes n ∷ more) (sym behind) ∙ ap (λ (byte : ℕ). byte ∷ after) mark in
+      let left : drop n bytes ≡ 34 ∷ after = drop-cons bytes n 0 within
+      ∙ ap (λ (k : ℕ). slice_index bytes n ∷ drop k bytes) (sym (add-one n))
+      ∙ ap (λ (more : List ℕ). slice_index bytes n ∷ more) (sym behind) ∙ ap (λ (byte : ℕ). byte ∷ after) mark in
       quoted_run fields field bytes n (omega arith) (λ k less. none k (omega arith) less)
       ∙ ap (λ (all : List ℕ). next_record default_config st.InQuoted fields (field ++ take n bytes) all) left
       ∙ at_mark fields (field ++ take n bytes) after
@@ -139,45 +160,58 @@ module _ (field bytes after : List ℕ) (n : ℕ) (within : n < length bytes) (n
 
   -- two of them stand for one
   pub doubled : (fields : List (List ℕ)) → begins_with quote after ≡ true
-      → next_record default_config st.InQuoted fields field bytes ≡ next_record default_config st.InQuoted fields ((field ++ take n bytes) ++ quote ∷ []) (drop 1 after)
+      → next_record default_config st.InQuoted fields field bytes
+      ≡ next_record default_config st.InQuoted fields ((field ++ take n bytes) ++ quote ∷ []) (drop 1 after)
   doubled fields begins =
       up_to_mark fields ∙ ap (λ (all : List ℕ). next_record default_config st.AfterQuote fields (field ++ take n bytes) all) (split_first quote after begins)
       ∙ one_mark fields (field ++ take n bytes) (drop 1 after)
 
 -- what is read so far may be read first
-pub gives_behind : (bytes left start so_far field rest : List ℕ) → ((fields : List (List ℕ)) → next_record default_config st.InQuoted fields start bytes ≡ next_record default_config st.InQuoted fields so_far left) → GivesField st.InQuoted so_far left field rest → GivesField st.InQuoted start bytes field rest
+pub gives_behind : (bytes left start so_far field rest : List ℕ)
+    → ((fields : List (List ℕ)) → next_record default_config st.InQuoted fields start bytes ≡ next_record default_config st.InQuoted fields
+    so_far left) → GivesField st.InQuoted so_far left field rest → GivesField st.InQuoted start bytes field rest
 gives_behind bytes left start so_far field rest same gives = (λ fields. same fields ∙ gives.0 fields, gives.1)
 
 -- a field is taken after those before it
-pub field_taken : (bytes field rest : List ℕ) (before : List (List ℕ)) → GivesField st.StartField [] bytes field rest → TakesFields bytes before (before ++ field ∷ []) rest
+pub field_taken : (bytes field rest : List ℕ) (before : List (List ℕ)) → GivesField st.StartField [] bytes field rest
+    → TakesFields bytes before (before ++ field ∷ []) rest
 field_taken bytes field rest before gives = (before, field, refl, gives.0 before, gives.1)
 
-at_comma : (fields : List (List ℕ)) (field tail : List ℕ) → next_record default_config st.InField fields field (44 ∷ tail) ≡ next_record default_config st.StartField (fields ++ field ∷ []) [] tail
+at_comma : (fields : List (List ℕ)) (field tail : List ℕ)
+    → next_record default_config st.InField fields field (44 ∷ tail)
+    ≡ next_record default_config st.StartField (fields ++ field ∷ []) [] tail
 unfolding next_record
 at_comma fields field tail = refl
 
 -- after a comma, further fields are taken
-pub taken_behind : (bytes rest left : List ℕ) (before so_far after : List (List ℕ)) → TakesFields bytes before so_far rest → begins_with comma rest ≡ true → TakesFields (drop 1 rest) so_far after left → TakesFields bytes before after left
+pub taken_behind : (bytes rest left : List ℕ) (before so_far after : List (List ℕ)) → TakesFields bytes before so_far rest
+    → begins_with comma rest ≡ true → TakesFields (drop 1 rest) so_far after left → TakesFields bytes before after left
 taken_behind bytes rest left before so_far after t begins more = (more.0, more.1, more.2, t.3 ∙ next ∙ more.3, more.4)
   where
     next : next_record default_config st.InField t.0 t.1 rest ≡ next_record default_config st.StartField so_far [] (drop 1 rest)
-    next = ap (λ (all : List ℕ). next_record default_config st.InField t.0 t.1 all) (split_first comma rest begins) ∙ at_comma t.0 t.1 (drop 1 rest) ∙ ap (λ (fields : List (List ℕ)). next_record default_config st.StartField fields [] (drop 1 rest)) (sym t.2)
+    next = ap (λ (all : List ℕ). next_record default_config st.InField t.0 t.1 all) (split_first comma rest begins)
+        ∙ at_comma t.0 t.1 (drop 1 rest) ∙ ap (λ (fields : List (List ℕ)). next_record default_config st.StartField fields [] (drop 1 rest))
+        (sym t.2)
 
 -- where the next record is the same one, all are
-same_records : (s t : State) (xs ys : List ℕ) → next_record default_config s [] [] xs ≡ next_record default_config t [] [] ys → records_from default_config (suc (length xs)) s xs ≡ records_from default_config (suc (length ys)) t ys
+same_records : (s t : State) (xs ys : List ℕ) → next_record default_config s [] [] xs ≡ next_record default_config t [] [] ys
+    → records_from default_config (suc (length xs)) s xs ≡ records_from default_config (suc (length ys)) t ys
 same_records s t xs ys same = by (next_record default_config t [] [] ys) refl
   where
-    by : (o : Option Read) → next_record default_config t [] [] ys ≡ o → records_from default_config (suc (length xs)) s xs ≡ records_from default_config (suc (length ys)) t ys
+    by : (o : Option Read) → next_record default_config t [] [] ys ≡ o
+        → records_from default_config (suc (length xs)) s xs ≡ records_from default_config (suc (length ys)) t ys
     by None e = records_from-none default_config (length xs) s xs (same ∙ e) ∙ sym (records_from-none default_config (length ys) t ys e)
     by (Some r) e = records_from-next default_config s xs r (same ∙ e) ∙ sym (records_from-next default_config t ys r e)
 
 -- a line end before a record counts for nothing
-skipped : (b : ℕ) (rest : List ℕ) → (b ≡ 10) ⊎ (b ≡ 13) → next_record default_config st.StartRecord [] [] (b ∷ rest) ≡ next_record default_config st.StartRecord [] [] rest
+skipped : (b : ℕ) (rest : List ℕ) → (b ≡ 10) ⊎ (b ≡ 13)
+    → next_record default_config st.StartRecord [] [] (b ∷ rest) ≡ next_record default_config st.StartRecord [] [] rest
 unfolding next_record
 skipped b rest is = ⊎_elim (λ (feed : b ≡ 10). rw feed refl) (λ (return : b ≡ 13). rw return refl) is
 
 pub line_end_skipped : (b : ℕ) (rest : List ℕ) → (b ≡ 10) ⊎ (b ≡ 13) → records default_config rest ≡ records default_config (b ∷ rest)
-line_end_skipped b rest is = rw (add-one (length rest), add-one (length (b ∷ rest))) (sym (same_records st.StartRecord st.StartRecord (b ∷ rest) rest (skipped b rest is)))
+line_end_skipped b rest is = rw (add-one (length rest), add-one (length (b ∷ rest)))
+    (sym (same_records st.StartRecord st.StartRecord (b ∷ rest) rest (skipped b rest is)))
 
 after_return : (rest : List ℕ) → next_record default_config st.AfterCr [] [] rest ≡ next_record default_config st.StartRecord [] [] rest
 unfolding next_record
@@ -192,13 +226,15 @@ behind_return : (left : List ℕ) → records_from default_config (suc (length l
 behind_return left = rw (add-one (length left)) (same_records st.AfterCr st.StartRecord left left (after_return left))
 
 -- at a byte that is no line end, a record and its first field begin
-begins_field : (b : ℕ) (rest : List ℕ) → BeginsNoLineEnd (b ∷ rest) → next_record default_config st.StartRecord [] [] (b ∷ rest) ≡ next_record default_config st.StartField [] [] (b ∷ rest)
+begins_field : (b : ℕ) (rest : List ℕ) → BeginsNoLineEnd (b ∷ rest)
+    → next_record default_config st.StartRecord [] [] (b ∷ rest) ≡ next_record default_config st.StartField [] [] (b ∷ rest)
 unfolding next_record
 begins_field b rest begins = rw (ne_eqb b 13 begins.1, ne_eqb b 10 begins.0) refl
 
 -- after the fields of a record, its line end counts for nothing
 rest_behind : (others : List (List ℕ)) (field rest : List ℕ) → IsAtFieldEnd rest → begins_with comma rest ≡ false
-    → (state : State) × (left : List ℕ) × (next_record default_config st.InField others field rest ≡ Some (others ++ field ∷ [], state, left)) × (records_from default_config (suc (length left)) state left ≡ records default_config rest)
+    → (state : State) × (left : List ℕ) × (next_record default_config st.InField others field rest ≡ Some
+    (others ++ field ∷ [], state, left)) × (records_from default_config (suc (length left)) state left ≡ records default_config rest)
 unfolding next_record
 rest_behind others field [] ends plain = (st.StartRecord, [], refl, rw (add-one 0) refl)
 rest_behind others field (b ∷ rest) ends plain = ⊎_elim
@@ -210,7 +246,9 @@ rest_behind others field (b ∷ rest) ends plain = ⊎_elim
     (cases_eq b 10)
 
 -- the records of bytes that begin one are its fields and the records after it
-pub record_taken : (bytes rest : List ℕ) (fields : List (List ℕ)) → length bytes ≢ 0 → BeginsNoLineEnd bytes → TakesFields bytes [] fields rest → begins_with comma rest ≡ false → records default_config bytes ≡ fields ∷ records default_config rest
+pub record_taken : (bytes rest : List ℕ) (fields : List (List ℕ)) → length bytes ≢ 0 → BeginsNoLineEnd bytes
+    → TakesFields bytes [] fields rest → begins_with comma rest ≡ false
+    → records default_config bytes ≡ fields ∷ records default_config rest
 record_taken [] rest fields some begins t plain = absurd (some refl)
 record_taken (b ∷ bytes) rest fields some begins t plain =
     let r = rest_behind t.0 t.1 rest t.4 plain in
@@ -227,7 +265,8 @@ no_record [] none = none_left
 no_record (b ∷ bytes) none = absurd (omega arith)
 
 -- a byte order mark is dropped
-pub mark_dropped : (text : List ℕ) → 3 ≤ length text → slice_index text 0 ≡ 0xEF → slice_index text 1 ≡ 0xBB → slice_index text 2 ≡ 0xBF → drop 3 text ≡ strip_bom text
+pub mark_dropped : (text : List ℕ) → 3 ≤ length text → slice_index text 0 ≡ 0xEF → slice_index text 1 ≡ 0xBB → slice_index text 2 ≡ 0xBF
+    → drop 3 text ≡ strip_bom text
 unfolding strip_bom
 mark_dropped [] some first second third = absurd (omega arith)
 mark_dropped (a ∷ []) some first second third = absurd (omega arith)
@@ -235,7 +274,8 @@ mark_dropped (a ∷ b ∷ []) some first second third = absurd (omega arith)
 mark_dropped (a ∷ b ∷ c ∷ rest) some first second third = rw (first, second, third) refl
 
 -- other bytes stay
-pub others_kept : (text : List ℕ) → (3 ≤ length text → slice_index text 0 ≡ 0xEF → slice_index text 1 ≡ 0xBB → slice_index text 2 ≢ 0xBF) → text ≡ strip_bom text
+pub others_kept : (text : List ℕ) → (3 ≤ length text → slice_index text 0 ≡ 0xEF → slice_index text 1 ≡ 0xBB → slice_index text 2 ≢ 0xBF)
+    → text ≡ strip_bom text
 unfolding strip_bom
 others_kept [] other = refl
 others_kept (a ∷ []) other = refl
@@ -256,5 +296,9 @@ no_line_end (b ∷ bytes) zero other = other (omega arith)
 no_line_end (b ∷ bytes) (suc n) other = no_line_end bytes n (λ less. other (omega arith))
 
 -- one line end more is skipped
-pub one_more : (bytes : List ℕ) (n : ℕ) → n < length bytes → (slice_index bytes n ≡ 10) ⊎ (slice_index bytes n ≡ 13) → records default_config (drop n bytes) ≡ records default_config bytes → records default_config (drop (n + 1) bytes) ≡ records default_config bytes
-one_more bytes n within ends so_far = line_end_skipped (slice_index bytes n) (drop (n + 1) bytes) ends ∙ ap (λ (all : List ℕ). records default_config all) (sym (drop-cons bytes n 0 within ∙ ap (λ (k : ℕ). slice_index bytes n ∷ drop k bytes) (sym (add-one n)))) ∙ so_far
+pub one_more : (bytes : List ℕ) (n : ℕ) → n < length bytes → (slice_index bytes n ≡ 10) ⊎ (slice_index bytes n ≡ 13)
+    → records default_config (drop n bytes) ≡ records default_config bytes
+    → records default_config (drop (n + 1) bytes) ≡ records default_config bytes
+one_more bytes n within ends so_far = line_end_skipped (slice_index bytes n) (drop (n + 1) bytes) ends
+    ∙ ap (λ (all : List ℕ). records default_config all) (sym (drop-cons bytes n 0 within ∙ ap
+    (λ (k : ℕ). slice_index bytes n ∷ drop k bytes) (sym (add-one n)))) ∙ so_far

@@ -23,7 +23,8 @@ pub skipped : (xs : List ℕ) → fields xs ≡ fields (drop (position_or_len is
 skipped [] = refl
 skipped (x ∷ xs) = by (is_space x) refl (skipped xs)
   where
-    by : (b : Bool) → is_space x ≡ b → fields xs ≡ fields (drop (position_or_len is_text xs) xs) → fields (x ∷ xs) ≡ fields (drop (position_or_len is_text (x ∷ xs)) (x ∷ xs))
+    by : (b : Bool) → is_space x ≡ b → fields xs ≡ fields (drop (position_or_len is_text xs) xs)
+        → fields (x ∷ xs) ≡ fields (drop (position_or_len is_text (x ∷ xs)) (x ∷ xs))
     by true h more = space_first x xs h ∙ more ∙ ap fields (rw h (sym (drop_one (position_or_len is_text xs) x xs)))
     by false h more = rw h refl
 
@@ -32,7 +33,8 @@ one_part : (xs : List ℕ) → length xs ≤ position_or_len is_space xs → sli
 one_part [] h = refl
 one_part (x ∷ xs) h = by (is_space x) refl (one_part xs)
   where
-    by : (b : Bool) → is_space x ≡ b → (length xs ≤ position_or_len is_space xs → slice_split is_space xs ≡ xs ∷ []) → slice_split is_space (x ∷ xs) ≡ (x ∷ xs) ∷ []
+    by : (b : Bool) → is_space x ≡ b → (length xs ≤ position_or_len is_space xs → slice_split is_space xs ≡ xs ∷ [])
+        → slice_split is_space (x ∷ xs) ≡ (x ∷ xs) ∷ []
     by true e more = let bad = rw e at h in absurd (omega arith)
     by false e more =
         let less = rw e at h in
@@ -50,7 +52,8 @@ word xs n place some within = by (nat_lt n (length xs)) refl
     by true h =
         let less = ltb-true _ _ h in
         let first : is_space (get_or xs n 0) ≡ true = rw place at (passes_at_first is_space xs 0 (rw place less)) in
-        let first_part : slice_split is_space xs ≡ take n xs ∷ slice_split is_space (drop (n + 1) xs) = rw place at (slice_split_first is_space xs 0 (rw place less)) in
+        let first_part : slice_split is_space xs ≡ take n xs ∷ slice_split is_space (drop (n + 1) xs) =
+        rw place at (slice_split_first is_space xs 0 (rw place less)) in
         let rest : fields (drop n xs) ≡ fields (drop (n + 1) xs) = ap fields (drop_more xs n 0 less) ∙ space_first (get_or xs n 0) (drop (n + 1) xs) first in
         rw (first_part, some_bytes, rest) refl
     by false h =
@@ -67,7 +70,8 @@ begins xs n place less =
     rw (drop_more xs n 0 less, not-true (is_space (get_or xs n 0)) first) (omega arith)
 
 -- the first field of a line, and what follows it
-pub first_field : (line text : List ℕ) (start end : ℕ) → start ≡ position_or_len is_text line → start < length line → text ≡ drop start line → end ≡ position_or_len is_space text → end ≤ length text
+pub first_field : (line text : List ℕ) (start end : ℕ) → start ≡ position_or_len is_text line → start < length line → text ≡ drop start line
+    → end ≡ position_or_len is_space text → end ≤ length text
     → fields line ≡ take end text ∷ fields (drop end text)
 first_field line text start end at less is place within =
     let behind : fields line ≡ fields text = skipped line ∙ ap fields (rw (← at, is) refl) in

@@ -1,5 +1,6 @@
 -- What the loop over the names of a line keeps.
-use Rattle.std.proofs.Common.{Bor, Bool, true, false, suc, drop, length, slice_index_or, arith, ◌+◌, ◌++◌, ◌∙◌, ◌<◌, ◌≤◌, append_assoc, add-one, ◌≡◌, ◌∷◌, ◌||◌, ℕ, List, [], Option, Some, Ok, Err, map, sym, refl, ap}
+use Rattle.std.proofs.Common.{Bor, Bool, true, false, suc, drop, length, slice_index_or, arith, ◌+◌, ◌++◌, ◌∙◌, ◌<◌, ◌≤◌}
+use Rattle.std.proofs.Common.{append_assoc, add-one, ◌≡◌, ◌∷◌, ◌||◌, ℕ, List, [], Option, Some, Ok, Err, map, sym, refl, ap}
 use Rattle.std.specs.Prelude.{filter, if◌then◌else◌, All, AllPairs}
 use Rattle.std.proofs.lemmas.List.Elements.{All-cons}
 use Rattle.std.proofs.lemmas.List.Kept.{AllPairs-cons}
@@ -20,21 +21,27 @@ list_any-map : {X Y : Type 0} (f : X → Y) (p : Y → Bool) (xs : List X) → l
 list_any-map f p [] = refl
 list_any-map f p (x ∷ xs) = ap (λ b. p (f x) || b) (list_any-map f p xs)
 
-pub answers-fault : {T : Type 0} (U : Type 0) (f : GroupFault) (found outer : Option GroupFault) (x : T) (value : U) → ((g : GroupFault) → found ≡ Some g → outer ≡ Some g)
+pub answers-fault : {T : Type 0} (U : Type 0) (f : GroupFault) (found outer : Option GroupFault) (x : T) (value : U)
+    → ((g : GroupFault) → found ≡ Some g → outer ≡ Some g)
     → Tells {T = T} is_groups_memory (Err f) found x → Answers {A = U} is_groups_memory (Err f) (unless outer (Ok value))
 answers-fault U fault.OutOfMemory found outer x value same h = tt
 answers-fault U f found outer x value same h = rw (same f h) refl
 
 -- references to names, and the names
-pub any_name-is : (name : List ℕ) (names : List (Bor (List ℕ))) → list_any (λ other. bytes_eq other name) (map (λ other. other.now) names) ≡ list_any (λ other. bytes_eq other.now name) names
+pub any_name-is : (name : List ℕ) (names : List (Bor (List ℕ)))
+    → list_any (λ other. bytes_eq other name) (map (λ other. other.now) names) ≡ list_any (λ other. bytes_eq other.now name) names
 any_name-is name names = list_any-map (λ (other : Bor (List ℕ)). other.now) (λ other. bytes_eq other name) names
 
 -- the numbers of named bidders, at the first of them
 numbers-next : (n : ℕ) (bidder : Bidder) (more : List Bidder) (names : List (List ℕ))
-    → numbers_from n (bidder ∷ more) names ≡ (if list_any (λ name. bytes_eq name bidder.name) names then n ∷ numbers_from (n + 1) more names else numbers_from (n + 1) more names)
-numbers-next n bidder more names = by (list_any (λ name. bytes_eq name bidder.name) names) (filter (λ (b : ℕ × Bidder). list_any (λ name. bytes_eq name b.1.name) names) (enumerate_from (n + 1) more))
+    → numbers_from n (bidder ∷ more) names ≡ (if list_any (λ name. bytes_eq name bidder.name) names then n ∷ numbers_from (n + 1) more names
+    else numbers_from (n + 1) more names)
+numbers-next n bidder more names = by (list_any (λ name. bytes_eq name bidder.name) names)
+    (filter (λ (b : ℕ × Bidder). list_any (λ name. bytes_eq name b.1.name) names) (enumerate_from (n + 1) more))
   where
-    by : (b : Bool) (rest : List (ℕ × Bidder)) → map (λ (b : ℕ × Bidder). b.0) (if b then (n, bidder) ∷ rest else rest) ≡ (if b then n ∷ map (λ (b : ℕ × Bidder). b.0) rest else map (λ (b : ℕ × Bidder). b.0) rest)
+    by : (b : Bool) (rest : List (ℕ × Bidder))
+        → map (λ (b : ℕ × Bidder). b.0) (if b then (n, bidder) ∷ rest else rest)
+        ≡ (if b then n ∷ map (λ (b : ℕ × Bidder). b.0) rest else map (λ (b : ℕ × Bidder). b.0) rest)
     by true rest = refl
     by false rest = refl
 
@@ -44,11 +51,13 @@ pub numbers-more : (items : List ℕ) (place : ℕ) (bidders : List Bidder) (nam
     → items ++ numbers_from (place + 1) (drop place bidders) names ≡ all
     → (if found then items ++ (place + 1) ∷ [] else items) ++ numbers_from (place + 1 + 1) (drop (place + 1) bidders) names ≡ all
 numbers-more items place bidders names all bidder found small at test so_far =
-    let next : drop place bidders ≡ bidder ∷ drop (place + 1) bidders = rw (add-one place) (drop-cons bidders place bidder small ∙ ap (λ b. b ∷ drop (suc place) bidders) (sym at)) in
+    let next : drop place bidders ≡ bidder ∷ drop (place + 1) bidders =
+    rw (add-one place) (drop-cons bidders place bidder small ∙ ap (λ b. b ∷ drop (suc place) bidders) (sym at)) in
     let parsed = rw (next, numbers-next (place + 1) bidder (drop (place + 1) bidders) names, test) at so_far in
     by found parsed
   where
-    by : (b : Bool) → items ++ (if b then (place + 1) ∷ numbers_from (place + 1 + 1) (drop (place + 1) bidders) names else numbers_from (place + 1 + 1) (drop (place + 1) bidders) names) ≡ all
+    by : (b : Bool) → items ++ (if b then (place + 1) ∷ numbers_from (place + 1 + 1) (drop (place + 1) bidders) names else numbers_from
+        (place + 1 + 1) (drop (place + 1) bidders) names) ≡ all
         → (if b then items ++ (place + 1) ∷ [] else items) ++ numbers_from (place + 1 + 1) (drop (place + 1) bidders) names ≡ all
     by true e = append_assoc items ((place + 1) ∷ []) _ ∙ e
     by false e = e
@@ -56,7 +65,9 @@ numbers-more items place bidders names all bidder found small at test so_far =
 -- numbers from n on, below a bound
 numbers-within : (n : ℕ) (bidders : List Bidder) (names : List (List ℕ)) → All (λ x. (n ≤ x) × (x < n + length bidders)) (numbers_from n bidders names)
 numbers-within n [] names = λ k d small. absurd (omega arith)
-numbers-within n (bidder ∷ more) names = rw (numbers-next n bidder more names) (by (list_any (λ name. bytes_eq name bidder.name) names) (λ k d small. (let h = numbers-within (n + 1) more names k d small in (omega arith, omega arith))))
+numbers-within n (bidder ∷ more) names = rw (numbers-next n bidder more names)
+    (by (list_any (λ name. bytes_eq name bidder.name) names) (λ k d small.
+    (let h = numbers-within (n + 1) more names k d small in (omega arith, omega arith))))
   where
     by : (b : Bool) → All (λ x. (n ≤ x) × (x < n + length (bidder ∷ more))) (numbers_from (n + 1) more names)
         → All (λ x. (n ≤ x) × (x < n + length (bidder ∷ more))) (if b then n ∷ numbers_from (n + 1) more names else numbers_from (n + 1) more names)
@@ -65,7 +76,8 @@ numbers-within n (bidder ∷ more) names = rw (numbers-next n bidder more names)
 
 numbers-rise : (n : ℕ) (bidders : List Bidder) (names : List (List ℕ)) → AllPairs (λ a b. a < b) (numbers_from n bidders names)
 numbers-rise n [] names = λ i j d less small. absurd (omega arith)
-numbers-rise n (bidder ∷ more) names = rw (numbers-next n bidder more names) (by (list_any (λ name. bytes_eq name bidder.name) names) (numbers-rise (n + 1) more names))
+numbers-rise n (bidder ∷ more) names =
+    rw (numbers-next n bidder more names) (by (list_any (λ name. bytes_eq name bidder.name) names) (numbers-rise (n + 1) more names))
   where
     above : All (λ x. n < x) (numbers_from (n + 1) more names)
     above k d small = let h = numbers-within (n + 1) more names k d small in omega arith

@@ -16,8 +16,15 @@ are_lots t h =
     let few_pools = h.limits.pool_count in
     record {
       categories = omega arith;
-      supplies = recursion_from_All _ _ (All-map (λ n. n ≤ GREATEST_QUANTITY) (λ (category : Category). category.supply) t.categories (λ k d l. (h.limits.each_category k d l).supply));
-      values = recursion_from_All _ _ (All-map (λ n. n ≤ GREATEST_VALUE) (λ (category : Category). category.value) t.categories (λ k d l. (h.limits.each_category k d l).value));
+      supplies = recursion_from_All _ _ (All-map (λ n. n ≤ GREATEST_QUANTITY) (λ (category : Category). category.supply) t.categories
+          (λ k d l. (h.limits.each_category k d l).supply));
+      values = recursion_from_All _ _ (All-map (λ n. n ≤ GREATEST_VALUE) (λ (category : Category). category.value) t.categories
+          (λ k d l. (h.limits.each_category k d l).value));
       few_pools = omega arith;
-      pools = recursion_from_All _ _ (All-map IsWeightedCap cap_of t.pools (λ k d l. (let pool = h.limits.each_pool k d l in record { cap = pool.cap; weights = recursion_from_All (λ n. n ≤ GREATEST_WEIGHT) _ pool.weights })));
+      pools = recursion_from_All _ _ (All-map IsWeightedCap cap_of t.pools
+          (λ k d l. (let pool = h.limits.each_pool k d l in record {
+            cap = pool.cap;
+            weights = recursion_from_All (λ n. n ≤ GREATEST_WEIGHT)
+                _ pool.weights;
+          })));
     }

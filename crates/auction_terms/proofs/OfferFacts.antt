@@ -1,5 +1,6 @@
 -- Sums over the offers of a book: each of its bids stands there once.
-use Rattle.std.proofs.Common.{◌≡◌, ◌≢◌, ℕ, zero, suc, ◌+◌, ◌≤◌, Bool, true, cond, List, [], ◌∷◌, ◌++◌, Some, slice_get, slice_index_or, sym, refl, ap, ◌∙◌, subst, arith, le_refl}
+use Rattle.std.proofs.Common.{◌≡◌, ◌≢◌, ℕ, zero, suc, ◌+◌, ◌≤◌, Bool, true, cond, List, [], ◌∷◌, ◌++◌, Some, slice_get}
+use Rattle.std.proofs.Common.{slice_index_or, sym, refl, ap, ◌∙◌, subst, arith, le_refl}
 use Rattle.std.specs.Prelude.{sum_by, filter}
 use Rattle.std.specs.List.{AllByRecursion}
 use Rattle.std.proofs.lemmas.Bool.{cond-true, cond-false, cond_both}
@@ -20,7 +21,8 @@ module _ {X : Type 0} where
 
   pub sum_plus : (f g h : X → ℕ) (xs : List X) → ((x : X) → f x ≡ g x + h x) → sum_by f xs ≡ sum_by g xs + sum_by h xs
   sum_plus f g h [] e = refl
-  sum_plus f g h (x ∷ xs) e = let s = sum_by-cons f x xs in let t = sum_by-cons g x xs in let u = sum_by-cons h x xs in let a = e x in let b = sum_plus f g h xs e in omega arith
+  sum_plus f g h (x ∷ xs) e = let s = sum_by-cons f x xs in let t =
+      sum_by-cons g x xs in let u = sum_by-cons h x xs in let a = e x in let b = sum_plus f g h xs e in omega arith
 
   pub sum_filter : (g : X → ℕ) (q : X → Bool) (xs : List X) → sum_by g (filter q xs) ≡ sum_by (λ x. cond (q x) (g x) 0) xs
   sum_filter g q [] = refl
@@ -74,7 +76,8 @@ module _ (G : Offer → ℕ) where
       let z = zero_form b (j + 1) form (λ p q l. h p q (λ t. omega arith)) in
       let same : y ≡ x = cc in
       let place : j ≡ n = omega arith in
-      let here : G o ≡ G record { bidder = b; number = n; bid = x } = ap (λ (k : ℕ). G record { bidder = b; number = k; bid = y }) place ∙ ap (λ (w : Bid). G record { bidder = b; number = n; bid = w }) same in
+      let here : G o ≡ G record { bidder = b; number = n; bid = x } = ap (λ (k : ℕ). G record { bidder = b; number = k; bid = y }) place
+      ∙ ap (λ (w : Bid). G record { bidder = b; number = n; bid = w }) same in
       let m : ℕ = G record { bidder = b; number = n; bid = x } in
       let here' : G o ≡ m = here in
       let total : sum_by G (offers_of_form b j (y ∷ form)) ≡ m = omega arith in
@@ -90,7 +93,8 @@ module _ (G : Offer → ℕ) where
       total
 
   -- only the bid j of the i-th form counts
-  at_book : (b n : ℕ) (book : List (List Bid)) (i j : ℕ) (x : Bid) → bid_at (slice_index_or book i []) (suc j) ≡ Some x → n ≡ b + i → ((o : Offer) → (o.bidder ≡ n → o.number ≢ suc j) → G o ≡ 0)
+  at_book : (b n : ℕ) (book : List (List Bid)) (i j : ℕ) (x : Bid) → bid_at (slice_index_or book i []) (suc j) ≡ Some x → n ≡ b + i
+      → ((o : Offer) → (o.bidder ≡ n → o.number ≢ suc j) → G o ≡ 0)
       → sum_by G (offers_from b book) ≡ G record { bidder = n; number = suc j; bid = x }
   at_book b n [] i j x at e h = cc
   at_book b n (form ∷ book) zero j x at e h =
@@ -119,22 +123,27 @@ module _ (G : Offer → ℕ) where
   at_choice book (suc i) (suc j) x at h = at_book 1 (suc i) book i j x at (omega arith) h
 
 -- each offer is the bid of its number
-stands_form : (whole form : List Bid) (b j : ℕ) → ((i n : ℕ) → n ≡ j + i → slice_get form i ≡ slice_get whole n) → AllByRecursion (λ (o : Offer). (o.bidder ≡ b) × (bid_at whole o.number ≡ Some o.bid)) (offers_of_form b (suc j) form)
+stands_form : (whole form : List Bid) (b j : ℕ) → ((i n : ℕ) → n ≡ j + i → slice_get form i ≡ slice_get whole n)
+    → AllByRecursion (λ (o : Offer). (o.bidder ≡ b) × (bid_at whole o.number ≡ Some o.bid)) (offers_of_form b (suc j) form)
 stands_form whole [] b j h = tt
 stands_form whole (x ∷ form) b j h = (
   (refl, sym (h 0 j (omega arith))),
-  subst (λ (k : ℕ). AllByRecursion (λ (o : Offer). (o.bidder ≡ b) × (bid_at whole o.number ≡ Some o.bid)) (offers_of_form b k form)) (let e : suc (suc j) ≡ suc j + 1 = omega arith in e)
+  subst (λ (k : ℕ). AllByRecursion (λ (o : Offer). (o.bidder ≡ b) × (bid_at whole o.number ≡ Some o.bid)) (offers_of_form b k form))
+      (let e : suc (suc j) ≡ suc j + 1 = omega arith in e)
       (stands_form whole form b (suc j) (λ i n e. h (suc i) n (omega arith))),
 )
 
-stands_from : (whole book : List (List Bid)) (k : ℕ) → ((i n : ℕ) → n ≡ k + i → slice_index_or book i [] ≡ slice_index_or whole n []) → AllByRecursion (λ (o : Offer). bid_of whole (choice_of o) ≡ Some o.bid) (offers_from (suc k) book)
+stands_from : (whole book : List (List Bid)) (k : ℕ) → ((i n : ℕ) → n ≡ k + i → slice_index_or book i [] ≡ slice_index_or whole n [])
+    → AllByRecursion (λ (o : Offer). bid_of whole (choice_of o) ≡ Some o.bid) (offers_from (suc k) book)
 stands_from whole [] k h = tt
 stands_from whole (form ∷ book) k h =
     all_append _ (offers_of_form (suc k) 1 form) (offers_from (suc k + 1) book)
-    (all_agree (λ (o : Offer). (o.bidder ≡ suc k) × (bid_at form o.number ≡ Some o.bid)) (λ (o : Offer). bid_of whole (choice_of o) ≡ Some o.bid) (offers_of_form (suc k) 1 form)
+    (all_agree (λ (o : Offer). (o.bidder ≡ suc k) × (bid_at form o.number ≡ Some o.bid))
+    (λ (o : Offer). bid_of whole (choice_of o) ≡ Some o.bid) (offers_of_form (suc k) 1 form)
     (λ o w. ap (λ (b : ℕ). bid_at (form_of whole b) o.number) w.0 ∙ ap (λ (f : List Bid). bid_at f o.number) (sym (h 0 k (omega arith))) ∙ w.1)
     (stands_form form form (suc k) 0 (λ i n e. ap (λ (m : ℕ). slice_get form m) (let t : i ≡ n = omega arith in t))))
-    (subst (λ (m : ℕ). AllByRecursion (λ (o : Offer). bid_of whole (choice_of o) ≡ Some o.bid) (offers_from m book)) (let e : suc (suc k) ≡ suc k + 1 = omega arith in e)
+    (subst (λ (m : ℕ). AllByRecursion (λ (o : Offer). bid_of whole (choice_of o) ≡ Some o.bid) (offers_from m book))
+    (let e : suc (suc k) ≡ suc k + 1 = omega arith in e)
     (stands_from whole book (suc k) (λ i n e. h (suc i) n (omega arith))))
 
 pub stands : (book : List (List Bid)) → AllByRecursion (λ (o : Offer). bid_of book (choice_of o) ≡ Some o.bid) (offers_from 1 book)

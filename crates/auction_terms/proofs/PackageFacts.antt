@@ -1,6 +1,8 @@
 -- Laws of the order of packages: domination leads to a kept bid.
 use Rattle.std.specs.Prelude.{int_le}
-use Rattle.std.proofs.Common.{◌≡◌, ℕ, zero, suc, ◌<◌, ◌≤◌, Bool, true, false, List, [], ◌∷◌, Some, slice_get, slice_index, refl, arith, leb-true, leb-false, le-leb, lt-ltb, not, nat_lt, ◌&&◌, ◌||◌, ap₂, ⊎_elim, le_refl, inl, inr, pos}
+use Rattle.std.proofs.Common.{◌≡◌, ℕ, zero, suc, ◌<◌, ◌≤◌, Bool, true, false, List, [], ◌∷◌, Some, slice_get, slice_index}
+use Rattle.std.proofs.Common.{refl, arith, leb-true, leb-false, le-leb, lt-ltb, not, nat_lt, ◌&&◌, ◌||◌, ap₂, ⊎_elim}
+use Rattle.std.proofs.Common.{le_refl, inl, inr, pos}
 use Rattle.std.specs.List.{list_any, list_all}
 use Rattle.std.proofs.lemmas.Bool.{and_parts, and_right, and_from, and_cases, or_cases, cases_Bool, not-true, not_from_false, both_ways}
 use Rattle.auction_terms.specs.declared.bids.Bid.{Bid}
@@ -75,7 +77,8 @@ fits_smaller lots p q h k =
     and_from (is_within p lots.supply) (list_all (is_within_cap p) lots.pools) (within_trans p q lots.supply h e.0) (caps_smaller p q lots.pools h e.1)
 
 -- by falling size of the package
-keeper : (lots : Lots) (form : List Bid) (n : ℕ) (j : ℕ) (x : Bid) → size x.package < n → bid_at form j ≡ Some x → fits lots x.package ≡ true → int_le (pos 0) (net lots x) ≡ true → KeptInstead lots form x
+keeper : (lots : Lots) (form : List Bid) (n : ℕ) (j : ℕ) (x : Bid) → size x.package < n → bid_at form j ≡ Some x
+    → fits lots x.package ≡ true → int_le (pos 0) (net lots x) ≡ true → KeptInstead lots form x
 keeper lots form zero j x less at fit worth = absurd (omega arith)
 keeper lots form (suc n) j x less at fit worth = ⊎_elim
     (λ some.
@@ -83,7 +86,8 @@ keeper lots form (suc n) j x less at fit worth = ⊎_elim
     let d = and_parts _ _ w.3 in
     let s = and_parts _ _ d.0 in
     let shrinks = size_lt w.1.package x.package s.0 (not-true _ s.1) in
-    let k = keeper lots form n (suc w.0) w.1 (omega arith) w.2 (fits_smaller lots w.1.package x.package s.0 fit) (int_le_trans (pos 0) (net lots x) (net lots w.1) worth d.1) in
+    let k = keeper lots form n (suc w.0) w.1 (omega arith) w.2 (fits_smaller lots w.1.package x.package s.0 fit)
+    (int_le_trans (pos 0) (net lots x) (net lots w.1) worth d.1) in
     record {
       number = k.number;
       bid = k.bid;

@@ -48,7 +48,8 @@ raised_is digits up down h =
     let power : 10 ^ up ≡ 10 ^ (up - down) * 10 ^ down = ap (λ (n : ℕ). 10 ^ n) (omega arith) ∙ pow-add 10 (up - down) down in
     let size : digits * 10 ^ up ≡ (digits * 10 ^ (up - down)) * 10 ^ down = rw power (omega arith) in
     let unit : 10 ^ down ≡ 1 * 10 ^ down = omega arith in
-    ap (λ (n : ℕ). whole_of n (10 ^ down)) size ∙ ap (whole_of ((digits * 10 ^ (up - down)) * 10 ^ down)) unit ∙ same_factor (digits * 10 ^ (up - down)) 1 (10 ^ down) (omega arith) (pow_some down)
+    ap (λ (n : ℕ). whole_of n (10 ^ down)) size ∙ ap (whole_of ((digits * 10 ^ (up - down)) * 10 ^ down)) unit
+    ∙ same_factor (digits * 10 ^ (up - down)) 1 (10 ^ down) (omega arith) (pow_some down)
 
 pub lowered_is : (digits up down : ℕ) → up ≤ down → whole_of (digits * 10 ^ up) (10 ^ down) ≡ whole_of digits (10 ^ (down - up))
 lowered_is digits up down h =

@@ -34,14 +34,16 @@ none-marked (b ∷ token) h = by ((is_minus (b ∷ token) || (slice_index (b ∷
     by true e digits = rw (sign-no-mark b e, none-any is_exponent_mark no-mark token (rw e at digits)) refl
     by false e digits = none-any is_exponent_mark no-mark (b ∷ token) (rw e at digits)
 
-pub short_number_is : (token ds : List ℕ) (value : ℕ) → ds ≡ without_sign token → list_all is_ascii_digit ds ≡ true → 1 ≤ length ds → length ds ≤ 18 → value ≡ digits_value 10 ds → value < 10 ^ 18 → number token ≡ Ok (signed (is_minus token) value)
+pub short_number_is : (token ds : List ℕ) (value : ℕ) → ds ≡ without_sign token → list_all is_ascii_digit ds ≡ true → 1 ≤ length ds
+    → length ds ≤ 18 → value ≡ digits_value 10 ds → value < 10 ^ 18 → number token ≡ Ok (signed (is_minus token) value)
 unfolding number
 short_number_is token ds value d digits some few is low =
     let here : list_all is_ascii_digit (without_sign token) ≡ true = rw d at digits in
     let unmarked = none-any is_exponent_mark no-mark (without_sign token) here in
     let unpointed = none-any (λ (c : ℕ). c == 46) no-point ds digits in
     let front : mantissa token ≡ ds = all-before is_exponent_mark (without_sign token) unmarked ∙ sym d in
-    let whole : before_first (λ (c : ℕ). c == 46) (mantissa token) ≡ ds = ap (before_first (λ (c : ℕ). c == 46)) front ∙ all-before (λ (c : ℕ). c == 46) ds unpointed in
+    let whole : before_first (λ (c : ℕ). c == 46) (mantissa token) ≡ ds =
+    ap (before_first (λ (c : ℕ). c == 46)) front ∙ all-before (λ (c : ℕ). c == 46) ds unpointed in
     let fraction : fraction_digits token ≡ [] = ap (after_first (λ (c : ℕ). c == 46)) front ∙ none-after (λ (c : ℕ). c == 46) ds unpointed in
     let exponent : exponent_text token ≡ [] = none-after is_exponent_mark (without_sign token) unmarked in
     let filled : nat_lt 0 (length ds) ≡ true = lt-ltb _ _ (omega arith) in

@@ -1,5 +1,6 @@
 -- Laws of weighed quantities, of what lots are left, and of nets.
-use Rattle.std.proofs.Common.{◌≡◌, ℕ, zero, suc, ◌+◌, ◌-◌, ◌*◌, ◌≤◌, true, false, List, [], ◌∷◌, Option, Some, None, slice_index, length, map, sym, refl, ap, ◌∙◌, arith, leb-true, le-leb, ℤ, ◌≤ℤ◌, ◌<ℤ◌}
+use Rattle.std.proofs.Common.{◌≡◌, ℕ, zero, suc, ◌+◌, ◌-◌, ◌*◌, ◌≤◌, true, false, List, [], ◌∷◌, Option, Some, None}
+use Rattle.std.proofs.Common.{slice_index, length, map, sym, refl, ap, ◌∙◌, arith, leb-true, le-leb, ℤ, ◌≤ℤ◌, ◌<ℤ◌}
 use Rattle.std.specs.Prelude.{drop, int_le, min, nat_lt, sum_by}
 use Rattle.std.specs.Option.{option_map_or}
 use Rattle.std.specs.List.{range_with_len, list_all}
@@ -64,7 +65,8 @@ weighed_le (n ∷ w) (x ∷ p) (y ∷ q) h =
     let b = weighed_le w p q e.1 in
     omega arith
 
-pub caps_smaller : (p q : List ℕ) (pools : List WeightedCap) → is_within p q ≡ true → list_all (is_within_cap q) pools ≡ true → list_all (is_within_cap p) pools ≡ true
+pub caps_smaller : (p q : List ℕ) (pools : List WeightedCap) → is_within p q ≡ true → list_all (is_within_cap q) pools ≡ true
+    → list_all (is_within_cap p) pools ≡ true
 caps_smaller p q [] h k = refl
 caps_smaller p q (pool ∷ pools) h k =
     let e = and_parts (is_within_cap q pool) (list_all (is_within_cap q) pools) k in
@@ -92,7 +94,8 @@ weighed_left (k ∷ w) (m ∷ n) (x ∷ q) h e =
 -- ---------- the packages of several bids together ----------
 
 module _ (f g h : ℕ → ℕ) (each : (i : ℕ) → f i ≡ g i + h i) where
-  weighed_sum : (w : List ℕ) (a n : ℕ) → weighed w (map f (range_with_len a n)) ≡ weighed w (map g (range_with_len a n)) + weighed w (map h (range_with_len a n))
+  weighed_sum : (w : List ℕ) (a n : ℕ) → weighed w (map f (range_with_len a n))
+      ≡ weighed w (map g (range_with_len a n)) + weighed w (map h (range_with_len a n))
   weighed_sum [] a n = refl
   weighed_sum (k ∷ w) a zero = refl
   weighed_sum (k ∷ w) a (suc n) =
@@ -105,7 +108,8 @@ weighed_zero [] a n = refl
 weighed_zero (k ∷ w) a zero = refl
 weighed_zero (k ∷ w) a (suc n) = let r = weighed_zero w (a + 1) n in omega arith
 
-weighed_indexed : (w q : List ℕ) (f : ℕ → ℕ) (a n : ℕ) → length q ≡ n → ((i m : ℕ) → m ≡ a + i → f m ≡ slice_index q i) → weighed w (map f (range_with_len a n)) ≡ weighed w q
+weighed_indexed : (w q : List ℕ) (f : ℕ → ℕ) (a n : ℕ) → length q ≡ n → ((i m : ℕ) → m ≡ a + i → f m ≡ slice_index q i)
+    → weighed w (map f (range_with_len a n)) ≡ weighed w q
 weighed_indexed [] q f a n e h = refl
 weighed_indexed (k ∷ w) [] f a zero e h = refl
 weighed_indexed (k ∷ w) [] f a (suc n) e h = absurd (omega arith)
@@ -117,15 +121,19 @@ weighed_indexed (k ∷ w) (x ∷ q) f a (suc n) e h =
 
 module _ (lots : Lots) (book : Book) (sized : IsSized lots book) where
   one_weighed : (w : List ℕ) (o : Option Bid) → ((x : Bid) → o ≡ Some x → length x.package ≡ length lots.supply)
-      → weighed w (map (λ category. option_map_or (λ (x : Bid). slice_index x.package category) o 0) (range_with_len 0 (length lots.supply))) ≡ option_map_or (λ (x : Bid). weighed w x.package) o 0
+      → weighed w (map (λ category. option_map_or (λ (x : Bid). slice_index x.package category) o 0)
+      (range_with_len 0 (length lots.supply))) ≡ option_map_or (λ (x : Bid). weighed w x.package) o 0
   one_weighed w None s = weighed_zero w 0 (length lots.supply)
-  one_weighed w (Some x) s = weighed_indexed w x.package (λ category. slice_index x.package category) 0 (length lots.supply) (s x refl) (λ i m t. ap (λ (k : ℕ). slice_index x.package k) (let u : m ≡ i = omega arith in u))
+  one_weighed w (Some x) s = weighed_indexed w x.package (λ category. slice_index x.package category) 0 (length lots.supply) (s x refl)
+      (λ i m t. ap (λ (k : ℕ). slice_index x.package k) (let u : m ≡ i = omega arith in u))
 
   -- the weighed sum of packages is the sum of the weighed packages
   pub weighed_loads : (w : List ℕ) (a : List Choice) → weighed w (loads lots book a) ≡ sum_by (weighed_choice w book) a
   weighed_loads w [] = weighed_zero w 0 (length lots.supply)
   weighed_loads w (c ∷ a) =
-      weighed_sum (λ category. sum_by (quantity_of book category) (c ∷ a)) (λ category. quantity_of book category c) (λ category. sum_by (quantity_of book category) a) (λ category. sum_by-cons (quantity_of book category) c a) w 0 (length lots.supply)
+      weighed_sum (λ category. sum_by (quantity_of book category) (c ∷ a)) (λ category. quantity_of book category c)
+      (λ category. sum_by (quantity_of book category) a) (λ category. sum_by-cons (quantity_of book category) c a) w 0
+      (length lots.supply)
       ∙ ap (λ (n : ℕ). n + weighed w (loads lots book a)) (one_weighed w (bid_of book c) (λ x e. sized c.bidder c.bid x e))
       ∙ ap (λ (n : ℕ). weighed_choice w book c + n) (weighed_loads w a)
       ∙ sym (sum_by-cons (weighed_choice w book) c a)

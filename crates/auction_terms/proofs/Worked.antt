@@ -31,14 +31,21 @@ record TextsOfLaterVersions : Type 0 where
   })
   five_fields : rules_of_records (records_of (codes "rules,2,1,,,\ncategory,A,2,10,1\n")) ≡ Err (fault.FieldCount 2)
   version_4 : rules_of_records (records_of (codes "rules,4,1,,,\n")) ≡ Err (fault.Header 1)
-  pooled : rules_of_records (records_of (codes "rules,3,1,,,\ncategory,A,2,10,1,0\ncategory,B,1,5,1,0\npool,Low,2,,,\nmember,Low,B,7,,\nbidder,Alpha,9,2,,\n")) ≡ Ok (record {
-    step = 1;
-    categories = record { name = codes "A"; supply = 2; reserve = 10; points = 1; value = 0 } ∷ record { name = codes "B"; supply = 1; reserve = 5; points = 1; value = 0 } ∷ [];
-    bidders = record { name = codes "Alpha"; eligibility = 9; sessions = 2 } ∷ [];
-    pools = record { name = codes "Low"; cap = 2; weights = 0 ∷ 7 ∷ [] } ∷ [];
-  })
-  unknown_pool : rules_of_records (records_of (codes "rules,3,1,,,\ncategory,A,2,10,1,0\ncategory,B,1,5,1,0\npool,Low,2,,,\nmember,High,A,1,,\n")) ≡ Err (fault.NameUnknown 5)
-  member_twice : rules_of_records (records_of (codes "rules,3,1,,,\ncategory,A,2,10,1,0\ncategory,B,1,5,1,0\npool,Low,2,,,\nmember,Low,A,1,,\nmember,Low,A,1,,\n")) ≡ Err (fault.NameRepeated 6)
+  pooled : rules_of_records
+      (records_of (codes "rules,3,1,,,\ncategory,A,2,10,1,0\ncategory,B,1,5,1,0\npool,Low,2,,,\nmember,Low,B,7,,\nbidder,Alpha,9,2,,\n"))
+      ≡ Ok (record {
+        step = 1;
+        categories = record { name = codes "A"; supply = 2; reserve = 10; points = 1; value = 0 } ∷ record
+            { name = codes "B"; supply = 1; reserve = 5; points = 1; value = 0 } ∷ [];
+        bidders = record { name = codes "Alpha"; eligibility = 9; sessions = 2 } ∷ [];
+        pools = record { name = codes "Low"; cap = 2; weights = 0 ∷ 7 ∷ [] } ∷ [];
+      })
+  unknown_pool : rules_of_records
+      (records_of (codes "rules,3,1,,,\ncategory,A,2,10,1,0\ncategory,B,1,5,1,0\npool,Low,2,,,\nmember,High,A,1,,\n"))
+      ≡ Err (fault.NameUnknown 5)
+  member_twice : rules_of_records
+      (records_of (codes "rules,3,1,,,\ncategory,A,2,10,1,0\ncategory,B,1,5,1,0\npool,Low,2,,,\nmember,Low,A,1,,\nmember,Low,A,1,,\n"))
+      ≡ Err (fault.NameRepeated 6)
   weightless : rules_of_records (records_of (codes "rules,3,1,,,\ncategory,A,2,10,1,0\npool,Low,2,,,\nmember,Low,A,0,,\n")) ≡ Err (fault.NumberRange 4)
   pool_in_version_2 : rules_of_records (records_of (codes "rules,2,1,,,\ncategory,A,2,10,1,0\ncategory,B,1,5,1,0\npool,Low,2,,,\n")) ≡ Err (fault.Kind 4)
 

@@ -20,7 +20,8 @@ pub record IsOfItem {R F : Type 0} (faults_of : ℕ → List R → R → List F)
 abbrev pub StaysFaultless : {R F : Type 0} → (ℕ → List R → R → List F) → Type 0
 StaysFaultless {R} {F} faults_of = (m n : ℕ) (before : List R) (item : R) → m ≤ n → faults_of n before item ≡ [] → faults_of m before item ≡ []
 
--- each fault of a list is an item's, and each fault of an item is one of the list; the accepted ones have none; and with one more item after these the list has just that item's
+-- each fault of a list is an item's, and each fault of an item is one of the list; the accepted ones have none; and with one more item
+-- after these the list has just that item's
 pub record AreOfItems {R F : Type 0} (faults_of : ℕ → List R → R → List F) : Type 0 where
   pub each : (n : ℕ) (items : List R) (fault : F) → Contains (all_faults faults_of n [] items) fault ↔ IsOfItem faults_of n items fault
   pub none : (n : ℕ) (items : List R) → all_faults faults_of n [] (accepted_of faults_of n [] items) ≡ []

@@ -18,9 +18,11 @@ lacking v entries = one_failed 0 (end_checks (length entries + 1) (entries_of v 
 abbrev pub accepted_entries : Version → List Record → List Record
 accepted_entries v entries = accepted_of (fault_of_entry v) 2 [] entries
 
--- each fault is the header's, or a record's by the accepted ones before it, or what all lack. Of the accepted ones alone the header's is left, and what these lack; and with one more record after them that has a fault just the header's and that one
+-- each fault is the header's, or a record's by the accepted ones before it, or what all lack. Of the accepted ones alone the header's is
+-- left, and what these lack; and with one more record after them that has a fault just the header's and that one
 pub record RulesFaultsAreOfRecords (v : Version) (header : Record) (entries : List Record) : Type 0 where
-  pub each : (f : Found RulesFault) → Contains (all_rules_faults (header ∷ entries)) f → Contains (fault_of_header v header) f ⊎ (IsOfItem (fault_of_entry v) 2 entries f ⊎ Contains (lacking v entries) f)
+  pub each : (f : Found RulesFault) → Contains (all_rules_faults (header ∷ entries)) f
+      → Contains (fault_of_header v header) f ⊎ (IsOfItem (fault_of_entry v) 2 entries f ⊎ Contains (lacking v entries) f)
   pub none : all_rules_faults (header ∷ accepted_entries v entries) ≡ or_else (fault_of_header v header) (lacking v (accepted_entries v entries))
   pub alone : (r : Record) →
       let accepted = accepted_entries v entries in

@@ -41,7 +41,8 @@ accepted_with (fault ∷ more) accepted item = accepted
 -- the faults of these items, numbered from n on, each given the accepted ones before it
 unfoldable pub all_faults : {R F : Type 0} → (ℕ → List R → R → List F) → ℕ → List R → List R → List F
 all_faults faults_of n accepted [] = []
-all_faults faults_of n accepted (item ∷ more) = faults_of n accepted item ++ all_faults faults_of (n + 1) (accepted_with (faults_of n accepted item) accepted item) more
+all_faults faults_of n accepted (item ∷ more) =
+    faults_of n accepted item ++ all_faults faults_of (n + 1) (accepted_with (faults_of n accepted item) accepted item) more
 
 -- these are the faults after what is reported: there is none where there is a value, and else the one that is reported comes first
 abbrev pub AreFaultsOf : {A F : Type 0} → List (Found F) → Result A F → Type 0

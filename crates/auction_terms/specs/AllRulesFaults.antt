@@ -1,4 +1,5 @@
--- All faults of a text of rules. Of a record the first one is reported, at its field, and a record with a fault doesn't count for later ones. A header without a version ends the text; what the whole text lacks is reported where nothing else is wrong.
+-- All faults of a text of rules. Of a record the first one is reported, at its field, and a record with a fault doesn't count for later
+-- ones. A header without a version ends the text; what the whole text lacks is reported where nothing else is wrong.
 use Rattle.std.specs.Prelude.{◌+◌, ◌++◌, ℕ, List, [], ◌∷◌, Option, length, option_map, option_to_list}
 use Rattle.std.specs.Option.{option_map_or}
 use Rattle.auction_terms.specs.AllFaults.{all_faults, found, one_failed, or_else}

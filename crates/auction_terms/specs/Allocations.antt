@@ -1,6 +1,7 @@
 -- Allocations of a book, for a group of bidders left out. They know nothing of columns or of presolve.
 -- A book is the list of its forms: the form of bidder 1, of bidder 2, and so on, where a bidder without a form has none. A form is the list of its bids.
-use Rattle.std.specs.Prelude.{◌≡◌, ℕ, zero, suc, ◌+◌, ◌≤◌, Bool, true, not, ◌&&◌, ◌==◌, List, [], Option, None, Some, length, map, slice_get, slice_index, slice_index_or, sum_by, count_by, All, is_some}
+use Rattle.std.specs.Prelude.{◌≡◌, ℕ, zero, suc, ◌+◌, ◌≤◌, Bool, true, not, ◌&&◌, ◌==◌, List, [], Option, None, Some}
+use Rattle.std.specs.Prelude.{length, map, slice_get, slice_index, slice_index_or, sum_by, count_by, All, is_some}
 use Rattle.std.specs.Option.{option_map_or}
 use Rattle.std.specs.List.{range_with_len}
 use Rattle.auction_terms.specs.declared.bids.Bid.{Bid}
@@ -57,7 +58,8 @@ IsSized lots book = (b j : ℕ) (x : Bid) → bid_at (form_of book b) j ≡ Some
 
 -- what the packages together load a pool is the sum of their loads
 abbrev pub LoadsAddUp : Type 0
-LoadsAddUp = (lots : Lots) (book : Book) (a : List Choice) → IsSized lots book → (weights : List ℕ) → weighed weights (loads lots book a) ≡ sum_by (weighed_choice weights book) a
+LoadsAddUp = (lots : Lots) (book : Book) (a : List Choice) → IsSized lots book → (weights : List ℕ)
+    → weighed weights (loads lots book a) ≡ sum_by (weighed_choice weights book) a
 
 -- the total is what all lots are worth, and the sum of the nets: the amounts, less what the packages are worth
 abbrev pub TotalsAreNets : Type 0

@@ -1,5 +1,6 @@
 -- Number tokens: an optional sign, digits with an optional point, an optional exponent.
-use Rattle.std.specs.Prelude.{ℕ, ◌+◌, ◌*◌, ◌/◌, ◌%◌, ◌^◌, Bool, not, ◌||◌, ◌&&◌, nat_lt, List, ◌++◌, length, drop, ◌==◌, if◌then◌else◌, slice_index, ℤ, pos, neg_ℤ, Result, Ok, Err}
+use Rattle.std.specs.Prelude.{ℕ, ◌+◌, ◌*◌, ◌/◌, ◌%◌, ◌^◌, Bool, not, ◌||◌, ◌&&◌, nat_lt, List, ◌++◌, length, drop, ◌==◌}
+use Rattle.std.specs.Prelude.{if◌then◌else◌, slice_index, ℤ, pos, neg_ℤ, Result, Ok, Err}
 use Rattle.std.specs.List.{before_first, after_first, list_all, list_any}
 use Rattle.std.specs.Char.{is_ascii_digit}
 use Rattle.std.specs.Str.Parse.{digits_value}

@@ -18,4 +18,5 @@ is_kept lots form x = (fits lots x.package && int_le (pos 0) (net lots x)) && no
 
 -- a bid is kept by comparing it with the bids of smaller size alone
 abbrev pub SmallerSizesSuffice : Type 0
-SmallerSizesSuffice = (lots : Lots) (form : List Bid) (x : Bid) → list_any (λ y. nat_lt (size y.package) (size x.package) && dominates lots y x) form ≡ list_any (λ y. dominates lots y x) form
+SmallerSizesSuffice = (lots : Lots) (form : List Bid) (x : Bid)
+    → list_any (λ y. nat_lt (size y.package) (size x.package) && dominates lots y x) form ≡ list_any (λ y. dominates lots y x) form

@@ -19,7 +19,8 @@ pub record KeptInstead (lots : Lots) (form : List Bid) (x : Bid) : Type 0 where
 
 -- every bid that fits has a net below 0, or is kept, or a kept bid of its form is at least as good
 abbrev pub KeepsTheBest : Type 0
-KeepsTheBest = (lots : Lots) (form : List Bid) (j : ℕ) (x : Bid) → bid_at form j ≡ Some x → fits lots x.package ≡ true → (net lots x <ℤ pos 0) ⊎ KeptInstead lots form x
+KeepsTheBest = (lots : Lots) (form : List Bid) (j : ℕ) (x : Bid) → bid_at form j ≡ Some x → fits lots x.package ≡ true
+    → (net lots x <ℤ pos 0) ⊎ KeptInstead lots form x
 
 -- a bid of the book, with its bidder and its number in the bidder's form
 pub record Offer : Type 0 where
@@ -52,4 +53,5 @@ pub record KeptAllocation (lots : Lots) (book : Book) (group : ℕ → Bool) (a 
 
 -- every feasible allocation is matched by one of kept bids
 abbrev pub KeptAreEnough : Type 0
-KeptAreEnough = (lots : Lots) (book : Book) (group : ℕ → Bool) (a : List Choice) → IsSized lots book → IsFeasible lots book group a → KeptAllocation lots book group a
+KeptAreEnough = (lots : Lots) (book : Book) (group : ℕ → Bool) (a : List Choice) → IsSized lots book → IsFeasible lots book group a
+    → KeptAllocation lots book group a

@@ -5,7 +5,9 @@ use Rattle.auction_terms.specs.declared.bids.Bid.{Bid}
 use Rattle.auction_terms.specs.Packages.{Lots, WeightedCap}
 use Rattle.auction_terms.specs.Allocations.{Book}
 use Rattle.auction_terms.specs.Keeping.{Offer, kept_of}
-use Rattle.auction_terms.specs.declared.limits.TheConstants.{GREATEST_AMOUNT, GREATEST_QUANTITY, GREATEST_VALUE, GREATEST_WEIGHT, MOST_BIDDERS, MOST_BIDS, MOST_CATEGORIES, MOST_POOLS}
+use Rattle.auction_terms.specs.declared.limits.TheConstants.{GREATEST_AMOUNT, GREATEST_QUANTITY, GREATEST_VALUE}
+use Rattle.auction_terms.specs.declared.limits.TheConstants.{GREATEST_WEIGHT, MOST_BIDDERS, MOST_BIDS, MOST_CATEGORIES}
+use Rattle.auction_terms.specs.declared.limits.TheConstants.{MOST_POOLS}
 
 -- a cap and its weights within the limits; the weight of a category that is no member is 0
 pub record IsWeightedCap (pool : WeightedCap) : Type 0 where

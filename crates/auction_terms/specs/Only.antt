@@ -1,5 +1,6 @@
 -- Allocations whose total no other one reaches, and bids that do as well in a winner's place.
-use Rattle.std.specs.Prelude.{◌≡◌, ℕ, ◌≤◌, Bool, true, not, ◌&&◌, ◌==◌, List, Option, None, Some, All, IsPermutation, filter, find, flat_map, if◌then◌else◌, length, map}
+use Rattle.std.specs.Prelude.{◌≡◌, ℕ, ◌≤◌, Bool, true, not, ◌&&◌, ◌==◌, List, Option, None, Some, All, IsPermutation}
+use Rattle.std.specs.Prelude.{filter, find, flat_map, if◌then◌else◌, length, map}
 use Rattle.std.specs.List.{range_with_len}
 use Rattle.auction_terms.specs.declared.choices.Choice.{Choice}
 use Rattle.auction_terms.specs.Packages.{Lots, fits}
@@ -13,7 +14,8 @@ pub record IsOnly (lots : Lots) (book : Book) (group : ℕ → Bool) (a : List C
 
 -- the other bids of a winner's form
 abbrev pub other_bids : Book → Choice → List Choice
-other_bids book c = map (λ number. record { bidder = c.bidder; bid = number }) (filter (λ number. not (number == c.bid)) (range_with_len 1 (length (form_of book c.bidder))))
+other_bids book c = map (λ number. record { bidder = c.bidder; bid = number })
+    (filter (λ number. not (number == c.bid)) (range_with_len 1 (length (form_of book c.bidder))))
 
 -- the allocation with a bid in the place of its bidder's
 abbrev pub with_bid : Choice → List Choice → List Choice
@@ -30,7 +32,8 @@ first_rival lots book a = find (does_as_well lots book a) (flat_map (other_bids 
 -- an allocation that is the only one among those of kept bids is the only one of all, where no bid does as well in a winner's place
 abbrev pub OnlyAmongAll : Type 0
 OnlyAmongAll = (lots : Lots) (book : Book) (group : ℕ → Bool) (a : List Choice) → IsSized lots book → IsFeasible lots book group a
-    → ((other : List Choice) → IsFeasible lots book group other → All (λ c. is_kept_choice lots book group c ≡ true) other → total lots book a ≤ total lots book other → IsPermutation a other)
+    → ((other : List Choice) → IsFeasible lots book group other → All (λ c. is_kept_choice lots book group c ≡ true) other → total lots book
+    a ≤ total lots book other → IsPermutation a other)
     → first_rival lots book a ≡ None → IsOnly lots book group a
 
 -- with the bid in its bidder's place, another feasible allocation has the same total
@@ -40,4 +43,5 @@ pub record DoesAsWell (lots : Lots) (book : Book) (group : ℕ → Bool) (a : Li
   pub differs : ¬ IsPermutation a (with_bid c a)
 
 abbrev pub RivalsDoAsWell : Type 0
-RivalsDoAsWell = (lots : Lots) (book : Book) (group : ℕ → Bool) (a : List Choice) (c : Choice) → IsFeasible lots book group a → first_rival lots book a ≡ Some c → DoesAsWell lots book group a c
+RivalsDoAsWell = (lots : Lots) (book : Book) (group : ℕ → Bool) (a : List Choice) (c : Choice) → IsFeasible lots book group a
+    → first_rival lots book a ≡ Some c → DoesAsWell lots book group a c

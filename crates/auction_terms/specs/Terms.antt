@@ -4,7 +4,9 @@ use Rattle.auction_terms.specs.Packages.{Lots}
 use Rattle.auction_terms.specs.declared.rules.Category.{Category}
 use Rattle.auction_terms.specs.declared.rules.Bidder.{Bidder}
 use Rattle.auction_terms.specs.declared.rules.Pool.{Pool}
-use Rattle.auction_terms.specs.declared.limits.TheConstants.{GREATEST_AMOUNT, GREATEST_POINTS, GREATEST_QUANTITY, GREATEST_VALUE, GREATEST_WEIGHT, MOST_BIDDERS, MOST_CATEGORIES, MOST_POOLS, MOST_SESSIONS}
+use Rattle.auction_terms.specs.declared.limits.TheConstants.{GREATEST_AMOUNT, GREATEST_POINTS, GREATEST_QUANTITY}
+use Rattle.auction_terms.specs.declared.limits.TheConstants.{GREATEST_VALUE, GREATEST_WEIGHT, MOST_BIDDERS, MOST_CATEGORIES}
+use Rattle.auction_terms.specs.declared.limits.TheConstants.{MOST_POOLS, MOST_SESSIONS}
 
 pub record Terms : Type 0 where
   pub step : ℕ

@@ -18,7 +18,10 @@ ghost use Rattle.auction_terms.specs.Records.{Record};
 ghost use Rattle.auction_terms.specs.RulesText.{entry_fault, rules_of_records, version_of};
 ghost use Rattle.auction_terms.specs.declared.record_kinds.Version.{Version};
 ghost use Rattle.auction_terms.specs.declared.rules.Bidder.{Bidder};
-ghost use Rattle.auction_terms.specs.declared.limits.TheConstants.{GREATEST_AMOUNT, GREATEST_POINTS, GREATEST_QUANTITY, GREATEST_VALUE, GREATEST_WEIGHT, MOST_BIDDERS, MOST_BIDS, MOST_CATEGORIES, MOST_FAULTS, MOST_GROUPS, MOST_POOLS, MOST_SESSIONS, MOST_WORKERS, TEXT_LIMIT};
+ghost use Rattle.auction_terms.specs.declared.limits.TheConstants.{GREATEST_AMOUNT, GREATEST_POINTS, GREATEST_QUANTITY};
+ghost use Rattle.auction_terms.specs.declared.limits.TheConstants.{GREATEST_VALUE, GREATEST_WEIGHT, MOST_BIDDERS, MOST_BIDS};
+ghost use Rattle.auction_terms.specs.declared.limits.TheConstants.{MOST_CATEGORIES, MOST_FAULTS, MOST_GROUPS, MOST_POOLS};
+ghost use Rattle.auction_terms.specs.declared.limits.TheConstants.{MOST_SESSIONS, MOST_WORKERS, TEXT_LIMIT};
 
 /// The records after the header of rules have the fault of the first of them with a fault.
 pub fn records_of_rules_tell_their_first_fault()

@@ -3,7 +3,8 @@
 ghost use Rattle.std.specs.Prelude.{◌≡◌, ◌≤◌, ◌<◌, ◌+◌, ◌^◌, ◌++◌, ◌&&◌, ◌||◌, not, true, nat_lt, length, drop, if◌then◌else◌, IfOk, ◌==◌, slice_index, ℕ};
 ghost use Rattle.std.specs.List.{position_or_len, list_all, list_any, before_first};
 ghost use Rattle.std.specs.Str.Parse.{digits_value};
-ghost use Rattle.auction_terms.specs.Decimals.{is_exponent_mark, is_minus, without_sign, fraction_digits, exponent_text, exponent_digits, is_number_token, is_too_long, mantissa};
+ghost use Rattle.auction_terms.specs.Decimals.{is_exponent_mark, is_minus, without_sign, fraction_digits, exponent_text};
+ghost use Rattle.auction_terms.specs.Decimals.{exponent_digits, is_number_token, is_too_long, mantissa};
 ghost use Rattle.auction_terms.specs.Tokens.{token_of};
 ghost use Rattle.std.specs.Char.{is_ascii_digit};
 

@@ -1,6 +1,7 @@
 -- The history of a round: how a call is answered, which histories are legal, which form is standing, and what one caller made of it.
 -- A form is any value here. The entries of a `Book` hold shared forms, and `entry_value` takes the form out of the share.
-use Rattle.std.specs.Prelude.{ℕ, ◌+◌, ◌≡◌, ◌≢◌, ◌==◌, ◌&&◌, ◌∷◌, ◌++◌, [], List, Bool, true, false, not, Option, Some, None, if◌then◌else◌, nat_le, nat_eq, length, map, filter, slice_get, take, ⊤}
+use Rattle.std.specs.Prelude.{ℕ, ◌+◌, ◌≡◌, ◌≢◌, ◌==◌, ◌&&◌, ◌∷◌, ◌++◌, [], List, Bool, true, false, not, Option, Some, None}
+use Rattle.std.specs.Prelude.{if◌then◌else◌, nat_le, nat_eq, length, map, filter, slice_get, take, ⊤}
 use Rattle.std.specs.List.{last_or, list_any}
 use Rattle.std.specs.Option.{option_and_then, option_map, option_eq}
 use Rattle.std.specs.Arc.{arc_value}
@@ -80,12 +81,14 @@ module _ {F : Type 0} where
   -- the answer to a call after a history
   unfoldable pub reply_due : List (Entry F) → Caller → Call F → Reply F
   reply_due history caller call =
-      if nat_le call_limit (length (entries_beside caller history)) then CallLimit else answer_to (entries_beside caller history) (entries_beside Chair history) call
+      if nat_le call_limit (length (entries_beside caller history)) then CallLimit else answer_to (entries_beside caller history)
+      (entries_beside Chair history) call
 
   -- the history after a call: it is recorded with its answer, except at the limit
   unfoldable pub after : List (Entry F) → Caller → Call F → List (Entry F)
   after history caller call =
-      if nat_le call_limit (length (entries_beside caller history)) then history else history ++ record { caller = caller; call = call; reply = reply_due history caller call } ∷ []
+      if nat_le call_limit (length (entries_beside caller history)) then history else history ++ record
+      { caller = caller; call = call; reply = reply_due history caller call } ∷ []
 
   -- the history of a list of calls
   abbrev pub run_from : List (Entry F) → List (Caller × Call F) → List (Entry F)

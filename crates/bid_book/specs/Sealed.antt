@@ -17,4 +17,5 @@ calls_concerning bidder calls = filter (λ c. concerns bidder c.0) calls
 
 -- two lists of calls that agree on a bidder's and the chair's calls give each session of the bidder the same replies
 abbrev pub IsSealed : Type 0
-IsSealed = (bidder session : ℕ) (xs ys : List (Caller × Call Offers)) → calls_concerning bidder xs ≡ calls_concerning bidder ys → own_pairs (run xs) (Session bidder session) ≡ own_pairs (run ys) (Session bidder session)
+IsSealed = (bidder session : ℕ) (xs ys : List (Caller × Call Offers)) → calls_concerning bidder xs ≡ calls_concerning bidder ys
+    → own_pairs (run xs) (Session bidder session) ≡ own_pairs (run ys) (Session bidder session)

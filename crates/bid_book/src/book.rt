@@ -1,7 +1,8 @@
 //! The book.
 ghost use Rattle.std.specs.Prelude.{◌≡◌, ◌≢◌, ◌∷◌, ◌++◌, map, [], not, IfOk, OnOk, IfErr, OnErr, IsOk};
 ghost use Rattle.std.specs.Option.{option_map, option_copied};
-ghost use Rattle.bid_book.specs.History.{reply_due, after, MayMake, call_value, reply_value, entry_value, standing_value, is_closed, standing_of, IsLegalHistory};
+ghost use Rattle.bid_book.specs.History.{reply_due, after, MayMake, call_value, reply_value, entry_value, standing_value};
+ghost use Rattle.bid_book.specs.History.{is_closed, standing_of, IsLegalHistory};
 
 use crate::call::Call;
 use crate::caller::Caller;

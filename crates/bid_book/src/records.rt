@@ -1,8 +1,11 @@
 //! The records of a book: its history, and what the answers need of it.
-ghost use Rattle.std.specs.Prelude.{ℕ, ◌≡◌, ◌≢◌, ◌+◌, ◌<◌, ◌≤◌, ◌==◌, ◌∷◌, ◌++◌, [], ◌↔◌, map, not, nat_eq, unwrap_or, if◌then◌else◌, length, vec_len, vec_capacity, true, IfOk, OnOk, IsSome, IsTrue, IsErr, None};
+ghost use Rattle.std.specs.Prelude.{ℕ, ◌≡◌, ◌≢◌, ◌+◌, ◌<◌, ◌≤◌, ◌==◌, ◌∷◌, ◌++◌, [], ◌↔◌, map, not, nat_eq, unwrap_or};
+ghost use Rattle.std.specs.Prelude.{if◌then◌else◌, length, vec_len, vec_capacity, true, IfOk, OnOk, IsSome, IsTrue, IsErr};
+ghost use Rattle.std.specs.Prelude.{None};
 ghost use Rattle.std.specs.Option.{option_map, option_copied};
 ghost use Rattle.indexmap.specs.IndexMap.{get, spare};
-ghost use Rattle.bid_book.specs.History.{call_value, reply_value, entry_value, standing_value, is_change_reply, left_standing, entries_beside, answer_to, call_limit, changes, standing_after};
+ghost use Rattle.bid_book.specs.History.{call_value, reply_value, entry_value, standing_value, is_change_reply};
+ghost use Rattle.bid_book.specs.History.{left_standing, entries_beside, answer_to, call_limit, changes, standing_after};
 ghost use Rattle.bid_book.specs.inside.Records.{counts_at, standing_at, counts_after, history_of, AreOfBook, change_answer};
 
 use crate::call::Call;

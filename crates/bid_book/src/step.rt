@@ -2,7 +2,9 @@
 ghost use Rattle.std.specs.Prelude.{ℕ, ◌≡◌, ◌+◌, ◌<◌, ◌≤◌, ◌∷◌, ◌++◌, [], map, nat_eq, vec_len, vec_capacity, IfOk, OnOk, IfErr, OnErr, IsOk, IsSome};
 ghost use Rattle.std.specs.Option.{option_map};
 ghost use Rattle.indexmap.specs.IndexMap.{get, spare};
-ghost use Rattle.bid_book.specs.History.{call_value, reply_value, standing_value, entry_value, left_standing, entries_beside, answer_to, reply_due, after, call_limit, IsRightAfter, MayMake, is_closed};
+ghost use Rattle.bid_book.specs.History.{call_value, reply_value, standing_value, entry_value, left_standing};
+ghost use Rattle.bid_book.specs.History.{entries_beside, answer_to, reply_due, after, call_limit, IsRightAfter, MayMake};
+ghost use Rattle.bid_book.specs.History.{is_closed};
 ghost use Rattle.bid_book.specs.inside.Records.{counts_at, counts_after, standing_at, history_of, AreOfBook};
 
 use crate::call::Call;

@@ -1,5 +1,6 @@
 -- What a settled history leaves standing.
-use Rattle.std.proofs.Common.{◌≡◌, ℕ, zero, suc, ◌≤◌, List, [], ◌∷◌, Bool, true, false, length, refl, sym, ap, ◌∙◌, subst, arith, IsTrue, not, ◌==◌, ◌&&◌, ◌%◌, nat_le, inl, inr}
+use Rattle.std.proofs.Common.{◌≡◌, ℕ, zero, suc, ◌≤◌, List, [], ◌∷◌, Bool, true, false, length, refl, sym, ap, ◌∙◌, subst}
+use Rattle.std.proofs.Common.{arith, IsTrue, not, ◌==◌, ◌&&◌, ◌%◌, nat_le, inl, inr}
 use Rattle.std.specs.Prelude.{All, slice_index_or, Option, Some, None, IfSome}
 use Rattle.std.specs.List.{last_or, list_all, range_with_len, AllByRecursion}
 use Rattle.std.specs.Option.{option_map, option_and_then}
@@ -38,7 +39,8 @@ left_standing-meets : (t : Terms) (call : Call Offers) (reply : Reply Offers) �
 left_standing-meets t (Submit form over) (Accepted n) meets = meets
 left_standing-meets t call reply meets = tt
 
-last_left : (t : Terms) (o : Option (Entry Offers)) → IfSome o (IsEntryOf t) → IfSome (option_and_then (λ (e : Entry Offers). left_standing e.call e.reply) o) (λ s. Meets t s.form)
+last_left : (t : Terms) (o : Option (Entry Offers)) → IfSome o (IsEntryOf t)
+    → IfSome (option_and_then (λ (e : Entry Offers). left_standing e.call e.reply) o) (λ s. Meets t s.form)
 last_left t None entry = tt
 last_left t (Some e) entry = left_standing-meets t e.call e.reply entry.form
 
@@ -62,7 +64,8 @@ not_beside t b (Session c s) known other = by (b == c) refl
         let same : b ≡ c = eqb-true b c e in
         absurd (other (subst (λ n. 1 ≤ n) (sym same) known.bidder_least) (subst (λ n. n ≤ length t.bidders) (sym same) known.bidder_most))
 
-entries_beside-other : (t : Terms) (h : List (Entry Offers)) (b : ℕ) → All (IsEntryOf t) h → ((1 ≤ b) → (b ≤ length t.bidders) → ⊥) → entries_beside (Session b 0) h ≡ []
+entries_beside-other : (t : Terms) (h : List (Entry Offers)) (b : ℕ) → All (IsEntryOf t) h → ((1 ≤ b) → (b ≤ length t.bidders) → ⊥)
+    → entries_beside (Session b 0) h ≡ []
 entries_beside-other t [] b entries other = refl
 entries_beside-other t (e ∷ h) b entries other =
     rw (not_beside t b e.caller (entries 0 e (omega arith)).caller other) (entries_beside-other t h b (λ k d l. entries (suc k) d (omega arith)) other)
@@ -80,7 +83,11 @@ form_of-book_of c entries (suc b) =
       | inl l ↦ sym (get_or-map-range_with_len (λ bidder. bids_in (form_standing c.history bidder)) 1 (length c.rules.bidders) b (suc b) [] l (omega arith))
       | inr l ↦
           ap (λ s. bids_in (option_map (λ (s : Standing Offers). s.form) s)) (standing_of-other c.rules c.history (suc b) entries (λ least most. omega arith))
-          ∙ sym (get_or_past (book_of c) b [] (omega (arith, length-map-range_with_len (λ bidder. bids_in (form_standing c.history bidder)) 1 (length c.rules.bidders))))
+          ∙ sym (get_or_past (book_of c) b [] (omega (
+            arith,
+            length-map-range_with_len (λ bidder. bids_in
+                (form_standing c.history bidder)) 1 (length c.rules.bidders),
+          )))
     ]
 
 -- a bid that rules allow is within the limits
@@ -101,19 +108,24 @@ IsBid-under t eligibility bid allowed =
     let one = and_parts sized priced two in
     record {
       sized = eqb-true _ _ one.0 ∙ sym (length-map t.categories (λ (c : Category). c.supply));
-      quantities = recursion_from_All (λ n. n ≤ GREATEST_QUANTITY) bid.package (All-weaker (λ n. nat_le n GREATEST_QUANTITY ≡ true) (λ n. n ≤ GREATEST_QUANTITY) (λ n small. leb-true n GREATEST_QUANTITY small) bid.package (AllPass-from_list_all (λ n. nat_le n GREATEST_QUANTITY) bid.package three.1));
+      quantities = recursion_from_All (λ n. n ≤ GREATEST_QUANTITY) bid.package
+          (All-weaker (λ n. nat_le n GREATEST_QUANTITY ≡ true) (λ n. n ≤ GREATEST_QUANTITY) (λ n small. leb-true n GREATEST_QUANTITY small)
+          bid.package (AllPass-from_list_all (λ n. nat_le n GREATEST_QUANTITY) bid.package three.1));
       amount = leb-true _ _ (and_parts (nat_le 1 bid.amount) (nat_le bid.amount GREATEST_AMOUNT) one.1).1;
     }
 
-standing-few : (t : Terms) (s : Option (Standing Offers)) → IfSome s (λ s. Meets t s.form) → length (bids_in (option_map (λ (s : Standing Offers). s.form) s)) ≤ MOST_BIDS
+standing-few : (t : Terms) (s : Option (Standing Offers)) → IfSome s (λ s. Meets t s.form)
+    → length (bids_in (option_map (λ (s : Standing Offers). s.form) s)) ≤ MOST_BIDS
 standing-few t None meets = omega arith
 standing-few t (Some s) meets = meets.few
 
-standing-each : (t : Terms) (s : Option (Standing Offers)) → IfSome s (λ s. Meets t s.form) → AllByRecursion (IsBid (lots_in t)) (bids_in (option_map (λ (s : Standing Offers). s.form) s))
+standing-each : (t : Terms) (s : Option (Standing Offers)) → IfSome s (λ s. Meets t s.form)
+    → AllByRecursion (IsBid (lots_in t)) (bids_in (option_map (λ (s : Standing Offers). s.form) s))
 standing-each t None meets = tt
 standing-each t (Some s) meets =
     recursion_from_All (IsBid (lots_in t)) s.form.bids
-    (All-weaker (λ bid. IsTrue (is_bid_under t (eligibility_of t s.form.bidder) bid)) (IsBid (lots_in t)) (λ bid allowed. IsBid-under t (eligibility_of t s.form.bidder) bid allowed) s.form.bids meets.each)
+    (All-weaker (λ bid. IsTrue (is_bid_under t (eligibility_of t s.form.bidder) bid)) (IsBid (lots_in t))
+    (λ bid allowed. IsBid-under t (eligibility_of t s.form.bidder) bid allowed) s.form.bids meets.each)
 
 -- the book that a history leaves is within the limits
 pub IsBook-book_of : (c : Closing) → AreTerms c.rules → All (IsEntryOf c.rules) c.history → IsBook (lots_in c.rules) (book_of c)
@@ -124,7 +136,11 @@ IsBook-book_of c terms entries =
     record {
       bidders = omega (arith, length-map-range_with_len form 1 n, terms.limits.bidder_count);
       forms = recursion_from_All (λ bids. length bids ≤ MOST_BIDS) (book_of c)
-          (All-map (λ bids. length bids ≤ MOST_BIDS) form (range_with_len 1 n) (λ k d l. standing-few t (standing_of c.history (slice_index_or (range_with_len 1 n) k d)) (standing_of-meets t c.history entries (slice_index_or (range_with_len 1 n) k d))));
+          (All-map (λ bids. length bids ≤ MOST_BIDS) form (range_with_len 1 n)
+          (λ k d l. standing-few t (standing_of c.history (slice_index_or (range_with_len 1 n) k d))
+          (standing_of-meets t c.history entries (slice_index_or (range_with_len 1 n) k d))));
       bids = recursion_from_All (AllByRecursion (IsBid (lots_in t))) (book_of c)
-          (All-map (AllByRecursion (IsBid (lots_in t))) form (range_with_len 1 n) (λ k d l. standing-each t (standing_of c.history (slice_index_or (range_with_len 1 n) k d)) (standing_of-meets t c.history entries (slice_index_or (range_with_len 1 n) k d))));
+          (All-map (AllByRecursion (IsBid (lots_in t))) form (range_with_len 1 n)
+          (λ k d l. standing-each t (standing_of c.history (slice_index_or (range_with_len 1 n) k d))
+          (standing_of-meets t c.history entries (slice_index_or (range_with_len 1 n) k d))));
     }

@@ -1,5 +1,6 @@
 -- The slots of sessions.
-use Rattle.std.proofs.Common.{◌≡◌, ℕ, ◌+◌, ◌-◌, ◌*◌, ◌/◌, ◌%◌, ◌<◌, ◌≤◌, List, [], ◌∷◌, true, false, ◌==◌, map, length, take, sym, ap, ◌∙◌, subst, arith, IsTrue, inl, inr, replicate}
+use Rattle.std.proofs.Common.{◌≡◌, ℕ, ◌+◌, ◌-◌, ◌*◌, ◌/◌, ◌%◌, ◌<◌, ◌≤◌, List, [], ◌∷◌, true, false, ◌==◌, map, length}
+use Rattle.std.proofs.Common.{take, sym, ap, ◌∙◌, subst, arith, IsTrue, inl, inr, replicate}
 use Rattle.std.specs.Prelude.{All, slice_index, slice_index_or}
 use Rattle.std.proofs.Math.ListN.{set}
 use Rattle.std.proofs.lemmas.Bool.{and_from, and_parts, cases_Bool, cases_eq, cases_lt, eq-eqb, eqb-true}
@@ -69,13 +70,16 @@ pub slots-empty : (t : Terms) (sessions : List SessionOwn) → AreTerms t → Ar
 slots-empty t sessions terms =
     let n = length t.bidders * MOST_SESSIONS in
     let at : (b s : ℕ) → IsSessionOf t b s → slot_at (replicate n empty_slot) b s ≡ empty_slot = λ b s known.
-    get_or-replicate n (slot_of b s) empty_slot empty_slot (slot-within b s (length t.bidders) known.bidder_least known.bidder_most known.session_least (few-sessions t terms b s known)) in
+    get_or-replicate n (slot_of b s) empty_slot empty_slot (slot-within b s (length t.bidders) known.bidder_least known.bidder_most
+    known.session_least (few-sessions t terms b s known)) in
     record {
       size = length-replicate n empty_slot;
       most = few-sessions t terms;
       times_are = λ b s known. ap (λ (o : Slot). o.times) (at b s known);
-      within = λ b s known some. (let none : (slot_at (replicate n empty_slot) b s).times ≡ 0 = ap (λ (o : Slot). o.times) (at b s known) in absurd (omega arith));
-      named = λ b s d known some. (let none : (slot_at (replicate n empty_slot) b s).times ≡ 0 = ap (λ (o : Slot). o.times) (at b s known) in absurd (omega arith));
+      within = λ b s known some. (let none : (slot_at (replicate n empty_slot) b s).times ≡ 0 = ap (λ (o : Slot). o.times) (at b s known) in
+          absurd (omega arith));
+      named = λ b s d known some. (let none : (slot_at (replicate n empty_slot) b s).times ≡ 0 = ap (λ (o : Slot). o.times) (at b s known)
+          in absurd (omega arith));
       known = λ k d small. absurd (omega arith);
       taken = λ k d small. absurd (omega arith);
       found = λ k d small one. absurd (omega arith);
@@ -92,15 +96,18 @@ module _ (t : Terms) (sessions : List SessionOwn) (n : ℕ) (slots : List Slot) 
 
   at-same : (b s : ℕ) → slot_of b s ≡ slot_of x.bidder x.session → slot_at counted b s ≡ slot
   at-same b s same =
-      let within : slot_of x.bidder x.session < length slots = (let w = slot-within x.bidder x.session (length t.bidders) known.bidder_least known.bidder_most known.session_least (was.most x.bidder x.session known) in let size = was.size in omega arith) in
-      ap (λ i. slice_index_or (set slots (slot_of x.bidder x.session) slot) i empty_slot) same ∙ get_or-set_same slots (slot_of x.bidder x.session) slot empty_slot within
+      let within : slot_of x.bidder x.session < length slots = (let w = slot-within x.bidder x.session (length t.bidders) known.bidder_least
+      known.bidder_most known.session_least (was.most x.bidder x.session known) in let size = was.size in omega arith) in
+      ap (λ i. slice_index_or (set slots (slot_of x.bidder x.session) slot) i empty_slot) same
+      ∙ get_or-set_same slots (slot_of x.bidder x.session) slot empty_slot within
 
   at-other : (b s : ℕ) → (slot_of b s ≡ slot_of x.bidder x.session → ⊥) → slot_at counted b s ≡ slot_at slots b s
   at-other b s other = get_or-set_other slots (slot_of x.bidder x.session) (slot_of b s) slot empty_slot other
 
   same-session : (b s : ℕ) → IsSessionOf t b s → slot_of b s ≡ slot_of x.bidder x.session → (b ≡ x.bidder) × (s ≡ x.session)
   same-session b s of_rules same =
-      slot-same b s x.bidder x.session of_rules.bidder_least of_rules.session_least (was.most b s of_rules) known.bidder_least known.session_least (was.most x.bidder x.session known) same
+      slot-same b s x.bidder x.session of_rules.bidder_least of_rules.session_least (was.most b s of_rules) known.bidder_least
+      known.session_least (was.most x.bidder x.session known) same
 
   named-here : (b s : ℕ) → (b ≡ x.bidder) × (s ≡ x.session) → (d : SessionOwn) → is_named b s (slice_index_or sessions n d) ≡ true
   named-here b s same d = ap (is_named b s) (here d) ∙ is-named b s x (sym same.0) (sym same.1)
@@ -113,9 +120,11 @@ module _ (t : Terms) (sessions : List SessionOwn) (n : ℕ) (slots : List Slot) 
       | inl same ↦
           let is = same-session b s of_rules same in
           let more = count_by_more_yes (is_named b s) sessions n x small (named-here b s is x) in
-          ap (λ (o : Slot). o.times) (at-same b s same) ∙ ap (λ m. m + 1) (was.times_are x.bidder x.session known ∙ (λ i. times_session (sym is.0 i) (sym is.1 i) (take n sessions))) ∙ sym more
+          ap (λ (o : Slot). o.times) (at-same b s same) ∙ ap (λ m. m + 1)
+          (was.times_are x.bidder x.session known ∙ (λ i. times_session (sym is.0 i) (sym is.1 i) (take n sessions))) ∙ sym more
       | inr other ↦
-          ap (λ (o : Slot). o.times) (at-other b s other) ∙ was.times_are b s of_rules ∙ sym (count_by_more_no (is_named b s) sessions n x small (ap (is_named b s) (here x) ∙ other-named b s x other))
+          ap (λ (o : Slot). o.times) (at-other b s other) ∙ was.times_are b s of_rules
+          ∙ sym (count_by_more_no (is_named b s) sessions n x small (ap (is_named b s) (here x) ∙ other-named b s x other))
     ];
     within = λ b s of_rules some. elim (cases_eq (slot_of b s) (slot_of x.bidder x.session)) [
       | inl same ↦ (let at : (slot_at counted b s).place ≡ n = ap (λ (o : Slot). o.place) (at-same b s same) in omega arith)
@@ -126,10 +135,12 @@ module _ (t : Terms) (sessions : List SessionOwn) (n : ℕ) (slots : List Slot) 
           omega arith
     ];
     named = λ b s d of_rules some. elim (cases_eq (slot_of b s) (slot_of x.bidder x.session)) [
-      | inl same ↦ subst (λ m. IsTrue (is_named b s (slice_index_or sessions m d))) (sym (ap (λ (o : Slot). o.place) (at-same b s same))) (named-here b s (same-session b s of_rules same) d)
+      | inl same ↦ subst (λ m. IsTrue (is_named b s (slice_index_or sessions m d))) (sym (ap (λ (o : Slot). o.place) (at-same b s same)))
+          (named-here b s (same-session b s of_rules same) d)
       | inr other ↦
           let at = at-other b s other in
-          subst (λ (o : Slot). IsTrue (is_named b s (slice_index_or sessions o.place d))) (sym at) (was.named b s d of_rules (subst (λ (o : Slot). 1 ≤ o.times) at some))
+          subst (λ (o : Slot). IsTrue (is_named b s (slice_index_or sessions o.place d))) (sym at)
+          (was.named b s d of_rules (subst (λ (o : Slot). 1 ≤ o.times) at some))
     ];
     known = λ k d less. elim (cases_lt k n) [
       | inl before ↦ was.known k d before
@@ -140,10 +151,12 @@ module _ (t : Terms) (sessions : List SessionOwn) (n : ℕ) (slots : List Slot) 
     taken = λ k d less. (
         let y = slice_index_or sessions k d in
         elim (cases_eq (slot_of y.bidder y.session) (slot_of x.bidder x.session)) [
-          | inl same ↦ (let at : (slot_at counted y.bidder y.session).times ≡ (slot_at slots x.bidder x.session).times + 1 = ap (λ (o : Slot). o.times) (at-same y.bidder y.session same) in omega arith)
+          | inl same ↦ (let at : (slot_at counted y.bidder y.session).times ≡ (slot_at slots x.bidder x.session).times + 1 = ap
+              (λ (o : Slot). o.times) (at-same y.bidder y.session same) in omega arith)
           | inr other ↦ elim (cases_lt k n) [
             | inl before ↦ subst (λ (o : Slot). 1 ≤ o.times) (sym (at-other y.bidder y.session other)) (was.taken k d before)
-            | inr now ↦ (let last : k ≡ n = omega arith in let is : y ≡ x = ap (λ m. slice_index_or sessions m d) last ∙ here d in absurd (other (ap (λ (z : SessionOwn). slot_of z.bidder z.session) is)))
+            | inr now ↦ (let last : k ≡ n = omega arith in let is : y ≡ x = ap (λ m. slice_index_or sessions m d) last ∙ here d in absurd
+                (other (ap (λ (z : SessionOwn). slot_of z.bidder z.session) is)))
           ]
         ]
         );
@@ -152,8 +165,10 @@ module _ (t : Terms) (sessions : List SessionOwn) (n : ℕ) (slots : List Slot) 
         elim (cases_eq (slot_of y.bidder y.session) (slot_of x.bidder x.session)) [
           | inl same ↦ elim (cases_lt k n) [
             | inl before ↦
-                let at : (slot_at counted y.bidder y.session).times ≡ (slot_at slots x.bidder x.session).times + 1 = ap (λ (o : Slot). o.times) (at-same y.bidder y.session same) in
-                let old : (slot_at slots y.bidder y.session).times ≡ (slot_at slots x.bidder x.session).times = ap (λ m. (slice_index_or slots m empty_slot).times) same in
+                let at : (slot_at counted y.bidder y.session).times ≡ (slot_at slots x.bidder x.session).times + 1 =
+                ap (λ (o : Slot). o.times) (at-same y.bidder y.session same) in
+                let old : (slot_at slots y.bidder y.session).times ≡ (slot_at slots x.bidder x.session).times =
+                ap (λ m. (slice_index_or slots m empty_slot).times) same in
                 let some = was.taken k d before in
                 absurd (omega arith)
             | inr now ↦ (let last : k ≡ n = omega arith in ap (λ (o : Slot). o.place) (at-same y.bidder y.session same) ∙ sym last)
@@ -162,7 +177,8 @@ module _ (t : Terms) (sessions : List SessionOwn) (n : ℕ) (slots : List Slot) 
             | inl before ↦
                 let at = at-other y.bidder y.session other in
                 ap (λ (o : Slot). o.place) at ∙ was.found k d before (subst (λ (o : Slot). o.times ≡ 1) at one)
-            | inr now ↦ (let last : k ≡ n = omega arith in let is : y ≡ x = ap (λ m. slice_index_or sessions m d) last ∙ here d in absurd (other (ap (λ (z : SessionOwn). slot_of z.bidder z.session) is)))
+            | inr now ↦ (let last : k ≡ n = omega arith in let is : y ≡ x = ap (λ m. slice_index_or sessions m d) last ∙ here d in absurd
+                (other (ap (λ (z : SessionOwn). slot_of z.bidder z.session) is)))
           ]
         ]
         );

@@ -49,7 +49,8 @@ pub record IsEntryOf (t : Terms) (e : Entry Offers) : Type 0 where
   pub form : CallMeets t e.call
 
 -- an entry more is held, and its caller keeps the same pair: both lists and both counts grow by it
-pub record IsRecorded (before after : Holding) (caller : Caller) (own own' : List (Call Offers × Reply Offers)) (share share' : ℕ) (call : Call Offers) (reply : Reply Offers) : Type 0 where
+pub record IsRecorded (before after : Holding) (caller : Caller) (own own' : List (Call Offers × Reply Offers)) (share share' : ℕ)
+    (call : Call Offers) (reply : Reply Offers) : Type 0 where
   pub history : after.history ≡ before.history ++ record { caller = caller; call = call; reply = reply } ∷ []
   pub count : after.count ≡ before.count + 1
   pub own_is : own' ≡ own ++ (call, reply) ∷ []
@@ -60,7 +61,8 @@ caller_of s = Session s.bidder s.session
 
 -- the same, of a session
 abbrev pub IsRecordedBy : Holding → Holding → SessionOwn → SessionOwn → Call Offers → Reply Offers → Type 0
-IsRecordedBy before after session session' call reply = IsRecorded before after (caller_of session) session.pairs session'.pairs session.share session'.share call reply
+IsRecordedBy before after session session' call reply =
+    IsRecorded before after (caller_of session) session.pairs session'.pairs session.share session'.share call reply
 
 -- the same, of the chair
 abbrev pub IsRecordedByChair : Holding → Holding → ChairOwn → ChairOwn → Call Offers → Reply Offers → Type 0

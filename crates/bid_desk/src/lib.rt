@@ -1,6 +1,7 @@
 //! The desk of a sealed round: the book under a lock, its sessions and its settlement.
 //!
-//! Threads enter the desk, make calls on what is held, and leave. What is stated is stated on what is held, so `enter` is the only call that waits. Each session,
+//! Threads enter the desk, make calls on what is held, and leave. What is stated is stated on what is held, so `enter` is the
+//! only call that waits. Each session,
 //! and the chair, keeps the calls that it made with the replies that it was given, and a share of the count of entries. At the end the desk is stopped, and
 //! settled against all of them.
 #![tactic(auto)]

@@ -11,7 +11,8 @@ use Rattle.auction_terms.specs.declared.bids.Bid.{Bid}
 use Rattle.auction_terms.specs.declared.limits.TheConstants.{GREATEST_AMOUNT}
 use Rattle.bid_forms.specs.AcceptedForms.{FormFaultsAreOfRecords}
 use Rattle.bid_forms.specs.AllFormFaults.{all_bid_faults, all_package_faults, all_quantity_faults, fault_of_amount, faults_by_record}
-use Rattle.bid_forms.specs.FormText.{amount_checks, parsed_bid, count_checks, form_room_checks, is_quantity, is_quantity_text, package_checks, repeat_checks, reserve_checks}
+use Rattle.bid_forms.specs.FormText.{amount_checks, parsed_bid, count_checks, form_room_checks, is_quantity}
+use Rattle.bid_forms.specs.FormText.{is_quantity_text, package_checks, repeat_checks, reserve_checks}
 use Rattle.bid_forms.specs.Offers.{eligibility_of}
 use Rattle.bid_forms.specs.declared.form_text.FormFault.{FormFault}
 use Rattle.bid_forms.specs.declared.form_text.FormFault.TheVariants as fault

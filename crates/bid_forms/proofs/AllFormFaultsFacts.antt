@@ -1,8 +1,11 @@
 -- What the loop keeps that goes on after a faulty record, and that all faults of a form begin with the first one.
-use Rattle.std.proofs.Common.{subst, ◌≡◌, ◌+◌, ◌∷◌, ◌++◌, ◌∙◌, Bool, ℕ, List, [], length, map, refl, sym, ap, arith, append_assoc, Option, Some, None, Result, Ok, Err, drop, option_map, option_to_list, MatchOption, inl, inr}
+use Rattle.std.proofs.Common.{subst, ◌≡◌, ◌+◌, ◌∷◌, ◌++◌, ◌∙◌, Bool, ℕ, List, [], length, map, refl, sym, ap, arith}
+use Rattle.std.proofs.Common.{append_assoc, Option, Some, None, Result, Ok, Err, drop, option_map, option_to_list}
+use Rattle.std.proofs.Common.{MatchOption, inl, inr}
 use Rattle.std.specs.List.{list_all}
 use Rattle.std.specs.Option.{option_map_or, option_or}
-use Rattle.auction_terms.proofs.AllFaultsFacts.{BeginAs, begin-all_faults, begin-both, begin-one_failed, begin-or_else, begin-parsed, found-all, found-more, option_or-assoc}
+use Rattle.auction_terms.proofs.AllFaultsFacts.{BeginAs, begin-all_faults, begin-both, begin-one_failed, begin-or_else}
+use Rattle.auction_terms.proofs.AllFaultsFacts.{begin-parsed, found-all, found-more, option_or-assoc}
 use Rattle.auction_terms.proofs.FirstFaultFacts.{first_failed-append}
 use Rattle.std.proofs.lemmas.Bool.{cases_Bool}
 use Rattle.auction_terms.specs.AllFaults.{AreFaultsOf, accepted_with, all_faults, each_failed, found, one_failed, or_else, where_none}
@@ -14,8 +17,12 @@ use Rattle.auction_terms.specs.Terms.{Terms}
 use Rattle.auction_terms.specs.declared.bids.Bid.{Bid}
 use Rattle.auction_terms.specs.declared.faults.Found.{Found}
 use Rattle.auction_terms.specs.declared.limits.TheConstants.{GREATEST_AMOUNT}
-use Rattle.bid_forms.specs.AllFormFaults.{all_bid_faults, all_bids_faults, all_form_faults, all_package_faults, all_quantity_faults, fault_of_amount, faults_by_record, faults_of_bidder, is_unknown_bidder}
-use Rattle.bid_forms.specs.FormText.{amount_checks, bid_fault, parsed_bid, parsed_bidder, count_checks, form_of_records, is_quantity, is_quantity_text, package_checks, quantity_checks, repeat_checks, reserve_checks, form_room_checks}
+use Rattle.bid_forms.specs.AllFormFaults.{all_bid_faults, all_bids_faults, all_form_faults, all_package_faults}
+use Rattle.bid_forms.specs.AllFormFaults.{all_quantity_faults, fault_of_amount, faults_by_record, faults_of_bidder}
+use Rattle.bid_forms.specs.AllFormFaults.{is_unknown_bidder}
+use Rattle.bid_forms.specs.FormText.{amount_checks, bid_fault, parsed_bid, parsed_bidder, count_checks, form_of_records}
+use Rattle.bid_forms.specs.FormText.{is_quantity, is_quantity_text, package_checks, quantity_checks, repeat_checks}
+use Rattle.bid_forms.specs.FormText.{reserve_checks, form_room_checks}
 use Rattle.bid_forms.specs.Offers.{Offers, eligibility_of}
 use Rattle.bid_forms.specs.inside.FormText.{fault_of_bid}
 use Rattle.bid_forms.specs.declared.form_text.FormFault.{FormFault}
@@ -133,7 +140,8 @@ pub record BidsTaken (t : Terms) (eligibility : ℕ) (all rest : List Record) (p
   pub place_is : place + length rest ≡ 2 + length all
 
 -- one more record
-pub bids-taken-more : (t : Terms) (eligibility : ℕ) (all ahead rest : List Record) (place : ℕ) (old new : List Bid) (so_far : List (Found FormFault)) (r : Record)
+pub bids-taken-more : (t : Terms) (eligibility : ℕ) (all ahead rest : List Record) (place : ℕ) (old new : List Bid)
+    (so_far : List (Found FormFault)) (r : Record)
     → BidsTaken t eligibility all ahead place old so_far → ahead ≡ r ∷ rest
     → ((accepted : List Record) → old ≡ map parsed_bid accepted → new ≡ map parsed_bid (accepted_with (all_bid_faults t eligibility place old r) accepted r))
     → BidsTaken t eligibility all rest (place + 1) new (so_far ++ all_bid_faults t eligibility place old r)

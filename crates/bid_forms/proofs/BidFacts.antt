@@ -1,5 +1,6 @@
 -- A bid whose record has no fault is one that the rules allow.
-use Rattle.std.proofs.Common.{◌≡◌, ◌∙◌, ◌+◌, Bool, true, false, ℕ, List, Option, Some, None, arith, drop, length, map, refl, ◌==◌, ◌%◌, if◌then◌else◌, is_some, nat_le, not, eq-eqb, eqb-true}
+use Rattle.std.proofs.Common.{◌≡◌, ◌∙◌, ◌+◌, Bool, true, false, ℕ, List, Option, Some, None, arith, drop, length, map, refl}
+use Rattle.std.proofs.Common.{◌==◌, ◌%◌, if◌then◌else◌, is_some, nat_le, not, eq-eqb, eqb-true}
 use Rattle.std.specs.List.{list_all}
 use Rattle.std.proofs.lemmas.List.{length-drop, length-map}
 use Rattle.auction_terms.specs.FirstFault.{first_failed}

@@ -12,7 +12,8 @@ use Rattle.auction_terms.specs.Terms.{Terms}
 use Rattle.auction_terms.specs.declared.bids.Bid.{Bid}
 use Rattle.auction_terms.specs.declared.limits.TheConstants.{MOST_BIDS}
 use Rattle.bid_forms.specs.Offers.{IsBidWithinLimits, PackagesDiffer, is_bid_under, number_of_package}
-use Rattle.bid_forms.specs.FormText.{amount_checks, bid_checks, bid_fault, parsed_bid, count_checks, package_checks, quantity_checks, repeat_checks, reserve_checks, form_room_checks}
+use Rattle.bid_forms.specs.FormText.{amount_checks, bid_checks, bid_fault, parsed_bid, count_checks, package_checks}
+use Rattle.bid_forms.specs.FormText.{quantity_checks, repeat_checks, reserve_checks, form_room_checks}
 use Rattle.bid_forms.specs.inside.FormText.{fault_of_bid}
 use Rattle.bid_forms.specs.declared.form_text.FormFault.{FormFault}
 use Rattle.bid_forms.proofs.PackageFacts.{number-differ}
@@ -48,7 +49,8 @@ checks-parts t eligibility place before r =
     ∙ ap (option_or (first_failed reserve)) (first_failed-append repeat room)))))
 
 -- the fault of the next record, by what was read so far
-bid_fault-is : (t : Terms) (eligibility : ℕ) (all ahead : List Record) (place : ℕ) (bids : List Bid) (r : Record) (so_far : BidsSoFar t eligibility all ahead place bids)
+bid_fault-is : (t : Terms) (eligibility : ℕ) (all ahead : List Record) (place : ℕ) (bids : List Bid) (r : Record)
+    (so_far : BidsSoFar t eligibility all ahead place bids)
     → bid_fault t eligibility so_far.before r ≡ fault_of_bid t eligibility place bids r
 bid_fault-is t eligibility all ahead place bids r so_far =
     rw (so_far.place_is, so_far.bids_are) (checks-parts t eligibility (length so_far.before + 2) (map parsed_bid so_far.before) r)

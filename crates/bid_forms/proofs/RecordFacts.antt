@@ -1,5 +1,7 @@
 -- The fields of a record, one after the other.
-use Rattle.std.proofs.Common.{◌≡◌, ◌<◌, ◌+◌, ◌-◌, ◌∷◌, ◌++◌, ◌∙◌, Bool, true, false, ℕ, zero, suc, List, [], Some, None, add-one, drop, length, map, slice_index_or, refl, sym, ap, arith, ◌&&◌, append_assoc, All, ◌≤◌, is_some, not, nat_le, unwrap_or, le-leb, bytes_eq, drop-cons}
+use Rattle.std.proofs.Common.{◌≡◌, ◌<◌, ◌+◌, ◌-◌, ◌∷◌, ◌++◌, ◌∙◌, Bool, true, false, ℕ, zero, suc, List, [], Some, None}
+use Rattle.std.proofs.Common.{add-one, drop, length, map, slice_index_or, refl, sym, ap, arith, ◌&&◌, append_assoc, All}
+use Rattle.std.proofs.Common.{◌≤◌, is_some, not, nat_le, unwrap_or, le-leb, bytes_eq, drop-cons}
 use Rattle.std.specs.List.{list_all}
 use Rattle.std.proofs.lemmas.Bool.{and_right}
 use Rattle.std.proofs.lemmas.List.{length_push}

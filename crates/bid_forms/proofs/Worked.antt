@@ -24,7 +24,8 @@ rules = record {
   pools = [];
 }
 
-form : form_of_records rules (records_of (codes "Alpha,A,B\n0030,1,0\n")) ≡ Ok (record { bidder = 1; bids = (record { «package» = 1 ∷ 0 ∷ []; amount = 30 } ∷ []) })
+form : form_of_records rules (records_of (codes "Alpha,A,B\n0030,1,0\n"))
+    ≡ Ok (record { bidder = 1; bids = (record { «package» = 1 ∷ 0 ∷ []; amount = 30 } ∷ []) })
 unfolding csv_on_literals first_fault field_at
 form = refl
 

@@ -16,7 +16,8 @@ use Rattle.bid_forms.specs.declared.form_text.FormFault.{FormFault}
 abbrev pub accepted_bids : Terms → ℕ → List Record → List Record
 accepted_bids t eligibility entries = accepted_of (faults_by_record t eligibility) 2 [] entries
 
--- of a bidder's form each fault is a record's by the accepted ones before it, and the accepted ones alone have none. Of a form of an unknown bidder the header's is left
+-- of a bidder's form each fault is a record's by the accepted ones before it, and the accepted ones alone have none. Of a form of an
+-- unknown bidder the header's is left
 pub record FormFaultsAreOfRecords (t : Terms) (header : Record) (entries : List Record) : Type 0 where
   pub each : (bidder : ℕ) (f : Found FormFault) → parsed_bidder t header ≡ Ok bidder
       → Contains (all_form_faults t (header ∷ entries)) f ↔ IsOfItem (faults_by_record t (eligibility_of t bidder)) 2 entries f

@@ -1,4 +1,6 @@
--- All faults of a text of a form. A record with a wrong number of fields has no other fault. Of an amount the first fault is reported. A package is looked at where each of its quantities is right, and its reserve where the amount is right too. A record with a fault doesn't count for later ones.
+-- All faults of a text of a form. A record with a wrong number of fields has no other fault. Of an amount the first fault is reported. A
+-- package is looked at where each of its quantities is right, and its reserve where the amount is right too. A record with a fault doesn't
+-- count for later ones.
 use Rattle.std.specs.Prelude.{◌++◌, Bool, true, false, ℕ, List, [], ◌∷◌, Result, Ok, Err, drop, if◌then◌else◌, map}
 use Rattle.auction_terms.specs.AllFaults.{all_faults, each_failed, found, one_failed, or_else, where_none}
 use Rattle.auction_terms.specs.Records.{Record}
@@ -7,7 +9,8 @@ use Rattle.auction_terms.specs.Terms.{Terms}
 use Rattle.auction_terms.specs.declared.bids.Bid.{Bid}
 use Rattle.auction_terms.specs.declared.faults.Found.{Found}
 use Rattle.auction_terms.specs.declared.limits.TheConstants.{GREATEST_AMOUNT}
-use Rattle.bid_forms.specs.FormText.{amount_checks, parsed_bid, parsed_bidder, count_checks, is_quantity, is_quantity_text, package_checks, repeat_checks, reserve_checks, form_room_checks}
+use Rattle.bid_forms.specs.FormText.{amount_checks, parsed_bid, parsed_bidder, count_checks, is_quantity, is_quantity_text}
+use Rattle.bid_forms.specs.FormText.{package_checks, repeat_checks, reserve_checks, form_room_checks}
 use Rattle.bid_forms.specs.Offers.{eligibility_of}
 use Rattle.bid_forms.specs.declared.form_text.FormFault.{FormFault}
 use Rattle.bid_forms.specs.declared.form_text.FormFault.TheVariants as fault
@@ -48,7 +51,8 @@ abbrev pub is_unknown_bidder : FormFault → Bool
 is_unknown_bidder (fault.UnknownBidder place) = true
 is_unknown_bidder f = false
 
--- with other columns than those of the rules no bid is read; the bids of an unknown bidder are read as those of one with the greatest eligibility, above which no package is
+-- with other columns than those of the rules no bid is read; the bids of an unknown bidder are read as those of one with the greatest
+-- eligibility, above which no package is
 abbrev pub faults_of_bidder : Terms → List Record → Result ℕ FormFault → List (Found FormFault)
 faults_of_bidder t entries (Ok bidder) = all_bids_faults t (eligibility_of t bidder) entries
 faults_of_bidder t entries (Err f) = if is_unknown_bidder f then found 1 f ∷ all_bids_faults t GREATEST_AMOUNT entries else found 0 f ∷ []

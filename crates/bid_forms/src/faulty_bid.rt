@@ -1,6 +1,7 @@
 //! All faults of a record that describes a bid.
 
-ghost use Rattle.std.specs.Prelude.{◌≡◌, ◌≤◌, ◌<◌, ◌+◌, ◌++◌, ◌∷◌, [], List, None, Some, All, IfOk, OnOk, MatchOption, false, drop, length, map, option_map, option_to_list, Err, ⊤};
+ghost use Rattle.std.specs.Prelude.{◌≡◌, ◌≤◌, ◌<◌, ◌+◌, ◌++◌, ◌∷◌, [], List, None, Some, All, IfOk, OnOk, MatchOption};
+ghost use Rattle.std.specs.Prelude.{false, drop, length, map, option_map, option_to_list, Err, ⊤};
 ghost use Rattle.std.specs.Option.{option_map_or};
 ghost use Rattle.csv.specs.Records.{fields_of};
 ghost use Rattle.auction_terms.specs.AllFaults.{KeepsMore, accepted_with, each_failed, found, one_failed, or_else};
@@ -11,7 +12,8 @@ ghost use Rattle.auction_terms.specs.Terms.{IsCategory};
 ghost use Rattle.auction_terms.specs.declared.faults.Found.{Found};
 ghost use Rattle.auction_terms.specs.declared.limits.TheConstants.{MOST_CATEGORIES};
 ghost use Rattle.bid_forms.specs.AllFormFaults.{all_bid_faults, all_package_faults, all_quantity_faults, fault_of_amount};
-ghost use Rattle.bid_forms.specs.FormText.{amount_checks, parsed_bid, is_form_memory, is_quantity, is_quantity_text, package_checks, repeat_checks, reserve_checks};
+ghost use Rattle.bid_forms.specs.FormText.{amount_checks, parsed_bid, is_form_memory, is_quantity, is_quantity_text};
+ghost use Rattle.bid_forms.specs.FormText.{package_checks, repeat_checks, reserve_checks};
 ghost use Rattle.bid_forms.specs.declared.form_text.FormFault.{FormFault};
 ghost use Rattle.bid_forms.specs.declared.form_text.FormFault.TheVariants as fault;
 ghost use Rattle.bid_forms.specs.inside.Fingerprints.{AreSeen};

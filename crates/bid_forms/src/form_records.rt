@@ -11,7 +11,8 @@ ghost use Rattle.auction_terms.specs.declared.limits.TheConstants.{MOST_CATEGORI
 ghost use Rattle.bid_forms.specs.inside.Fingerprints.{AreSeen};
 ghost use Rattle.bid_forms.specs.Offers.{IsBidWithinLimits, is_bid_under, number_of_package};
 ghost use Rattle.auction_terms.specs.declared.bids.Bid.{Bid};
-ghost use Rattle.bid_forms.specs.FormText.{amount_checks, parsed_bid, parsed_bidder, count_checks, is_form_memory, package_checks, quantity_checks, repeat_checks, reserve_checks, form_room_checks};
+ghost use Rattle.bid_forms.specs.FormText.{amount_checks, parsed_bid, parsed_bidder, count_checks, is_form_memory};
+ghost use Rattle.bid_forms.specs.FormText.{package_checks, quantity_checks, repeat_checks, reserve_checks, form_room_checks};
 ghost use Rattle.bid_forms.specs.inside.FormText.{fault_of_bid, fault_of_lots};
 ghost use Rattle.auction_terms.specs.Stages.{Answers};
 ghost use Rattle.auction_terms.specs.inside.FirstFault.{Tells, TellsFault};

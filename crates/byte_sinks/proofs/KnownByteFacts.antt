@@ -1,5 +1,6 @@
 -- Steps of known bytes.
-use Rattle.std.proofs.Common.{◌≡◌, ℕ, zero, suc, ◌+◌, ◌-◌, ◌<◌, ◌≤◌, List, [], ◌∷◌, ◌++◌, length, take, drop, refl, sym, ap, ◌∙◌, append_assoc, length-append, arith, Option, Some, None, Result, Ok, Err}
+use Rattle.std.proofs.Common.{◌≡◌, ℕ, zero, suc, ◌+◌, ◌-◌, ◌<◌, ◌≤◌, List, [], ◌∷◌, ◌++◌, length, take, drop, refl, sym, ap}
+use Rattle.std.proofs.Common.{◌∙◌, append_assoc, length-append, arith, Option, Some, None, Result, Ok, Err}
 use Rattle.std.specs.Prelude.{OnErr, ◌^◌, flat_map, get_or, min, slice_get}
 use Rattle.std.specs.Io.KnownBytes.{Appends, Keeps, append_known}
 use Rattle.std.proofs.lemmas.List.{append-nil, take-append-drop, take_more, take_rest, length-drop, length-take, take-take, drop-take, take_at}
@@ -41,7 +42,8 @@ take-plus i n xs =
     rw (← front, ← back) whole
 
 -- a piece of what is left goes on with what went out
-module _ (i n m : ℕ) (xs piece : List ℕ) (e : piece ≡ take (min (length (take (length xs - i) (drop i xs))) m) (take (length xs - i) (drop i xs))) (h : n ≤ length piece) where
+module _ (i n m : ℕ) (xs piece : List ℕ) (e : piece ≡ take (min (length (take (length xs - i) (drop i xs))) m)
+    (take (length xs - i) (drop i xs))) (h : n ≤ length piece) where
   abbrev rest : List ℕ
   rest = drop i xs
 
@@ -55,21 +57,33 @@ module _ (i n m : ℕ) (xs piece : List ℕ) (e : piece ≡ take (min (length (t
   piece-within l = omega (arith, few, length-drop i xs)
 
   pub piece-step : take i xs ++ take n piece ≡ take (i + n) xs
-  piece-step = ap (λ (ys : List ℕ). take i xs ++ take n ys) is_front ∙ ap (λ (ys : List ℕ). take i xs ++ ys) (take-take n (min (length rest) m) rest few) ∙ take-plus i n xs
+  piece-step = ap (λ (ys : List ℕ). take i xs ++ take n ys) is_front
+      ∙ ap (λ (ys : List ℕ). take i xs ++ ys) (take-take n (min (length rest) m) rest few) ∙ take-plus i n xs
 
 -- a list that isn't empty stays so
 longer : (xs ys : List ℕ) → 0 < length xs → 0 < length (xs ++ ys)
 longer xs ys h = omega (arith, length-append xs ys)
 
 -- a front of what is held and of a piece after it is a front of what will be held
-pub IsFront-piece : (t h k : Option (List ℕ)) (front piece rest xs : List ℕ) → xs ≡ front ++ (piece ++ rest) → Appends h k front → IsFront t (append_known k piece) → IsFront t (append_known h xs)
+pub IsFront-piece : (t h k : Option (List ℕ)) (front piece rest xs : List ℕ) → xs ≡ front ++ (piece ++ rest) → Appends h k front
+    → IsFront t (append_known k piece) → IsFront t (append_known h xs)
 IsFront-piece None None k front piece rest xs e p q = tt
 IsFront-piece (Some ts) None k front piece rest xs e p q = tt
 IsFront-piece t (Some hs) None front piece rest xs e p q = absurd p
 IsFront-piece None (Some hs) (Some ks) front piece rest xs e p q = absurd q
 IsFront-piece (Some ts) (Some hs) (Some ks) front piece rest xs e p q =
-    let known : (hs ++ front) ++ piece ≡ ts ++ q.0 = rw p at q.2 in
-    (q.0 ++ rest, longer q.0 rest q.1, rw (e, ← append_assoc front piece rest, ← append_assoc hs (front ++ piece) rest, ← append_assoc hs front piece, known) (append_assoc ts q.0 rest))
+    let known : (hs ++ front) ++ piece ≡ ts ++ q.0 = rw p at q.2 in (
+      q.0 ++ rest,
+      longer q.0 rest q.1,
+      rw (
+        e,
+        ← append_assoc front piece rest,
+        ← append_assoc hs (front ++
+            piece) rest,
+        ← append_assoc hs front piece,
+        known,
+      ) (append_assoc ts q.0 rest),
+    )
 
 pub Counts-then : (a b c : Option (List ℕ)) (x y z : ℕ) → Counts a b x y → Counts b c y z → Counts a c x z
 Counts-then None b c x y z p q = tt
@@ -113,15 +127,18 @@ IsFront-longer None (Some hs) xs ys q = absurd q
 IsFront-longer (Some fs) (Some hs) xs ys q = (q.0 ++ ys, longer q.0 ys q.1, rw (← append_assoc hs xs ys, q.2) (append_assoc fs q.0 ys))
 
 -- the item of a loop after those before it
-pub flat_map-next_or : {X : Type 0} (f : X → List ℕ) (xs : List X) (i : ℕ) (d : X) → i < length xs → flat_map f (take i xs) ++ f (get_or xs i d) ≡ flat_map f (take (i + 1) xs)
+pub flat_map-next_or : {X : Type 0} (f : X → List ℕ) (xs : List X) (i : ℕ) (d : X) → i < length xs
+    → flat_map f (take i xs) ++ f (get_or xs i d) ≡ flat_map f (take (i + 1) xs)
 flat_map-next_or f xs i d lt =
     rw (take_more xs i d lt, flat_map-append f (take i xs) (get_or xs i d ∷ []), append-nil (f (get_or xs i d))) refl
 
-pub flat_map-next_item : {X : Type 0} (f : X → List ℕ) (xs : List X) (i : ℕ) (x : X) → x ≡ get_or xs i x → i < length xs → flat_map f (take i xs) ++ f x ≡ flat_map f (take (i + 1) xs)
+pub flat_map-next_item : {X : Type 0} (f : X → List ℕ) (xs : List X) (i : ℕ) (x : X) → x ≡ get_or xs i x → i < length xs
+    → flat_map f (take i xs) ++ f x ≡ flat_map f (take (i + 1) xs)
 flat_map-next_item f xs i x e lt = ap (λ y. flat_map f (take i xs) ++ f y) e ∙ flat_map-next_or f xs i x lt
 
 -- the item at a place after those before it
-pub flat_map-next : {X : Type 0} (f : X → List ℕ) (xs : List X) (i : ℕ) (x : X) → slice_get xs i ≡ Some x → flat_map f (take i xs) ++ f x ≡ flat_map f (take (suc i) xs)
+pub flat_map-next : {X : Type 0} (f : X → List ℕ) (xs : List X) (i : ℕ) (x : X) → slice_get xs i ≡ Some x
+    → flat_map f (take i xs) ++ f x ≡ flat_map f (take (suc i) xs)
 flat_map-next f [] i x e = cc
 flat_map-next f (y ∷ xs) zero x e = let same : y ≡ x = cc in sym (ap (λ w. f w ++ []) same ∙ append-nil (f x))
 flat_map-next f (y ∷ xs) (suc i) x e = append_assoc (f y) (flat_map f (take i xs)) (f x) ∙ ap (λ (w : List ℕ). f y ++ w) (flat_map-next f xs i x e)

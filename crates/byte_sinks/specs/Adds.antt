@@ -22,9 +22,12 @@ pub record Adds {X : Type 0} (taken : X → Option (List ℕ)) (failures : X →
   pub same_sink : new.sink.ghost_name ≡ old.sink.ghost_name
   pub counted : Counts (taken old.sink.now) (taken new.sink.now) old.sent new.sent
   -- unless a put failed, they come after those that were held
-  pub whole : new.has_failed ≡ false → (old.has_failed ≡ false) × Appends (bytes_given taken old) (bytes_given taken new) bytes × (failures new.sink.now ≡ failures old.sink.now)
+  pub whole : new.has_failed ≡ false → (old.has_failed ≡ false) × Appends (bytes_given taken old) (bytes_given taken new) bytes
+      × (failures new.sink.now ≡ failures old.sink.now)
   -- if one failed meanwhile, what went out is a front
-  pub broken : old.has_failed ≡ false → new.has_failed ≡ true → IsFront (taken new.sink.now) (append_known (bytes_given taken old) bytes) × HasFailed (failures old.sink.now) (failures new.sink.now)
+  pub broken : old.has_failed ≡ false → new.has_failed ≡ true
+      → IsFront (taken new.sink.now) (append_known (bytes_given taken old) bytes)
+      × HasFailed (failures old.sink.now) (failures new.sink.now)
   -- if one failed before, nothing is put
   pub silent : old.has_failed ≡ true → (new.has_failed ≡ true) × (new.sink.now ≡ old.sink.now) × (new.sent ≡ old.sent)
 

@@ -6,7 +6,8 @@ use crate::sink::{Sink, SinkFailed};
 use std::alloc::{AllocError, Global};
 use std::marker::Model;
 
-/// A sink for tests: it takes at most `most` bytes a put, and fails once it has taken `room` altogether. Contracts see what it has taken and what is left of its limits.
+/// A sink for tests: it takes at most `most` bytes a put, and fails once it has taken `room` altogether. Contracts see what it
+/// has taken and what is left of its limits.
 #[derive(Drop)]
 pub struct LimitSink {
     // It has room for all that the sink is to take, so that a put takes no memory.

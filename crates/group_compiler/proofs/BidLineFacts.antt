@@ -1,5 +1,7 @@
 -- The lines of a bid's column depend on the bid, its bidder and its number alone.
-use Rattle.std.proofs.Common.{◌≡◌, ℕ, zero, suc, ◌+◌, ◌<◌, ◌⊎◌, inl, inr, Bool, true, false, ◌==◌, nat_eq, cond, List, [], ◌∷◌, ◌++◌, map, length, sym, refl, ap, ap₂, ◌∙◌, subst, arith, ⊎_elim, eq-eqb, ne_eqb, ℤ, pos, append_assoc, append-nil}
+use Rattle.std.proofs.Common.{◌≡◌, ℕ, zero, suc, ◌+◌, ◌<◌, ◌⊎◌, inl, inr, Bool, true, false, ◌==◌, nat_eq, cond, List, []}
+use Rattle.std.proofs.Common.{◌∷◌, ◌++◌, map, length, sym, refl, ap, ap₂, ◌∙◌, subst, arith, ⊎_elim, eq-eqb, ne_eqb, ℤ, pos}
+use Rattle.std.proofs.Common.{append_assoc, append-nil}
 use Rattle.std.specs.Prelude.{codes, flat_map, decimal, neg_ℤ, Contains, slice_index_or}
 use Rattle.std.specs.Fmt.{signed_decimal}
 use Rattle.std.specs.List.{AllByRecursion, dedup}
@@ -37,7 +39,8 @@ module _ (lots : Lots) where
   abbrev weight_line : Offer → Subject → List ℕ
   weight_line o s = cond (weight lots s o == 0) [] (entry_line (name_of o) (row_of lots s).name (weight lots s o))
 
-  name_there : (front : List Subject) (s : Subject) (rest : List Subject) (r : ℕ) → r ≡ length front → row_name (map (row_of lots) (front ++ s ∷ rest)) r ≡ (row_of lots s).name
+  name_there : (front : List Subject) (s : Subject) (rest : List Subject) (r : ℕ) → r ≡ length front
+      → row_name (map (row_of lots) (front ++ s ∷ rest)) r ≡ (row_of lots s).name
   name_there [] s rest zero e = refl
   name_there [] s rest (suc r) e = absurd (omega arith)
   name_there (f ∷ front) s rest zero e = absurd (omega arith)
@@ -52,10 +55,12 @@ module _ (lots : Lots) where
     one_entry r n row es lines true e h = h
     one_entry r n row es lines false e h = ap₂ (λ (name rest : List ℕ). entry_line (name_of o) name n ++ rest) e h
 
-    entries_are : (front : List Subject) (ss : List Subject) (r : ℕ) → all ≡ front ++ ss → r ≡ length front → entry_lines (entries_from lots r ss o) ≡ flat_map (weight_line o) ss
+    entries_are : (front : List Subject) (ss : List Subject) (r : ℕ) → all ≡ front ++ ss → r ≡ length front
+        → entry_lines (entries_from lots r ss o) ≡ flat_map (weight_line o) ss
     entries_are front [] r e l = refl
     entries_are front (s ∷ ss) r e l =
-        let named : row_name (map (row_of lots) all) r ≡ (row_of lots s).name = ap (λ (xs : List Subject). row_name (map (row_of lots) xs) r) e ∙ name_there front s ss r l in
+        let named : row_name (map (row_of lots) all) r ≡ (row_of lots s).name =
+        ap (λ (xs : List Subject). row_name (map (row_of lots) xs) r) e ∙ name_there front s ss r l in
         one_entry r (weight lots s o) (row_of lots s).name (entries_from lots (r + 1) ss o) (flat_map (weight_line o) ss) (weight lots s o == 0) named
         (entries_are (front ++ s ∷ []) ss (r + 1) (e ∙ sym (append_assoc front (s ∷ []) ss)) (let more = length_push front s in omega arith))
 
@@ -87,7 +92,8 @@ module _ (lots : Lots) where
   one_line o [] h at = absurd at
   one_line o (b ∷ bs) h at = ⊎_elim
       (λ e.
-      ap₂ (λ (line lines : List ℕ). line ++ lines) (bidder_line o b true (eq-eqb o.bidder b e)) (no_lines o bs (subst (λ (m : ℕ). AllByRecursion (λ c. m < c) bs) (sym e) h.0))
+      ap₂ (λ (line lines : List ℕ). line ++ lines) (bidder_line o b true (eq-eqb o.bidder b e))
+      (no_lines o bs (subst (λ (m : ℕ). AllByRecursion (λ c. m < c) bs) (sym e) h.0))
       ∙ append-nil (own_entry o b) ∙ ap (λ (m : ℕ). own_entry o m) (sym e))
       (λ more.
       let less : b < o.bidder = later (λ c. b < c) o.bidder bs h.0 more in
@@ -126,20 +132,25 @@ module _ (lots : Lots) (bs : List ℕ) (rises : Rises bs) where
   each_column (o ∷ offers) at = ap₂ (λ (xs ys : List ℕ). xs ++ ys) (one_column o at.0) (each_column offers at.1)
 
 pub columns_are : (lots : Lots) (offers : List Offer) → AreOffers lots offers
-    → flat_map (column_bytes (codes "OBJ") (map (row_of lots) (subjects lots offers))) (map (column_of lots (subjects lots offers)) offers) ≡ flat_map (own_lines lots) offers
+    → flat_map (column_bytes (codes "OBJ") (map (row_of lots) (subjects lots offers))) (map (column_of lots (subjects lots offers)) offers)
+    ≡ flat_map (own_lines lots) offers
 columns_are lots offers h =
     let bs = dedup nat_eq (bidders offers) in
     each_column lots bs (dedup_rises (bidders offers) (bidders_never_fall lots offers h)) offers (recursion_from_All (λ b. Has b bs) (bidders offers)
-    (All-weaker (Contains (bidders offers)) (λ b. Has b bs) (λ b at. let there = Contains-dedup_nat (bidders offers) b at in has bs there.0 b there.1 there.2) (bidders offers) (All-contains_itself (bidders offers))))
+    (All-weaker (Contains (bidders offers)) (λ b. Has b bs) (λ b at. let there = Contains-dedup_nat (bidders offers) b at in has bs there.0
+    b there.1 there.2) (bidders offers) (All-contains_itself (bidders offers))))
 
 -- the line of a bid's bound
 abbrev pub own_bound : Lots → Offer → List ℕ
 own_bound lots o = bound_bytes (column_of lots [] o)
 
-pub bounds_are : (lots : Lots) (rows : List Subject) (offers : List Offer) → flat_map bound_bytes (map (column_of lots rows) offers) ≡ flat_map (own_bound lots) offers
+pub bounds_are : (lots : Lots) (rows : List Subject) (offers : List Offer)
+    → flat_map bound_bytes (map (column_of lots rows) offers) ≡ flat_map (own_bound lots) offers
 bounds_are lots rows offers = flat_map-map bound_bytes (column_of lots rows) offers
 
 -- the lines of the column of all lots' worth, whatever rows there are
-pub worth_is : (lots : Lots) (rows others : List TableRow) → flat_map (column_bytes (codes "OBJ") rows) (worth_column lots) ≡ flat_map (column_bytes (codes "OBJ") others) (worth_column lots)
-worth_is lots rows others = cond_both (worth_of_all lots == 0) [] (record { name = codes "K"; bounds = One; cost = neg_ℤ (pos (worth_of_all lots)); entries = [] } ∷ [])
+pub worth_is : (lots : Lots) (rows others : List TableRow)
+    → flat_map (column_bytes (codes "OBJ") rows) (worth_column lots) ≡ flat_map (column_bytes (codes "OBJ") others) (worth_column lots)
+worth_is lots rows others = cond_both (worth_of_all lots == 0) []
+    (record { name = codes "K"; bounds = One; cost = neg_ℤ (pos (worth_of_all lots)); entries = [] } ∷ [])
     (λ cs. flat_map (column_bytes (codes "OBJ") rows) cs ≡ flat_map (column_bytes (codes "OBJ") others) cs) (λ e. refl) (λ e. refl)

@@ -1,5 +1,6 @@
 -- Each kind of step keeps the rule of the counter.
-use Rattle.std.proofs.Common.{◌≡◌, ℕ, zero, suc, ◌+◌, ◌-◌, ◌%◌, ◌^◌, ◌<◌, ◌≤◌, cond, ◌==◌, List, [], ◌∷◌, ◌++◌, length, slice_index, slice_set, sym, refl, ap, ◌∙◌, arith, mod-eq_of_lt, length-append}
+use Rattle.std.proofs.Common.{◌≡◌, ℕ, zero, suc, ◌+◌, ◌-◌, ◌%◌, ◌^◌, ◌<◌, ◌≤◌, cond, ◌==◌, List, [], ◌∷◌, ◌++◌, length}
+use Rattle.std.proofs.Common.{slice_index, slice_set, sym, refl, ap, ◌∙◌, arith, mod-eq_of_lt, length-append}
 use Rattle.std.specs.Prelude.{sum_by}
 use mathlib.Core.Option.{some, some-injective, some-ne-none}
 use lib.ListN.{get_elem?}
@@ -85,7 +86,8 @@ joins id v other w s h at differ there =
       each_once = λ x.
           let t = sum_set (λ (u : View). times_drawn x u.drawn) s.views id v (views_joined v w) at in
           let p = sum_set (λ (u : View). times_drawn x u.drawn) views other w spent there in
-          let q : times_drawn x (v.drawn ++ w.drawn) ≡ times_drawn x v.drawn + times_drawn x w.drawn = sum_by-append (λ (y : ℕ). cond (y == x) 1 0) v.drawn w.drawn in
+          let q : times_drawn x (v.drawn ++ w.drawn) ≡ times_drawn x v.drawn + times_drawn x w.drawn =
+          sum_by-append (λ (y : ℕ). cond (y == x) 1 0) v.drawn w.drawn in
           let z : times_drawn x spent.drawn ≡ 0 = refl in
           let o = h.each_once x in
           omega arith;
@@ -110,7 +112,8 @@ first_is [] n e = absurd (some-ne-none n (sym e))
 first_is (w ∷ ws) n e = some-injective w n e
 
 -- the claim that has every draw knows what all have drawn
-pub closes : (id : ℕ) (v : View) (words xs : List ℕ) (word : ℕ) → v.room + length v.drawn ≡ ALL_DRAWS → Final (Seen IsCounted id v) words xs → get_elem? words 0 ≡ some word → IsEachBelow word v.drawn × (length v.drawn ≡ word)
+pub closes : (id : ℕ) (v : View) (words xs : List ℕ) (word : ℕ) → v.room + length v.drawn ≡ ALL_DRAWS → Final (Seen IsCounted id v) words xs
+    → get_elem? words 0 ≡ some word → IsEachBelow word v.drawn × (length v.drawn ≡ word)
 closes id v words xs word whole f at =
     let s = f.0 in
     let h = f.1.0 in
@@ -124,7 +127,8 @@ closes id v words xs word whole f at =
           let t = sum_set (λ (u : View). times_drawn x u.drawn) s.views id v spent here in
           let z : times_drawn x spent.drawn ≡ 0 = refl in
           let o = h.each_once x in
-          let few = sum_below (λ (u : View). times_drawn x u.drawn) (λ (u : View). length u.drawn) others (λ u. count_by-le-length (λ (y : ℕ). y == x) u.drawn) in
+          let few = sum_below (λ (u : View). times_drawn x u.drawn) (λ (u : View). length u.drawn) others
+          (λ u. count_by-le-length (λ (y : ℕ). y == x) u.drawn) in
           let k : once_below x (slice_index s.words 0) ≡ once_below x word = ap (once_below x) found in
           omega arith),
       omega arith,

@@ -30,7 +30,8 @@ bounds-any (c ∷ cs) bytes = refl
 -- six lists, one after the other, from either side
 from_left : (a b c d e f : List ℕ) → (((((a ++ b) ++ c) ++ d) ++ e) ++ f) ≡ a ++ (b ++ (c ++ (d ++ (e ++ f))))
 from_left a b c d e f =
-    append_assoc (((a ++ b) ++ c) ++ d) e f ∙ append_assoc ((a ++ b) ++ c) d (e ++ f) ∙ append_assoc (a ++ b) c (d ++ (e ++ f)) ∙ append_assoc a b (c ++ (d ++ (e ++ f)))
+    append_assoc (((a ++ b) ++ c) ++ d) e f ∙ append_assoc ((a ++ b) ++ c) d (e ++ f) ∙ append_assoc (a ++ b) c (d ++ (e ++ f))
+    ∙ append_assoc a b (c ++ (d ++ (e ++ f)))
 
 -- each section as it is defined
 columns-reported : (lines rest : List ℕ) → codes "COLUMNS\n" ++ (between_markers lines ++ rest) ≡ section_text Columns lines ++ rest
@@ -45,14 +46,17 @@ plain-reported : (front lines rest : List ℕ) → front ++ (lines ++ rest) ≡ 
 plain-reported front lines rest = ap (λ (w : List ℕ). front ++ (w ++ rest)) (sym (append-nil lines)) ∙ sym (append_assoc front (lines ++ []) rest)
 
 all-reported : (rows columns right_sides bounds : List ℕ)
-    → codes "NAME wdp\nROWS\n N OBJ\n" ++ (rows ++ (codes "COLUMNS\n" ++ (between_markers columns ++ (codes "RHS\n" ++ (right_sides ++ (below_bounds bounds ++ codes "ENDATA\n"))))))
+    → codes "NAME wdp\nROWS\n N OBJ\n" ++ (rows ++ (codes "COLUMNS\n" ++
+    (between_markers columns ++ (codes "RHS\n" ++ (right_sides ++ (below_bounds bounds ++ codes "ENDATA\n"))))))
     ≡ section_text Rows rows ++ (section_text Columns columns ++ (section_text RightSides right_sides ++ section_text Bounds bounds))
 all-reported rows columns right_sides bounds =
     ap (λ (w : List ℕ). codes "NAME wdp\nROWS\n N OBJ\n" ++ (rows ++ w))
     (ap (λ (w : List ℕ). codes "COLUMNS\n" ++ (between_markers columns ++ w))
-    (ap (λ (w : List ℕ). codes "RHS\n" ++ (right_sides ++ w)) (bounds-reported bounds) ∙ plain-reported (codes "RHS\n") right_sides (section_text Bounds bounds))
+    (ap (λ (w : List ℕ). codes "RHS\n" ++ (right_sides ++ w)) (bounds-reported bounds) ∙ plain-reported (codes "RHS\n") right_sides
+    (section_text Bounds bounds))
     ∙ columns-reported columns (section_text RightSides right_sides ++ section_text Bounds bounds))
-    ∙ plain-reported (codes "NAME wdp\nROWS\n N OBJ\n") rows (section_text Columns columns ++ (section_text RightSides right_sides ++ section_text Bounds bounds))
+    ∙ plain-reported (codes "NAME wdp\nROWS\n N OBJ\n") rows (section_text Columns columns ++
+    (section_text RightSides right_sides ++ section_text Bounds bounds))
 
 pub text-sections : (p : Table) → p.objective ≡ codes "OBJ"
     → text p ≡ section_text Rows (flat_map row_bytes p.rows) ++ (section_text Columns (flat_map (column_bytes p.objective p.rows) p.columns)
@@ -63,8 +67,13 @@ text-sections p o =
     let columns = flat_map (column_bytes p.objective p.rows) p.columns in
     let bounds = flat_map bound_bytes p.columns in
     sym (text-of_table p)
-    ∙ from_left (front_bytes p) (codes "COLUMNS\n") (between_bytes p) (codes "RHS\n" ++ sides) (where_any p.columns (codes "BOUNDS\n" ++ bounds)) (codes "ENDATA\n")
-    ∙ ap (λ (name : List ℕ). codes "NAME wdp\nROWS\n" ++ written (Data (codes "N" ∷ name ∷ [])) ++ rows ++ (codes "COLUMNS\n" ++ (between_bytes p ++ (codes "RHS\n" ++ (sides ++ (where_any p.columns (codes "BOUNDS\n" ++ bounds) ++ codes "ENDATA\n")))))) o
-    ∙ ap₂ (λ (between below : List ℕ). codes "NAME wdp\nROWS\n N OBJ\n" ++ (rows ++ (codes "COLUMNS\n" ++ (between ++ (codes "RHS\n" ++ (sides ++ (below ++ codes "ENDATA\n")))))))
-    (columns-any p p.columns (codes " M1 'MARKER' 'INTORG'\n" ++ (columns ++ codes " M2 'MARKER' 'INTEND'\n"))) (bounds-any p.columns (codes "BOUNDS\n" ++ bounds))
+    ∙ from_left (front_bytes p) (codes "COLUMNS\n") (between_bytes p) (codes "RHS\n" ++ sides)
+    (where_any p.columns (codes "BOUNDS\n" ++ bounds)) (codes "ENDATA\n")
+    ∙ ap (λ (name : List ℕ). codes "NAME wdp\nROWS\n" ++ written (Data (codes "N" ∷ name ∷ [])) ++ rows ++
+    (codes "COLUMNS\n" ++ (between_bytes p ++ (codes "RHS\n" ++ (sides ++
+    (where_any p.columns (codes "BOUNDS\n" ++ bounds) ++ codes "ENDATA\n")))))) o
+    ∙ ap₂ (λ (between below : List ℕ). codes "NAME wdp\nROWS\n N OBJ\n" ++
+    (rows ++ (codes "COLUMNS\n" ++ (between ++ (codes "RHS\n" ++ (sides ++ (below ++ codes "ENDATA\n")))))))
+    (columns-any p p.columns (codes " M1 'MARKER' 'INTORG'\n" ++ (columns ++ codes " M2 'MARKER' 'INTEND'\n")))
+    (bounds-any p.columns (codes "BOUNDS\n" ++ bounds))
     ∙ all-reported rows columns sides bounds

@@ -1,5 +1,7 @@
 -- Laws of what workers draw.
-use Rattle.std.proofs.Common.{◌≡◌, inl, inr, ℕ, zero, suc, ◌+◌, ◌<◌, ◌≤◌, Bool, true, cond, max, ◌==◌, nat_lt, ⊎_elim, ltb-true, eq-eqb, ne_eqb, List, [], ◌∷◌, ◌++◌, length, map, sym, refl, ap, ap₂, ◌∙◌, subst, arith, append-nil, lt-ltb, le-ltb, length-append, slice_index_or}
+use Rattle.std.proofs.Common.{◌≡◌, inl, inr, ℕ, zero, suc, ◌+◌, ◌<◌, ◌≤◌, Bool, true, cond, max, ◌==◌, nat_lt, ⊎_elim}
+use Rattle.std.proofs.Common.{ltb-true, eq-eqb, ne_eqb, List, [], ◌∷◌, ◌++◌, length, map, sym, refl, ap, ap₂, ◌∙◌, subst}
+use Rattle.std.proofs.Common.{arith, append-nil, lt-ltb, le-ltb, length-append, slice_index_or}
 use Rattle.std.specs.Prelude.{All, Any, Contains, filter, Result, Ok, Err, IfOk}
 use Rattle.std.specs.List.{AllByRecursion}
 use Rattle.std.proofs.lemmas.Bool.{cond-true, cond-false, cond_both, cases_eq, cases_lt}
@@ -15,7 +17,8 @@ use Rattle.group_compiler.specs.inside.Works.{IsFinished}
 -- a number that is not below the count is not kept
 pub kept_no_more : (count n : ℕ) (xs : List ℕ) → count ≤ n → filter (λ n. nat_lt n count) (xs ++ n ∷ []) ≡ filter (λ n. nat_lt n count) xs
 kept_no_more count n xs above =
-    filter-append (λ n. nat_lt n count) xs (n ∷ []) ∙ ap (λ (ys : List ℕ). filter (λ n. nat_lt n count) xs ++ ys) (cond-false (nat_lt n count) (n ∷ []) [] (le-ltb n count above))
+    filter-append (λ n. nat_lt n count) xs (n ∷ []) ∙ ap (λ (ys : List ℕ). filter (λ n. nat_lt n count) xs ++ ys)
+    (cond-false (nat_lt n count) (n ∷ []) [] (le-ltb n count above))
     ∙ append-nil (filter (λ n. nat_lt n count) xs)
 
 pub finished_by : (count n : ℕ) (xs : List ℕ) → count ≤ n → IsFinished count (xs ++ n ∷ [])
@@ -24,15 +27,20 @@ finished_by count n xs above =
     inr (length xs, n, (let k : length xs < length (xs ++ n ∷ []) = omega arith in k), get_or_at xs n [] n (length xs) refl, above)
 
 any_left : (P : ℕ → Type 0) (xs ys : List ℕ) → Any P xs → Any P (xs ++ ys)
-any_left P xs ys h = let l = length-append xs ys in (h.0, h.1, (let k : h.0 < length (xs ++ ys) = omega arith in k), get_or_append_left xs ys h.1 h.0 h.2 ∙ h.3, h.4)
+any_left P xs ys h = let l = length-append xs ys in
+    (h.0, h.1, (let k : h.0 < length (xs ++ ys) = omega arith in k), get_or_append_left xs ys h.1 h.0 h.2 ∙ h.3, h.4)
 
 pub finished_left : (count : ℕ) (xs ys : List ℕ) → IsFinished count xs → IsFinished count (xs ++ ys)
-finished_left count xs ys h = let l = length-append xs ys in elim h [ inl more ↦ inl (let k : count < length (xs ++ ys) = omega arith in k) | inr one ↦ inr (any_left (λ n. count ≤ n) xs ys one) ]
+finished_left count xs ys h = let l = length-append xs ys in
+    elim h [ inl more ↦ inl (let k : count < length (xs ++ ys) = omega arith in k) | inr one ↦ inr (any_left (λ n. count ≤ n) xs ys one) ]
 
 module _ {T : Type 0} where
-  pub numbers_append : (count : ℕ) (rs ss : List (Numbered T)) (xs ys : List ℕ) → map (λ (r : Numbered T). r.number) rs ≡ filter (λ n. nat_lt n count) xs → map (λ (r : Numbered T). r.number) ss ≡ filter (λ n. nat_lt n count) ys
+  pub numbers_append : (count : ℕ) (rs ss : List (Numbered T)) (xs ys : List ℕ)
+      → map (λ (r : Numbered T). r.number) rs ≡ filter (λ n. nat_lt n count) xs
+      → map (λ (r : Numbered T). r.number) ss ≡ filter (λ n. nat_lt n count) ys
       → map (λ (r : Numbered T). r.number) (rs ++ ss) ≡ filter (λ n. nat_lt n count) (xs ++ ys)
-  numbers_append count rs ss xs ys a b = map-append (λ (r : Numbered T). r.number) rs ss ∙ ap₂ (λ (us vs : List ℕ). us ++ vs) a b ∙ sym (filter-append (λ n. nat_lt n count) xs ys)
+  numbers_append count rs ss xs ys a b = map-append (λ (r : Numbered T). r.number) rs ss ∙ ap₂ (λ (us vs : List ℕ). us ++ vs) a b
+      ∙ sym (filter-append (λ n. nat_lt n count) xs ys)
 
 -- how often a number comes in a list, and that it is in the list
 stands_once : (k : ℕ) (xs : List ℕ) → 0 < times_drawn k xs → Contains xs k
@@ -60,7 +68,8 @@ counted n (x ∷ xs) (suc k) l e =
 
 contains_filter : (p : ℕ → Bool) (xs : List ℕ) (i k : ℕ) → p k ≡ true → i < length xs → slice_index_or xs i k ≡ k → Contains (filter p xs) k
 contains_filter p [] i k pass l e = absurd (omega arith)
-contains_filter p (x ∷ xs) zero k pass l e = subst (λ (ys : List ℕ). Contains ys k) (sym (cond-true (p x) (x ∷ filter p xs) (filter p xs) (ap p e ∙ pass))) (zero, omega arith, e)
+contains_filter p (x ∷ xs) zero k pass l e =
+    subst (λ (ys : List ℕ). Contains ys k) (sym (cond-true (p x) (x ∷ filter p xs) (filter p xs) (ap p e ∙ pass))) (zero, omega arith, e)
 contains_filter p (x ∷ xs) (suc i) k pass l e =
     let rest = contains_filter p xs i k pass (omega arith) e in
     let within = rest.1 in
@@ -99,26 +108,31 @@ all_drawn end w xs each long f k below =
     stands_once k xs some
 
 -- something is made of every number below the count
-pub all_made : (count groups w : ℕ) (xs ns : List ℕ) → IsEachBelow w xs → length xs ≡ w → IsFinished (max count groups) xs → ns ≡ filter (λ n. nat_lt n count) xs → (k : ℕ) → k < count → Contains ns k
+pub all_made : (count groups w : ℕ) (xs ns : List ℕ) → IsEachBelow w xs → length xs ≡ w → IsFinished (max count groups) xs
+    → ns ≡ filter (λ n. nat_lt n count) xs → (k : ℕ) → k < count → Contains ns k
 all_made count groups w xs ns each long f e k below =
     let most = le-max_left count groups in
     subst (λ (ys : List ℕ). Contains ys k) (sym e) (in_filter count k xs below (all_drawn (max count groups) w xs each long f k (omega arith)))
 
 -- and every group has come past the gate
-pub all_past : (count groups w : ℕ) (is_past : ℕ → Type 0) (xs : List ℕ) → IsEachBelow w xs → length xs ≡ w → IsFinished (max count groups) xs → All (λ n. n < groups → is_past (n + 1)) xs → AreAllPast groups is_past
+pub all_past : (count groups w : ℕ) (is_past : ℕ → Type 0) (xs : List ℕ) → IsEachBelow w xs → length xs ≡ w
+    → IsFinished (max count groups) xs → All (λ n. n < groups → is_past (n + 1)) xs → AreAllPast groups is_past
 all_past count groups w is_past xs each long f past n below =
     let most = le-max_right count groups in
     let at = all_drawn (max count groups) w xs each long f n (omega arith) in
     subst (λ (m : ℕ). m < groups → is_past (m + 1)) at.2 (past at.0 n at.1) below
 
 module _ {T : Type 0} where
-  below_each : (count : ℕ) (rs : List (Numbered T)) → AllByRecursion (λ n. nat_lt n count ≡ true) (map (λ (r : Numbered T). r.number) rs) → AllByRecursion (λ (r : Numbered T). r.number < count) rs
+  below_each : (count : ℕ) (rs : List (Numbered T)) → AllByRecursion (λ n. nat_lt n count ≡ true) (map (λ (r : Numbered T). r.number) rs)
+      → AllByRecursion (λ (r : Numbered T). r.number < count) rs
   below_each count [] a = tt
   below_each count (r ∷ rs) a = (ltb-true r.number count a.0, below_each count rs a.1)
 
-  pub all_below : (count : ℕ) (xs : List ℕ) (rs : List (Numbered T)) → map (λ (r : Numbered T). r.number) rs ≡ filter (λ n. nat_lt n count) xs → All (λ (r : Numbered T). r.number < count) rs
+  pub all_below : (count : ℕ) (xs : List ℕ) (rs : List (Numbered T))
+      → map (λ (r : Numbered T). r.number) rs ≡ filter (λ n. nat_lt n count) xs → All (λ (r : Numbered T). r.number < count) rs
   all_below count xs rs e = All-from_recursion (λ (r : Numbered T). r.number < count) rs (below_each count rs
-      (subst (λ (ns : List ℕ). AllByRecursion (λ n. nat_lt n count ≡ true) ns) (sym e) (recursion_from_All (λ n. nat_lt n count ≡ true) (filter (λ n. nat_lt n count) xs) (filter_passes (λ n. nat_lt n count) xs))))
+      (subst (λ (ns : List ℕ). AllByRecursion (λ n. nat_lt n count ≡ true) ns) (sym e)
+      (recursion_from_All (λ n. nat_lt n count ≡ true) (filter (λ n. nat_lt n count) xs) (filter_passes (λ n. nat_lt n count) xs))))
 
 pub if_both : {T E : Type 0} (r : Result T E) (P Q : T → Type 0) → IfOk r P → IfOk r Q → IfOk r (λ x. P x × Q x)
 if_both (Ok x) P Q p q = (p, q)

@@ -29,11 +29,13 @@ section_lines Bounds page = page.bounds
 
 -- the lines of some rows, and of columns with entries in all rows
 abbrev pub page_with : List TableRow → List TableRow → List TableColumn → PageText
-page_with all rows columns = page_text (flat_map row_bytes rows) (flat_map (column_bytes (codes "OBJ") all) columns) (flat_map right_side_bytes rows) (flat_map bound_bytes columns)
+page_with all rows columns = page_text (flat_map row_bytes rows) (flat_map (column_bytes (codes "OBJ") all) columns)
+    (flat_map right_side_bytes rows) (flat_map bound_bytes columns)
 
 -- what the program of offers has for them: the rows of their bidders, and their columns
 abbrev pub page_of_offers : Lots → List Offer → PageText
-page_of_offers lots offers = page_with (map (row_of lots) (subjects lots offers)) (map (row_of lots) (bidder_subjects offers)) (map (column_of lots (subjects lots offers)) offers)
+page_of_offers lots offers = page_with (map (row_of lots) (subjects lots offers)) (map (row_of lots) (bidder_subjects offers))
+    (map (column_of lots (subjects lots offers)) offers)
 
 -- what every program has: the rows of categories and pools, and the column of what all lots are worth
 abbrev pub page_of_lots : Lots → PageText

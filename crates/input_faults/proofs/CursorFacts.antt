@@ -8,7 +8,8 @@ numbered-next : {X : Type 0} (n : ℕ) (items : List (List X)) → numbered (n +
 numbered-next n items = rw add-one refl
 
 -- one item more
-pub next-item : {X : Type 0} (n : ℕ) (items rest : List (List X)) (item : List X) → drop n items ≡ item ∷ rest → (rest ≡ drop (n + 1) items) × (item ≡ numbered (n + 1) items)
+pub next-item : {X : Type 0} (n : ℕ) (items rest : List (List X)) (item : List X) → drop n items ≡ item ∷ rest
+    → (rest ≡ drop (n + 1) items) × (item ≡ numbered (n + 1) items)
 next-item n items rest item ahead =
     let size = length-drop n items in
     let sizes = ap length ahead in

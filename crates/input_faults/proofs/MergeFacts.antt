@@ -1,5 +1,6 @@
 -- Faults of a text that are added to those of an input.
-use Rattle.std.proofs.Common.{◌≡◌, ◌≤◌, ◌+◌, ◌-◌, ◌++◌, ◌∷◌, ◌∙◌, ℕ, zero, suc, List, [], ap, arith, length, length-append, length-take, refl, sym, take, take_all}
+use Rattle.std.proofs.Common.{◌≡◌, ◌≤◌, ◌+◌, ◌-◌, ◌++◌, ◌∷◌, ◌∙◌, ℕ, zero, suc, List, [], ap, arith, length, length-append}
+use Rattle.std.proofs.Common.{length-take, refl, sym, take, take_all}
 use Rattle.std.proofs.lemmas.List.{length-map, take-map, take-take}
 use Rattle.std.specs.Prelude.{◌^◌, min}
 use Rattle.auction_terms.specs.AllFaults.{Keeps, KeepsMore, found}
@@ -15,11 +16,13 @@ take-both zero k (x ∷ xs) ys few = refl
 take-both (suc n) k (x ∷ xs) ys few = ap (λ zs. x ∷ zs) (take-both n k xs ys (omega arith))
 
 -- what is kept of a text's faults is added, and then the count of the others
-pub keeps-others : {F G : Type 0} (whole : F → G) (old middle new : Faults G) (held : Faults F) (faults : List (Found F)) (place : ℕ) → Keeps held faults → length held.kept.items ≤ place
+pub keeps-others : {F G : Type 0} (whole : F → G) (old middle new : Faults G) (held : Faults F) (faults : List (Found F)) (place : ℕ)
+    → Keeps held faults → length held.kept.items ≤ place
     → KeepsMore old middle (faults_as whole (take place held.kept.items))
     → new.kept.items ≡ middle.kept.items → new.more ≡ min (middle.more + held.more) (2 ^ 64 - 1) → KeepsMore old new (faults_as whole faults)
 keeps-others {F} {G} whole old middle new held faults place holds all adds same count before keeps =
-    let kept : faults_as whole held.kept.items ≡ take MOST_FAULTS (faults_as whole faults) = ap (faults_as whole) holds.kept ∙ sym (take-map (λ (at : Found F). found at.field (whole at.fault)) MOST_FAULTS faults) in
+    let kept : faults_as whole held.kept.items ≡ take MOST_FAULTS (faults_as whole faults) =
+    ap (faults_as whole) holds.kept ∙ sym (take-map (λ (at : Found F). found at.field (whole at.fault)) MOST_FAULTS faults) in
     let keeps_middle = rw (take_all place held.kept.items all, kept) at (adds before keeps) in
     let as_many = length-map faults (λ (at : Found F). found at.field (whole at.fault)) in
     let a = length-append before (take MOST_FAULTS (faults_as whole faults)) in

@@ -21,7 +21,8 @@ unmet-both ((true, u) ∷ more) second = unmet-both more second
 unmet-both ((false, u) ∷ more) second = ap (λ (fs : List (Found Fault)). found 0 (fault.Unmet u) ∷ fs) (unmet-both more second)
 
 -- one test more
-pub unmet-next : (tests : List (Bool × Unmet)) (n : ℕ) (d : Bool × Unmet) → n < length tests → unmet_of (take n tests) ++ unmet_of (slice_index_or tests n d ∷ []) ≡ unmet_of (take (n + 1) tests)
+pub unmet-next : (tests : List (Bool × Unmet)) (n : ℕ) (d : Bool × Unmet) → n < length tests
+    → unmet_of (take n tests) ++ unmet_of (slice_index_or tests n d ∷ []) ≡ unmet_of (take (n + 1) tests)
 unmet-next tests n d within = sym (unmet-both (take n tests) (slice_index_or tests n d ∷ [])) ∙ ap unmet_of (sym (take_more tests n d within))
 
 -- where no command is named nothing is wanted

@@ -12,7 +12,8 @@ use Rattle.auction_terms.specs.RulesText.{field_count, is_kind, record_field, re
 use Rattle.auction_terms.specs.Terms.{Terms}
 use Rattle.auction_terms.specs.declared.groups_text.GroupFault.{GroupFault}
 use Rattle.auction_terms.specs.declared.groups_text.GroupFault.TheVariants as groups
-use Rattle.auction_terms.specs.declared.limits.TheConstants.{GREATEST_AMOUNT, GREATEST_QUANTITY, MOST_BIDDERS, MOST_BIDS, MOST_CATEGORIES, MOST_GROUPS, MOST_POOLS}
+use Rattle.auction_terms.specs.declared.limits.TheConstants.{GREATEST_AMOUNT, GREATEST_QUANTITY, MOST_BIDDERS, MOST_BIDS}
+use Rattle.auction_terms.specs.declared.limits.TheConstants.{MOST_CATEGORIES, MOST_GROUPS, MOST_POOLS}
 use Rattle.auction_terms.specs.declared.record_kinds.RecordKind.{RecordKind}
 use Rattle.auction_terms.specs.declared.record_kinds.RecordKind.TheVariants as kind
 use Rattle.auction_terms.specs.declared.record_kinds.Version.{Version}
@@ -83,7 +84,8 @@ unmet_message (unmet.Number part.Certificate count by) = pair_message (codes " c
 unmet_message (unmet.Number part.Unique count by) = pair_message (codes " unique and ") count by ++ codes " tie in place of 1 at most"
 unmet_message (unmet.Number part.Prices count by) = one_message (codes " prices in place of 1 at most") count
 unmet_message (unmet.Number part.Cover count by) = pair_message (codes " covers, and ") count by ++ (codes " prices want " ++ decimal by)
-unmet_message (unmet.Number part.Weights count by) = pair_message (codes " weights, and ") count by ++ (codes " prices want " ++ (decimal by ++ codes " at most"))
+unmet_message (unmet.Number part.Weights count by) =
+    pair_message (codes " weights, and ") count by ++ (codes " prices want " ++ (decimal by ++ codes " at most"))
 unmet_message (unmet.Number kind count by) = []
 
 -- ---------- rules ----------
@@ -114,9 +116,11 @@ entry_message r n (rules.NameText place) v = field_message n r (codes " isn't a 
 entry_message r n (rules.NumberText place) v = field_message n r (codes " isn't 1 to 18 digits")
 entry_message r n (rules.NumberRange place) v = option_map_or (λ limits. field_message n r (limits_message limits.least limits.greatest)) (limits_of v r) []
 entry_message r n (rules.NameRepeated place) v =
-    field_message n r (if is_kind kind.Member (record_kind v r) then codes " is in that pool already" else codes " is the name of an earlier record of its kind")
+    field_message n r (if is_kind kind.Member (record_kind v r) then codes " is in that pool already" else codes
+    " is the name of an earlier record of its kind")
 entry_message r n (rules.TooMany place) v = option_map_or too_many_message (record_kind v r) []
-entry_message r n (rules.NameUnknown place) v = field_message n r (if n == 2 then codes " is the name of no earlier pool" else codes " is the name of no earlier category")
+entry_message r n (rules.NameUnknown place) v =
+    field_message n r (if n == 2 then codes " is the name of no earlier pool" else codes " is the name of no earlier category")
 entry_message r n f v = []
 
 -- a fault at a field of a record of the rules, whose version is known where the header gives one
@@ -129,7 +133,8 @@ rules_message version r n f = option_map_or (entry_message r n f) version []
 -- the first field from this one on that isn't the name of its category
 abbrev pub column_message : Record → ℕ → List Category → List ℕ
 column_message r n [] = []
-column_message r n (category ∷ more) = if bytes_eq (record_field n r) category.name then column_message r (n + 1) more else field_message n r (codes " in place of " ++ category.name)
+column_message r n (category ∷ more) = if bytes_eq (record_field n r) category.name then column_message r (n + 1) more else field_message n
+    r (codes " in place of " ++ category.name)
 
 -- a header with other columns than the rules have categories
 abbrev pub columns_message : Terms → Record → List ℕ
@@ -154,7 +159,8 @@ form_fault_message t most r n (form.QuantityText place) = field_message n r (cod
 form_fault_message t most r n (form.QuantityRange place) = field_message n r (limits_message 0 GREATEST_QUANTITY)
 form_fault_message t most r n (form.EmptyPackage place) = codes ": each quantity is 0"
 form_fault_message t most r n (form.OverEligibility place) = points_above (parsed_points t r) most
-form_fault_message t most r n (form.BelowReserve place) = option_map_or (λ least. field_message n r (codes " is below the reserve of " ++ decimal least)) (parsed_reserve t r) []
+form_fault_message t most r n (form.BelowReserve place) =
+    option_map_or (λ least. field_message n r (codes " is below the reserve of " ++ decimal least)) (parsed_reserve t r) []
 form_fault_message t most r n (form.TooManyBids place) = codes ": more than " ++ (decimal MOST_BIDS ++ codes " bids")
 form_fault_message t most r n f = []
 

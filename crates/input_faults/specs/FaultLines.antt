@@ -23,7 +23,8 @@ more_line more = if more == 0 then [] else codes "and " ++ (decimal more ++ code
 
 -- a line for each of the first faults, and how many more there are, up to 2 ^ 64 - 1
 abbrev pub fault_lines : (Fault → List ℕ) → (ℕ → Fault → List ℕ) → List (Found Fault) → List ℕ
-fault_lines reported detail_of faults = flat_map (fault_line reported detail_of) (take MOST_FAULTS faults) ++ more_line (min (length faults - MOST_FAULTS) (2 ^ 64 - 1))
+fault_lines reported detail_of faults =
+    flat_map (fault_line reported detail_of) (take MOST_FAULTS faults) ++ more_line (min (length faults - MOST_FAULTS) (2 ^ 64 - 1))
 
 -- what is reported of an input
 abbrev pub explanation : Request → Input → List ℕ

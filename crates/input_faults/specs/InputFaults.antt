@@ -1,4 +1,6 @@
--- All faults of an input, in the order in which they are reported. After faulty parts nothing is looked at, and after faulty rules no form and no groups; each form is, whatever the others are; whose forms are in several texts, and how many calls they take, is looked at where every form is read; what a command wants of the groups and of the numbers of parts, where the groups are.
+-- All faults of an input, in the order in which they are reported. After faulty parts nothing is looked at, and after faulty rules no form
+-- and no groups; each form is, whatever the others are; whose forms are in several texts, and how many calls they take, is looked at where
+-- every form is read; what a command wants of the groups and of the numbers of parts, where the groups are.
 use Rattle.std.specs.Prelude.{◌++◌, ℕ, Bool, List, [], Option, None, Result, Ok, Err, codes}
 use Rattle.auction_input.specs.Calls.{one_too_many}
 use Rattle.auction_input.specs.FormTexts.{form_elsewhere}
@@ -76,7 +78,8 @@ call_fault (Err r) = None
 abbrev pub faults_under : Bool → List ℕ → List (List ℕ) → List ℕ → Terms → List (Found Fault)
 faults_under last_wins numbers forms groups t =
     let read : Result (List Offers) Refusal = each_in_turn (parsed_form t) 1 forms in
-    faults_of_forms t forms ++ (fault_as fault.AnotherForm (text_fault last_wins t numbers read) ++ (faults_of_groups t groups ++ fault_as fault.CallLimit (call_fault read)))
+    faults_of_forms t forms ++ (fault_as fault.AnotherForm (text_fault last_wins t numbers read) ++
+    (faults_of_groups t groups ++ fault_as fault.CallLimit (call_fault read)))
 
 -- what rests on the rules, where they are read
 abbrev pub where_read : Result Terms Refusal → (Terms → List (Found Fault)) → List (Found Fault)
@@ -99,7 +102,8 @@ unmet_under command parts t = unmet_faults command parts (parsed_groups t (only_
 -- the faults of the texts in parts, and of what a command wants of them
 abbrev pub faults_in_parts : Option Target → Bool → List Part → List (Found Fault)
 faults_in_parts command last_wins parts =
-    faults_of_texts last_wins (only_text (parts_named (codes "%rules") parts)) (text_numbers (codes "%form") parts) (parts_named (codes "%form") parts) (only_text (parts_named (codes "%groups") parts))
+    faults_of_texts last_wins (only_text (parts_named (codes "%rules") parts)) (text_numbers (codes "%form") parts)
+    (parts_named (codes "%form") parts) (only_text (parts_named (codes "%groups") parts))
     ++ where_read (parsed_terms (only_text (parts_named (codes "%rules") parts))) (unmet_under command parts)
 
 -- the faults of an input

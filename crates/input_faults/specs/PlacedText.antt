@@ -19,7 +19,8 @@ words_at texts (Some at) r = shown_name (file_name texts at.text) ++ (codes ": "
 
 -- after what is reported of a form that is in another text than its bidder's first form stands the name of that text's file
 abbrev pub with_other : List Given → Refusal → List ℕ → List ℕ
-with_other texts (refusal.AnotherForm f) reported = reported ++ (codes " is in " ++ (shown_name (file_name texts f.first_text) ++ codes "; say --last-wins where the later one counts"))
+with_other texts (refusal.AnotherForm f) reported =
+    reported ++ (codes " is in " ++ (shown_name (file_name texts f.first_text) ++ codes "; say --last-wins where the later one counts"))
 with_other texts r reported = reported
 
 abbrev pub message_at : List Given → Option Spot → Refusal → List ℕ

@@ -82,7 +82,8 @@ text_at texts (Some at) = bytes_at texts at.text
 
 -- the one fault of an input that isn't cut into parts
 abbrev pub detail_without_parts : PartFault → List Given → List ℕ
-detail_without_parts part_fault.BeforeFirst texts = beginning_message (numbered 1 (lines_of (text_at texts (spot_of texts (refusal.Parts part_fault.BeforeFirst)))))
+detail_without_parts part_fault.BeforeFirst texts =
+    beginning_message (numbered 1 (lines_of (text_at texts (spot_of texts (refusal.Parts part_fault.BeforeFirst)))))
 detail_without_parts f texts = []
 
 -- a fault of parts, of which there are too few or too many of a kind, if there are

@@ -7,7 +7,8 @@ ghost use Rattle.auction_input.specs.ParsedTexts.{parsed_form};
 ghost use Rattle.auction_terms.specs.AllFaults.{Keeps, KeepsMore};
 ghost use Rattle.auction_terms.specs.Stages.{each_in_turn};
 ghost use Rattle.auction_terms.specs.declared.faults.Found.{Found};
-ghost use Rattle.input_faults.specs.InputFaults.{call_fault, faults_in_parts, faults_of_forms, faults_of_parts, faults_under, input_faults, text_fault, unmet_faults, unmet_under};
+ghost use Rattle.input_faults.specs.InputFaults.{call_fault, faults_in_parts, faults_of_forms, faults_of_parts};
+ghost use Rattle.input_faults.specs.InputFaults.{faults_under, input_faults, text_fault, unmet_faults, unmet_under};
 ghost use Rattle.input_faults.specs.declared.fault.Fault as declared;
 
 use crate::fault::Fault;

@@ -1,5 +1,6 @@
 -- Bounds are those of the lines so far.
-use Rattle.std.proofs.Common.{◌≡◌, ℕ, zero, suc, Bool, true, false, not, ◌||◌, ◌&&◌, List, [], ◌∷◌, length, map, refl, sym, ap, subst, ◌∙◌, Option, Some, None, pos, ◌+◌, ◌<◌, drop, get_or, arith}
+use Rattle.std.proofs.Common.{◌≡◌, ℕ, zero, suc, Bool, true, false, not, ◌||◌, ◌&&◌, List, [], ◌∷◌, length, map, refl, sym}
+use Rattle.std.proofs.Common.{ap, subst, ◌∙◌, Option, Some, None, pos, ◌+◌, ◌<◌, drop, get_or, arith}
 use Rattle.program_rows.proofs.NamedItemFacts.{bytes_flip}
 use Rattle.std.specs.Prelude.{◌==◌, slice_get, bytes_eq, codes, nat_le, if◌then◌else◌}
 use denote.Ref.{Bor}
@@ -184,7 +185,8 @@ parsed-at lines bounds (x ∷ states) (m ∷ ns) (suc i) s n a b h =
     let tail : map state_values states ≡ map (parsed_values lines bounds) ns = cc in parsed-at lines bounds states ns i s n a b tail
 parsed-at lines bounds _ _ i s n a b h = absurd cc
 
-pub bound-tells : (f : LineFields) (o : Option (List ℕ)) (rows : List (List ℕ)) (lines bounds : List LineFields) (old new : ColumnTable) (i : ℕ) (s : ColumnState)
+pub bound-tells : (f : LineFields) (o : Option (List ℕ)) (rows : List (List ℕ)) (lines bounds : List LineFields) (old new : ColumnTable)
+    (i : ℕ) (s : ColumnState)
     → new ≡ record old { states = new.states } → new.states.items ≡ slice_set old.states.items i s
     → IsDistinct bytes_eq (names_of old.names) → slice_get (names_of old.names) i ≡ Some (field 0 (bound_pair f))
     → state_values s ≡ parsed_values lines (f ∷ bounds) (field 0 (bound_pair f)) → ColumnsTell o rows lines bounds old

@@ -1,5 +1,6 @@
 -- Columns are those of the lines so far.
-use Rattle.std.proofs.Common.{◌≡◌, ◌≢◌, ℕ, suc, ◌+◌, ◌≤◌, ◌<◌, Bool, true, false, List, [], ◌∷◌, ◌++◌, length, map, refl, sym, ap, subst, ◌∙◌, arith, Option, Some, None, ℤ, pos, inl, inr}
+use Rattle.std.proofs.Common.{◌≡◌, ◌≢◌, ℕ, suc, ◌+◌, ◌≤◌, ◌<◌, Bool, true, false, List, [], ◌∷◌, ◌++◌, length, map, refl}
+use Rattle.std.proofs.Common.{sym, ap, subst, ◌∙◌, arith, Option, Some, None, ℤ, pos, inl, inr}
 use Rattle.std.specs.Prelude.{◌⊎◌, ◌==◌, slice_get, bytes_eq, unwrap_or, is_some, IfSome}
 use Rattle.std.specs.List.{list_any, AllByRecursion, IsDistinct}
 use Rattle.std.specs.List.Sorted.{IsPermutation, IsNonDecreasingBy}
@@ -137,7 +138,8 @@ entries-distinct count (e ∷ es) a = (apart es a.2, entries-distinct count es a
 
 -- ---- a column ends, and another begins
 
-pub closed-tells : (o : Option (List ℕ)) (rows : List (List ℕ)) (lines bounds : List LineFields) (old new : ColumnTable) (sorted : List (ℕ × ℤ)) (name : Bor (List ℕ)) (cost : ℤ)
+pub closed-tells : (o : Option (List ℕ)) (rows : List (List ℕ)) (lines bounds : List LineFields) (old new : ColumnTable)
+    (sorted : List (ℕ × ℤ)) (name : Bor (List ℕ)) (cost : ℤ)
     → ColumnsFit (length rows) old → old.current ≡ Some name → cost ≡ old.current_column.cost
     → IsPermutation old.current_column.entries.items sorted → IsNonDecreasingBy (λ (e : ℕ × ℤ). e.0) sorted
     → new.names ≡ old.names → new.states ≡ old.states → new.is_begun ≡ old.is_begun

@@ -1,5 +1,6 @@
 -- A header more.
-use Rattle.std.proofs.Common.{◌≡◌, ℕ, ◌+◌, ◌<◌, Bool, true, false, not, ◌&&◌, List, [], ◌∷◌, length, map, take, drop, get_or, refl, sym, ap, subst, ◌∙◌, arith, ◌≤◌, Option, Some, None, ℤ}
+use Rattle.std.proofs.Common.{◌≡◌, ℕ, ◌+◌, ◌<◌, Bool, true, false, not, ◌&&◌, List, [], ◌∷◌, length, map, take, drop}
+use Rattle.std.proofs.Common.{get_or, refl, sym, ap, subst, ◌∙◌, arith, ◌≤◌, Option, Some, None, ℤ}
 use Rattle.mps_reader.proofs.RowStepFacts.{no_name, field-at}
 use Rattle.std.specs.Prelude.{◌-◌, is_some, is_none, codes, bytes_eq, position, option_map, int_lt, if◌then◌else◌}
 use Rattle.std.specs.List.{position_or_len}
@@ -37,7 +38,8 @@ header-more fields =
 
 -- a header's word and what follows it are its fields
 pub header-is : (before : Sections) (fs : List (Bor (List ℕ))) → 1 ≤ length fs
-    → header_fault before (field 0 (bytes_of fs)) (drop 1 (bytes_of fs)) ≡ header_fault before (get_or fs 0 no_name).now (bytes_of (take (length fs - 1) (drop 1 fs)))
+    → header_fault before (field 0 (bytes_of fs)) (drop 1 (bytes_of fs))
+    ≡ header_fault before (get_or fs 0 no_name).now (bytes_of (take (length fs - 1) (drop 1 fs)))
 header-is before fs some =
     ap (λ w. header_fault before w (drop 1 (bytes_of fs))) (field-at fs 0 (omega (arith, some)))
     ∙ ap (header_fault before (get_or fs 0 no_name).now) (sym (header-more fs))
@@ -103,7 +105,8 @@ header-tells before word more r s columns up is names none closed fit h = record
 
 -- what is left of a header's checks at the end
 pub end-fault : (before : Sections) (word : List ℕ) (fault last : Option MpsFaultKind)
-    → fault ≡ (if bytes_eq word (codes "ENDATA") then option_map NotBinary (position (λ column. not (is_binary before column)) (columns_named before.columns)) else None)
+    → fault ≡ (if bytes_eq word (codes "ENDATA") then option_map NotBinary
+    (position (λ column. not (is_binary before column)) (columns_named before.columns)) else None)
     → bytes_eq word (codes "ENDATA") ≡ true
     → option_map NotBinary (position (λ column. not (is_binary before column)) (columns_named before.columns)) ≡ last → fault ≡ last
 end-fault before word fault last h is e = h ∙ rw is e

@@ -1,5 +1,6 @@
 -- A line of COLUMNS more.
-use Rattle.std.proofs.Common.{◌≡◌, ℕ, suc, ◌+◌, ◌≤◌, Bool, true, false, not, ◌||◌, ◌&&◌, List, [], ◌∷◌, ◌++◌, length, map, drop, refl, sym, ap, subst, ◌∙◌, arith, Option, Some, None, ℤ, pos, length-append}
+use Rattle.std.proofs.Common.{◌≡◌, ℕ, suc, ◌+◌, ◌≤◌, Bool, true, false, not, ◌||◌, ◌&&◌, List, [], ◌∷◌, ◌++◌, length, map}
+use Rattle.std.proofs.Common.{drop, refl, sym, ap, subst, ◌∙◌, arith, Option, Some, None, ℤ, pos, length-append}
 use Rattle.mps_reader.proofs.PairFaultFacts.{last-one}
 use Rattle.std.specs.Prelude.{◌==◌, slice_get, bytes_eq, codes, unwrap_or, is_some, filter, flat_map, IfSome, if◌then◌else◌}
 use Rattle.std.specs.List.{list_any, AllByRecursion, IsDistinct}
@@ -20,7 +21,8 @@ use Rattle.program_rows.specs.declared.mps_fault_kind.MpsFaultKind.{MpsFaultKind
 use Rattle.program_rows.specs.declared.mps_fault_kind.MpsFaultKind.TheVariants.{ColumnSplit}
 use Rattle.mps_reader.specs.inside.Columns.{ColumnsFit, entries_at, nearest_column}
 use Rattle.mps_reader.specs.inside.Rows.{names_of, option_now, declared_row_names, StampsAre, RowsFit}
-use Rattle.mps_reader.specs.inside.Tracking.{number_at_place, OpenTells, ColumnsTell, ColumnAdded, InColumns, AreStampsUpTo, gathered_column, parsed_values, state_values, is_current}
+use Rattle.mps_reader.specs.inside.Tracking.{number_at_place, OpenTells, ColumnsTell, ColumnAdded, InColumns, AreStampsUpTo}
+use Rattle.mps_reader.specs.inside.Tracking.{gathered_column, parsed_values, state_values, is_current}
 use Rattle.mps_reader.specs.declared.tables.ColumnTable.{ColumnTable}
 use Rattle.mps_reader.specs.declared.tables.OpenColumn.{OpenColumn}
 use Rattle.mps_reader.specs.declared.tables.Rows.{Rows}

@@ -1,5 +1,6 @@
 -- The pairs of a line of RHS, and of one of COLUMNS after the column.
-use Rattle.std.proofs.Common.{◌≡◌, ◌≢◌, ℕ, Bool, true, false, ◌||◌, List, [], ◌∷◌, ◌++◌, length, map, drop, refl, sym, ap, subst, ◌∙◌, arith, Option, Some, ℤ, pos, get_or}
+use Rattle.std.proofs.Common.{◌≡◌, ◌≢◌, ℕ, Bool, true, false, ◌||◌, List, [], ◌∷◌, ◌++◌, length, map, drop, refl, sym, ap}
+use Rattle.std.proofs.Common.{subst, ◌∙◌, arith, Option, Some, ℤ, pos, get_or}
 use Rattle.std.specs.Prelude.{◌==◌, bytes_eq, find, if◌then◌else◌}
 use Rattle.std.specs.Option.{option_map_or}
 use Rattle.std.proofs.lemmas.Bool.{both_ways, eqb-true}
@@ -99,7 +100,8 @@ number-two row number row2 number2 earlier differ n = by (bytes_eq n row2) (byte
 
 -- ---- those of a line and those before
 
-pub two-stamps : (ps : List (List ℕ × List ℕ)) (row number row2 number2 : List ℕ) (stamps : List ℕ) (stamp : ℕ) (ns : List (List ℕ)) (earlier : List (List ℕ × List ℕ))
+pub two-stamps : (ps : List (List ℕ × List ℕ)) (row number row2 number2 : List ℕ) (stamps : List ℕ) (stamp : ℕ) (ns : List (List ℕ))
+    (earlier : List (List ℕ × List ℕ))
     → ps ≡ (row, number) ∷ (row2, number2) ∷ []
     → StampsAre stamps stamp ns (has_row ((row2, number2) ∷ (row, number) ∷ earlier)) → StampsAre stamps stamp ns (has_row (ps ++ earlier))
 two-stamps ps row number row2 number2 stamps stamp ns earlier e h =

@@ -1,5 +1,6 @@
 -- What a pair of row and number leaves of stamps and of the current column.
-use Rattle.std.proofs.Common.{◌≡◌, ◌≢◌, ℕ, zero, suc, ◌+◌, Bool, true, false, ◌||◌, List, [], ◌∷◌, ◌++◌, map, refl, sym, ap, subst, ◌∙◌, arith, Option, Some, None, ℤ, pos}
+use Rattle.std.proofs.Common.{◌≡◌, ◌≢◌, ℕ, zero, suc, ◌+◌, Bool, true, false, ◌||◌, List, [], ◌∷◌, ◌++◌, map, refl, sym, ap}
+use Rattle.std.proofs.Common.{subst, ◌∙◌, arith, Option, Some, None, ℤ, pos}
 use Rattle.program_rows.proofs.NamedItemFacts.{bytes_flip}
 use Rattle.std.specs.Prelude.{◌==◌, slice_get, bytes_eq, unwrap_or, IfSome, if◌then◌else◌}
 use Rattle.std.specs.List.{AllByRecursion, IsDistinct, slice_set}
@@ -109,7 +110,8 @@ worth-other p q v (e ∷ es) ne = by (e.0 == p) (worth-other p q v es ne)
     by true more = refl
     by false more = more
 
-pub open-put : (objective : Option (Bor (List ℕ))) (ns : List (List ℕ)) (ps : List (Option ℕ)) (rows : List (List ℕ)) (number : List ℕ → ℤ) (column after : OpenColumn) (i : ℕ) (row : List ℕ) (cost : Bool) (place : Option ℕ) (v : ℤ)
+pub open-put : (objective : Option (Bor (List ℕ))) (ns : List (List ℕ)) (ps : List (Option ℕ)) (rows : List (List ℕ)) (number : List ℕ → ℤ)
+    (column after : OpenColumn) (i : ℕ) (row : List ℕ) (cost : Bool) (place : Option ℕ) (v : ℤ)
     → IsDistinct bytes_eq ns → IsName row → AreAt 0 ns ps rows → IfSome objective (λ o. IsObjective ns rows o.now)
     → slice_get ns i ≡ Some row → slice_get ps i ≡ Some place
     → ((p : ℕ) → place ≡ Some p → AllByRecursion (λ e. (e.0 == p) ≡ false) column.entries.items)

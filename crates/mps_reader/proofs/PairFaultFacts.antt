@@ -36,7 +36,8 @@ has_row earlier n = list_any (λ other. bytes_eq n other.0) earlier
 abbrev pub constant_check : Option (List ℕ) → List ℕ → List ℕ → Option MpsFaultKind
 constant_check objective row number = when (option_map_or (bytes_eq row) objective false && not (int_eq (value number) (pos 0))) ObjectiveConstant
 
-pub begins : (lines : List LineFields) (objective : Option (List ℕ)) (earlier ps : List (List ℕ × List ℕ)) (row number : List ℕ) (more : List (List ℕ × List ℕ)) (known : Bool) (fault : Option MpsFaultKind)
+pub begins : (lines : List LineFields) (objective : Option (List ℕ)) (earlier ps : List (List ℕ × List ℕ)) (row number : List ℕ)
+    (more : List (List ℕ × List ℕ)) (known : Bool) (fault : Option MpsFaultKind)
     → ps ≡ (row, number) ∷ more → is_declared lines row ≡ known
     → pair_checks known (has_row earlier row) number (constant_check objective row number) ≡ fault
     → pairs_fault lines objective earlier ps ≡ (if is_none fault then pairs_fault lines objective ((row, number) ∷ earlier) more else fault)
@@ -49,7 +50,8 @@ if-none None = refl
 if-none (Some kind) = refl
 
 -- the fault of the second of two pairs, if the first has none
-pub second : (lines : List LineFields) (objective : Option (List ℕ)) (earlier ps : List (List ℕ × List ℕ)) (row number row2 number2 : List ℕ) (known known2 : Bool)
+pub second : (lines : List LineFields) (objective : Option (List ℕ)) (earlier ps : List (List ℕ × List ℕ))
+    (row number row2 number2 : List ℕ) (known known2 : Bool)
     → ps ≡ (row, number) ∷ (row2, number2) ∷ [] → is_declared lines row ≡ known → is_declared lines row2 ≡ known2
     → pair_checks known (has_row earlier row) number (constant_check objective row number) ≡ None
     → pairs_fault lines objective earlier ps ≡ pair_checks known2 (bytes_eq row2 row || has_row earlier row2) number2 (constant_check objective row2 number2)

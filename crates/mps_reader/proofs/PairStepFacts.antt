@@ -1,5 +1,6 @@
 -- A pair of row and number more.
-use Rattle.std.proofs.Common.{◌≡◌, ◌≢◌, ℕ, zero, suc, ◌<◌, Bool, true, false, List, [], ◌∷◌, ◌++◌, length, refl, sym, ap, subst, ◌∙◌, arith, Option, Some, None, ℤ, pos, get_or}
+use Rattle.std.proofs.Common.{◌≡◌, ◌≢◌, ℕ, zero, suc, ◌<◌, Bool, true, false, List, [], ◌∷◌, ◌++◌, length, refl, sym, ap}
+use Rattle.std.proofs.Common.{subst, ◌∙◌, arith, Option, Some, None, ℤ, pos, get_or}
 use Rattle.std.proofs.lemmas.List.{length-map}
 use Rattle.std.proofs.lemmas.Option.{slice_get_within, slice_get-get_or, slice_get_read}
 use Rattle.std.specs.Prelude.{◌==◌, slice_get, if◌then◌else◌}
@@ -37,7 +38,8 @@ differ ns ps rows i j p q at h k ne e = elim (cases_order i j) as (λ _. ⊥) [
 ]
 
 -- the row that has the stamp now is the only one with a new entry
-pub apart-put : (ns : List (List ℕ)) (ps : List (Option ℕ)) (rows : List (List ℕ)) (stamps : List ℕ) (entries : List (ℕ × ℤ)) (i stamp : ℕ) (cost : Bool) (place : Option ℕ) (v : ℤ)
+pub apart-put : (ns : List (List ℕ)) (ps : List (Option ℕ)) (rows : List (List ℕ)) (stamps : List ℕ) (entries : List (ℕ × ℤ)) (i stamp : ℕ)
+    (cost : Bool) (place : Option ℕ) (v : ℤ)
     → AreAt 0 ns ps rows → slice_get ps i ≡ Some place
     → IsApart stamps ps stamp entries → IsApart (slice_set stamps i stamp) ps stamp (put_entries cost place v entries)
 apart-put ns ps rows stamps entries i stamp cost place v at here h = λ j q d there stamped other. by j q d there stamped other (cases_eq i j)

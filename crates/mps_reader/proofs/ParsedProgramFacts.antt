@@ -4,7 +4,8 @@ use Rattle.std.specs.Prelude.{filter, not, is_some, unwrap_or, option_map, if◌
 use Rattle.std.specs.List.{AllByRecursion, enumerate_from}
 use Rattle.std.specs.Ordering.{int_eq}
 use Rattle.program_rows.specs.MpsSections.{Sections}
-use Rattle.program_rows.specs.MpsProgram.{program, table_rows, table_column, columns_named, first_free, lower, upper, column_pairs, number_beside, line_right_sides}
+use Rattle.program_rows.specs.MpsProgram.{program, table_rows, table_column, columns_named, first_free, lower, upper}
+use Rattle.program_rows.specs.MpsProgram.{column_pairs, number_beside, line_right_sides}
 use Rattle.program_rows.specs.Bounded.{bounded}
 use Rattle.program_rows.specs.Program.{TableRow, TableColumn}
 use Rattle.program_rows.specs.Parts.{shown_row}
@@ -49,7 +50,8 @@ values-bounds s = by s.lower s.upper
     by _ _ = refl
 
 bounds-parsed : (before : Sections) (s : ColumnState) (n : List ℕ) → state_values s ≡ parsed_values before.columns before.bounds n
-    → state_bounds s ≡ (if int_eq (lower before.bounds n) (pos 1) then One else (if int_eq (unwrap_or (upper before.bounds n) (pos 1)) (pos 0) then Zero else ZeroOrOne))
+    → state_bounds s ≡ (if int_eq (lower before.bounds n) (pos 1) then One else
+    (if int_eq (unwrap_or (upper before.bounds n) (pos 1)) (pos 0) then Zero else ZeroOrOne))
 bounds-parsed before s n h =
     values-bounds s ∙ ap (λ (v : Bool × ℤ × Option ℤ). if int_eq v.1 (pos 1) then One else
     (if int_eq (unwrap_or v.2 (pos 1)) (pos 0) then Zero else ZeroOrOne)) h

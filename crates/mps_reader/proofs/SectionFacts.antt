@@ -1,5 +1,6 @@
 -- A section opens, and lines that say nothing.
-use Rattle.std.proofs.Common.{◌≡◌, ◌≢◌, ℕ, ◌≤◌, ◌<◌, Bool, true, false, not, List, [], ◌∷◌, length, take, refl, sym, ap, subst, ◌∙◌, arith, Option, Some, None, ◌&&◌, inl, inr}
+use Rattle.std.proofs.Common.{◌≡◌, ◌≢◌, ℕ, ◌≤◌, ◌<◌, Bool, true, false, not, List, [], ◌∷◌, length, take, refl, sym, ap}
+use Rattle.std.proofs.Common.{subst, ◌∙◌, arith, Option, Some, None, ◌&&◌, inl, inr}
 use Rattle.mps_reader.proofs.BoundFacts.{and-false}
 use Rattle.std.specs.Prelude.{◌==◌, ◌⊎◌, nat_le, is_none, is_some, codes, bytes_eq, nat_lt, if◌then◌else◌}
 use Rattle.std.proofs.lemmas.List.{take_all, length-take-le}

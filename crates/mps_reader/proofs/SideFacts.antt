@@ -1,5 +1,6 @@
 -- Right sides are those of the lines so far.
-use Rattle.std.proofs.Common.{◌≡◌, ℕ, zero, suc, Bool, true, false, not, ◌&&◌, List, [], ◌∷◌, length, map, take, drop, refl, sym, ap, subst, ◌∙◌, Option, Some, ℤ}
+use Rattle.std.proofs.Common.{◌≡◌, ℕ, zero, suc, Bool, true, false, not, ◌&&◌, List, [], ◌∷◌, length, map, take, drop, refl}
+use Rattle.std.proofs.Common.{sym, ap, subst, ◌∙◌, Option, Some, ℤ}
 use Rattle.program_rows.proofs.NamedItemFacts.{bytes_flip}
 use Rattle.std.specs.Prelude.{◌-◌, ◌%◌, nat_le, slice_get, bytes_eq, if◌then◌else◌, flat_map}
 use Rattle.std.specs.List.{AllByRecursion, IsDistinct}

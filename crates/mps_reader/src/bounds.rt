@@ -1,6 +1,7 @@
 //! Lines of BOUNDS.
 
-ghost use Rattle.std.specs.Prelude.{◌≡◌, ◌≤◌, ◌<◌, ◌+◌, ◌∷◌, [], ◌&&◌, ◌==◌, ℕ, List, not, true, false, codes, bytes_eq, length, nat_le, if◌then◌else◌, Option, IfOk, OnOk};
+ghost use Rattle.std.specs.Prelude.{◌≡◌, ◌≤◌, ◌<◌, ◌+◌, ◌∷◌, [], ◌&&◌, ◌==◌, ℕ, List, not, true, false, codes, bytes_eq};
+ghost use Rattle.std.specs.Prelude.{length, nat_le, if◌then◌else◌, Option, IfOk, OnOk};
 ghost use Rattle.program_rows.specs.declared.mps_fault_kind.MpsFaultKind.TheVariants.{BoundType, Fields};
 ghost use Rattle.std.specs.List.{IsDistinct};
 ghost use Rattle.auction_terms.specs.LineFields.{LineFields, field};

@@ -1,6 +1,7 @@
 //! What the lines of an MPS text are, their fields, and the numbers and words that fields are.
 
-ghost use Rattle.std.specs.Prelude.{◌≡◌, ◌≤◌, ◌<◌, ◌∷◌, [], true, false, take, drop, length, position, MatchOption, IfSome, IfOk, OnErr, ◌==◌, slice_index, bytes_eq};
+ghost use Rattle.std.specs.Prelude.{◌≡◌, ◌≤◌, ◌<◌, ◌∷◌, [], true, false, take, drop, length, position, MatchOption, IfSome};
+ghost use Rattle.std.specs.Prelude.{IfOk, OnErr, ◌==◌, slice_index, bytes_eq};
 ghost use Rattle.std.specs.List.{list_all};
 ghost use Rattle.auction_terms.specs.LineFields.{fields, is_space};
 ghost use Rattle.auction_terms.specs.Lines.{bytes_of};

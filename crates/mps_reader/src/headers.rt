@@ -1,6 +1,7 @@
 //! Headers: the sections and their order, and the sense of the objective.
 
-ghost use Rattle.std.specs.Prelude.{◌≡◌, ◌∷◌, [], ◌==◌, ◌<◌, ◌&&◌, not, codes, nat_lt, length, is_none, bytes_eq, true, IfOk, OnOk, None, if◌then◌else◌, position, option_map};
+ghost use Rattle.std.specs.Prelude.{◌≡◌, ◌∷◌, [], ◌==◌, ◌<◌, ◌&&◌, not, codes, nat_lt, length, is_none, bytes_eq, true};
+ghost use Rattle.std.specs.Prelude.{IfOk, OnOk, None, if◌then◌else◌, position, option_map};
 ghost use Rattle.program_rows.specs.declared.mps_fault_kind.MpsFaultKind.TheVariants.{SectionLeftOut, Section, Fields, NoObjective, NotBinary, SenseMax};
 ghost use Rattle.auction_terms.specs.LineFields.{field};
 ghost use Rattle.program_rows.specs.MpsSections.{Sections};

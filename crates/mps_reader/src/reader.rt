@@ -17,7 +17,8 @@
 //! check moved up or down is another reader. A column is closed by the first line that isn't its own, also by a header, and
 //! only then are its entries in the order of rows. What is added to the state needs a line in both records.
 
-ghost use Rattle.std.specs.Prelude.{◌≡◌, ◌≤◌, ◌<◌, length, Err, IfErr, not, map, true, false, position, option_map, is_some, Some, IfOk, ◌≢◌, drop, codes, bytes_eq, OnOk};
+ghost use Rattle.std.specs.Prelude.{◌≡◌, ◌≤◌, ◌<◌, length, Err, IfErr, not, map, true, false, position, option_map, is_some};
+ghost use Rattle.std.specs.Prelude.{Some, IfOk, ◌≢◌, drop, codes, bytes_eq, OnOk};
 ghost use Rattle.auction_terms.specs.Lines.{lines_of, bytes_of};
 ghost use Rattle.mps_reader.specs.Answer.{IsRead};
 ghost use Rattle.program_rows.specs.MpsMeaning.{meaning};

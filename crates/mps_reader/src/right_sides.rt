@@ -1,6 +1,7 @@
 //! Lines of RHS.
 
-ghost use Rattle.std.specs.Prelude.{◌≡◌, ◌≤◌, ◌<◌, ◌==◌, ◌&&◌, ◌||◌, ◌∷◌, ◌++◌, ℕ, ℤ, Bool, List, not, true, false, length, map, bytes_eq, nat_le, pos, if◌then◌else◌, OnOk, flat_map};
+ghost use Rattle.std.specs.Prelude.{◌≡◌, ◌≤◌, ◌<◌, ◌==◌, ◌&&◌, ◌||◌, ◌∷◌, ◌++◌, ℕ, ℤ, Bool, List, not, true, false, length};
+ghost use Rattle.std.specs.Prelude.{map, bytes_eq, nat_le, pos, if◌then◌else◌, OnOk, flat_map};
 ghost use Rattle.std.specs.List.{list_any};
 ghost use Rattle.std.specs.Option.{option_map_or};
 ghost use Rattle.auction_terms.specs.LineFields.{LineFields};

@@ -1,6 +1,7 @@
 //! The rows that the lines so far declare.
 
-ghost use Rattle.std.specs.Prelude.{◌≡◌, ◌≤◌, ◌∷◌, [], ◌++◌, ◌+◌, ◌==◌, ℕ, Bool, List, length, not, true, false, map, bytes_eq, codes, slice_get, Option, Some, None, IfOk, OnOk, is_none, if◌then◌else◌, pos};
+ghost use Rattle.std.specs.Prelude.{◌≡◌, ◌≤◌, ◌∷◌, [], ◌++◌, ◌+◌, ◌==◌, ℕ, Bool, List, length, not, true, false, map};
+ghost use Rattle.std.specs.Prelude.{bytes_eq, codes, slice_get, Option, Some, None, IfOk, OnOk, is_none, if◌then◌else◌, pos};
 ghost use Rattle.std.specs.List.{list_any, slice_set, AllByRecursion};
 ghost use Rattle.std.specs.Option.{option_map, option_map_or};
 ghost use Rattle.program_rows.specs.declared.mps_fault_kind.MpsFaultKind.TheVariants.{Fields, RowType, RowRepeated, UnknownRow, EntryRepeated};

@@ -19,7 +19,8 @@ AreRead before [] = Unit {0}
 AreRead before (line ∷ ls) = (fault before line ≡ None) × (is_end line ≡ false) × AreRead (with_line before line) ls
 
 -- lines that are read, and then the end
-pub read-through : (n : ℕ) (before : Sections) (ls : List Line) → AreRead before ls → fault (onto ls before) end_line ≡ None → meaning_behind n before (ls ++ end_line ∷ []) ≡ Ok (program (onto ls before))
+pub read-through : (n : ℕ) (before : Sections) (ls : List Line) → AreRead before ls → fault (onto ls before) end_line ≡ None
+    → meaning_behind n before (ls ++ end_line ∷ []) ≡ Ok (program (onto ls before))
 read-through n before [] h e = rw e refl
 read-through n before (line ∷ ls) h e = rw (h.0, h.1) (read-through (n + 1) (with_line before line) ls h.2 e)
 

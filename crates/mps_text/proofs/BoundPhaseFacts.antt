@@ -15,15 +15,25 @@ use Rattle.mps_text.proofs.BlockFacts.{AreRead}
 use Rattle.mps_text.proofs.FieldFacts.{bound_fields}
 use Rattle.program_rows.specs.MpsProgram.{is_column}
 
-bound-read : (before : Sections) (name : List ℕ) (b : Bounds) → before.section ≡ codes "BOUNDS" → is_column before.columns name ≡ true → fault before (Data ((bound_words b).0 ∷ codes "BND" ∷ name ∷ (bound_words b).1 ∷ [])) ≡ None
+bound-read : (before : Sections) (name : List ℕ) (b : Bounds) → before.section ≡ codes "BOUNDS" → is_column before.columns name ≡ true
+    → fault before (Data ((bound_words b).0 ∷ codes "BND" ∷ name ∷ (bound_words b).1 ∷ [])) ≡ None
 unfolding fault number
 bound-read before name ZeroOrOne s known = rw (s, known) refl
 bound-read before name Zero s known = rw (s, known) refl
 bound-read before name One s known = rw (s, known) refl
 
-still_known : (before : Sections) (c : TableColumn) (columns : List TableColumn) → before.section ≡ codes "BOUNDS" → AllByRecursion (λ q. is_column before.columns q.name ≡ true) columns → AllByRecursion (λ q. is_column (with_line before (Data (bound_fields c))).columns q.name ≡ true) columns
-still_known before c columns s h = all_agree (λ q. is_column before.columns q.name ≡ true) (λ q. is_column (with_line before (Data (bound_fields c))).columns q.name ≡ true) columns (λ q k. rw s k) h
+still_known : (before : Sections) (c : TableColumn) (columns : List TableColumn) → before.section ≡ codes "BOUNDS"
+    → AllByRecursion (λ q. is_column before.columns q.name ≡ true) columns
+    → AllByRecursion (λ q. is_column (with_line before (Data (bound_fields c))).columns q.name ≡ true) columns
+still_known before c columns s h = all_agree (λ q. is_column before.columns q.name ≡ true)
+    (λ q. is_column (with_line before (Data (bound_fields c))).columns q.name ≡ true) columns (λ q k. rw s k) h
 
-pub bounds-read : (before : Sections) (columns : List TableColumn) → before.section ≡ codes "BOUNDS" → AllByRecursion (λ q. is_column before.columns q.name ≡ true) columns → AreRead before (map Data (map bound_fields columns))
+pub bounds-read : (before : Sections) (columns : List TableColumn) → before.section ≡ codes "BOUNDS"
+    → AllByRecursion (λ q. is_column before.columns q.name ≡ true) columns → AreRead before (map Data (map bound_fields columns))
 bounds-read before [] s h = tt
-bounds-read before (c ∷ columns) s h = (bound-read before c.name c.bounds s h.0, refl, bounds-read (with_line before (Data (bound_fields c))) columns s (still_known before c columns s h.1))
+bounds-read before (c ∷ columns) s h = (
+  bound-read before c.name c.bounds s h.0,
+  refl,
+  bounds-read (with_line before
+      (Data (bound_fields c))) columns s (still_known before c columns s h.1),
+)

@@ -31,15 +31,19 @@ pub record IsReady (before : Sections) (column : List ℕ) (pair : Pair) : Type 
 pub same-name : (name : List ℕ) → bytes_eq name name ≡ true
 same-name name = (bytes_eq-Decides name name).1 refl
 
-pair-read : (before : Sections) (column : List ℕ) (pair : Pair) → before.section ≡ codes "COLUMNS" → is_split before.columns column ≡ false → IsReady before column pair → fault before (Data (pair_fields column pair)) ≡ None
+pair-read : (before : Sections) (column : List ℕ) (pair : Pair) → before.section ≡ codes "COLUMNS" → is_split before.columns column ≡ false
+    → IsReady before column pair → fault before (Data (pair_fields column pair)) ≡ None
 unfolding fault
 pair-read before column pair s whole h = rw (s, h.plain, whole, h.declared, h.new, h.read) refl
 
 -- the next line of the column goes on with it
-goes_on : (before : Sections) (column : List ℕ) (pair : Pair) → before.section ≡ codes "COLUMNS" → bytes_eq pair.0 (codes "'MARKER'") ≡ false → is_split (with_line before (Data (pair_fields column pair))).columns column ≡ false
+goes_on : (before : Sections) (column : List ℕ) (pair : Pair) → before.section ≡ codes "COLUMNS"
+    → bytes_eq pair.0 (codes "'MARKER'") ≡ false → is_split (with_line before (Data (pair_fields column pair))).columns column ≡ false
 goes_on before column pair s plain = rw (s, plain, same-name column) refl
 
-still_ready : (before : Sections) (column : List ℕ) (pair other : Pair) → before.section ≡ codes "COLUMNS" → bytes_eq pair.0 (codes "'MARKER'") ≡ false → bytes_eq other.0 pair.0 ≡ false → IsReady before column other → IsReady (with_line before (Data (pair_fields column pair))) column other
+still_ready : (before : Sections) (column : List ℕ) (pair other : Pair) → before.section ≡ codes "COLUMNS"
+    → bytes_eq pair.0 (codes "'MARKER'") ≡ false → bytes_eq other.0 pair.0 ≡ false → IsReady before column other
+    → IsReady (with_line before (Data (pair_fields column pair))) column other
 still_ready before column pair other s plain differ h = record {
   declared = rw s h.declared;
   plain = h.plain;
@@ -51,14 +55,17 @@ abbrev AreReady : Sections → List ℕ → List Pair → Type 0
 AreReady before column pairs = AllByRecursion (IsReady before column) pairs
 
 -- the lines of one column
-pub pairs-read : (before : Sections) (column : List ℕ) (pairs : List Pair) → before.section ≡ codes "COLUMNS" → is_split before.columns column ≡ false → IsDistinct bytes_eq (map (λ pair. pair.0) pairs) → AreReady before column pairs → AreRead before (map Data (map (pair_fields column) pairs))
+pub pairs-read : (before : Sections) (column : List ℕ) (pairs : List Pair) → before.section ≡ codes "COLUMNS"
+    → is_split before.columns column ≡ false → IsDistinct bytes_eq (map (λ pair. pair.0) pairs) → AreReady before column pairs
+    → AreRead before (map Data (map (pair_fields column) pairs))
 unfolding IsDistinct
 pairs-read before column [] s whole differ h = tt
 pairs-read before column (pair ∷ pairs) s whole differ h = (
   pair-read before column pair s whole h.0,
   refl,
   pairs-read (with_line before (Data (pair_fields column pair))) column pairs s (goes_on before column pair s h.0.plain) differ.1
-      (others_kept (λ other. other.0) pair.0 (IsReady before column) (IsReady (with_line before (Data (pair_fields column pair))) column) pairs (λ other d k. still_ready before column pair other s h.0.plain (bytes_flip pair.0 other.0 d) k) differ.0 h.1),
+      (others_kept (λ other. other.0) pair.0 (IsReady before column) (IsReady (with_line before (Data (pair_fields column pair))) column)
+      pairs (λ other d k. still_ready before column pair other s h.0.plain (bytes_flip pair.0 other.0 d) k) differ.0 h.1),
 )
 
 -- a column with its pairs, the cost first
@@ -70,16 +77,20 @@ pub record IsNew (before : Sections) (column : List ℕ × List Pair) : Type 0 w
 not-split : (before : Sections) (column : List ℕ) → is_column before.columns column ≡ false → is_split before.columns column ≡ false
 not-split before column h = rw h refl
 
-other_ready : (before : Sections) (name column : List ℕ) (pair : Pair) (pairs : List Pair) → before.section ≡ codes "COLUMNS" → bytes_eq pair.0 (codes "'MARKER'") ≡ false → bytes_eq column name ≡ false
+other_ready : (before : Sections) (name column : List ℕ) (pair : Pair) (pairs : List Pair) → before.section ≡ codes "COLUMNS"
+    → bytes_eq pair.0 (codes "'MARKER'") ≡ false → bytes_eq column name ≡ false
     → AreReady before column pairs → AreReady (with_line before (Data (pair_fields name pair))) column pairs
-other_ready before name column pair pairs s plain differ h = all_agree (IsReady before column) (IsReady (with_line before (Data (pair_fields name pair))) column) pairs (λ other r. record {
-  declared = rw s r.declared;
-  plain = r.plain;
-  new = rw (s, plain, differ) r.new;
-  read = r.read;
-}) h
+other_ready before name column pair pairs s plain differ h =
+    all_agree (IsReady before column) (IsReady (with_line before (Data (pair_fields name pair))) column) pairs (λ other r. record {
+      declared = rw s r.declared;
+      plain = r.plain;
+      new = rw (s, plain, differ) r.new;
+      read = r.read;
+    }) h
 
-still_new : (before : Sections) (name : List ℕ) (pair : Pair) (column : List ℕ × List Pair) → before.section ≡ codes "COLUMNS" → bytes_eq pair.0 (codes "'MARKER'") ≡ false → bytes_eq column.0 name ≡ false → IsNew before column → IsNew (with_line before (Data (pair_fields name pair))) column
+still_new : (before : Sections) (name : List ℕ) (pair : Pair) (column : List ℕ × List Pair) → before.section ≡ codes "COLUMNS"
+    → bytes_eq pair.0 (codes "'MARKER'") ≡ false → bytes_eq column.0 name ≡ false → IsNew before column
+    → IsNew (with_line before (Data (pair_fields name pair))) column
 still_new before name pair column s plain differ h = record {
   name = rw (s, plain, differ) h.name;
   ready = other_ready before name column.0 pair column.1 s plain differ h.ready;
@@ -90,15 +101,19 @@ abbrev pub ArePlain : List Pair → Type 0
 ArePlain pairs = AllByRecursion (λ pair. bytes_eq pair.0 (codes "'MARKER'") ≡ false) pairs
 
 -- the lines of a column leave another column new
-new_behind : (before : Sections) (name : List ℕ) (pairs : List Pair) (column : List ℕ × List Pair) → before.section ≡ codes "COLUMNS" → ArePlain pairs → bytes_eq column.0 name ≡ false → IsNew before column → IsNew (onto (map Data (map (pair_fields name) pairs)) before) column
+new_behind : (before : Sections) (name : List ℕ) (pairs : List Pair) (column : List ℕ × List Pair) → before.section ≡ codes "COLUMNS"
+    → ArePlain pairs → bytes_eq column.0 name ≡ false → IsNew before column
+    → IsNew (onto (map Data (map (pair_fields name) pairs)) before) column
 new_behind before name [] column s h differ n = n
-new_behind before name (pair ∷ pairs) column s h differ n = new_behind (with_line before (Data (pair_fields name pair))) name pairs column s h.1 differ (still_new before name pair column s h.0 differ n)
+new_behind before name (pair ∷ pairs) column s h differ n = new_behind (with_line before (Data (pair_fields name pair))) name pairs column s
+    h.1 differ (still_new before name pair column s h.0 differ n)
 
 abbrev pub columns_lines : List (List ℕ × List Pair) → List Line
 columns_lines columns = flat_map (λ c. map Data (map (pair_fields c.0) c.1)) columns
 
 -- the lines of all columns
-pub columns-read : (before : Sections) (columns : List (List ℕ × List Pair)) → before.section ≡ codes "COLUMNS" → IsDistinct bytes_eq (map (λ c. c.0) columns) → AllByRecursion (IsNew before) columns → AreRead before (columns_lines columns)
+pub columns-read : (before : Sections) (columns : List (List ℕ × List Pair)) → before.section ≡ codes "COLUMNS"
+    → IsDistinct bytes_eq (map (λ c. c.0) columns) → AllByRecursion (IsNew before) columns → AreRead before (columns_lines columns)
 unfolding IsDistinct
 columns-read before [] s differ n = tt
 columns-read before (c ∷ columns) s differ n =
@@ -106,4 +121,6 @@ columns-read before (c ∷ columns) s differ n =
     AreRead-append before lines (columns_lines columns)
     (pairs-read before c.0 c.1 s (not-split before c.0 n.0.name) n.0.differ n.0.ready)
     (columns-read (onto lines before) columns (section-onto (map (pair_fields c.0) c.1) before ∙ s) differ.1
-    (others_kept (λ q. q.0) c.0 (IsNew before) (IsNew (onto lines before)) columns (λ q d k. new_behind before c.0 c.1 q s (all_agree (IsReady before c.0) (λ pair. bytes_eq pair.0 (codes "'MARKER'") ≡ false) c.1 (λ pair h. h.plain) n.0.ready) (bytes_flip c.0 q.0 d) k) differ.0 n.1))
+    (others_kept (λ q. q.0) c.0 (IsNew before) (IsNew (onto lines before)) columns
+    (λ q d k. new_behind before c.0 c.1 q s (all_agree (IsReady before c.0) (λ pair. bytes_eq pair.0 (codes "'MARKER'") ≡ false) c.1
+    (λ pair h. h.plain) n.0.ready) (bytes_flip c.0 q.0 d) k) differ.0 n.1))

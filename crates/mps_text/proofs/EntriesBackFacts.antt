@@ -28,13 +28,16 @@ worth found = option_map_or (λ pair. value pair.1) found (pos 0)
 abbrev pub PlacesDiffer : (ℕ → List ℕ) → ℕ → Type 0
 PlacesDiffer name n = (i j : ℕ) → i < j → j < n → bytes_eq (name i) (name j) ≡ false
 
-none-looked : (name : ℕ → List ℕ) (n i : ℕ) (es : List (ℕ × ℤ)) → PlacesDiffer name n → AreEntries n es → AllByRecursion (λ e. i < e.0) es → look (name i) (map (pair_of name) es) ≡ None
+none-looked : (name : ℕ → List ℕ) (n i : ℕ) (es : List (ℕ × ℤ)) → PlacesDiffer name n → AreEntries n es → AllByRecursion (λ e. i < e.0) es
+    → look (name i) (map (pair_of name) es) ≡ None
 none-looked name n i [] differ legal h = refl
 none-looked name n i (e ∷ es) differ legal h = rw (differ i e.0 h.0 legal.0) (none-looked name n i es differ legal.3 h.1)
 
 -- after the place of the first entry, only the others count
-later : (name : ℕ → List ℕ) (n : ℕ) (f : ℕ × TableRow → ℤ) (i : ℕ) (number : List ℕ) (pairs : List Pair) (k : ℕ) (rows : List TableRow) → PlacesDiffer name n → k + length rows ≤ n → i < k
-    → AllByRecursion (λ r. f r ≡ worth (look (name r.0) ((name i, number) ∷ pairs))) (enumerate_from k rows) → AllByRecursion (λ r. f r ≡ worth (look (name r.0) pairs)) (enumerate_from k rows)
+later : (name : ℕ → List ℕ) (n : ℕ) (f : ℕ × TableRow → ℤ) (i : ℕ) (number : List ℕ) (pairs : List Pair) (k : ℕ) (rows : List TableRow)
+    → PlacesDiffer name n → k + length rows ≤ n → i < k
+    → AllByRecursion (λ r. f r ≡ worth (look (name r.0) ((name i, number) ∷ pairs))) (enumerate_from k rows)
+    → AllByRecursion (λ r. f r ≡ worth (look (name r.0) pairs)) (enumerate_from k rows)
 later name n f i number pairs k [] differ len lt h = tt
 later name n f i number pairs k (r ∷ rows) differ len lt h = (
   h.0 ∙ rw (bytes_flip (name i) (name k) (differ i k lt (omega arith))) refl,
@@ -44,20 +47,24 @@ later name n f i number pairs k (r ∷ rows) differ len lt h = (
 not-nought : (z : ℤ) → z ≢ pos 0 → int_eq z (pos 0) ≡ false
 not-nought z h = false_from_ne_true _ (λ e. h ((Decides-int_eq z (pos 0)).0 e))
 
-pub entries-back : (name : ℕ → List ℕ) (n : ℕ) (f : ℕ × TableRow → ℤ) (k : ℕ) (rows : List TableRow) (es : List (ℕ × ℤ)) → PlacesDiffer name n → k + length rows ≡ n → AreEntries n es → AllByRecursion (λ e. k ≤ e.0) es
+pub entries-back : (name : ℕ → List ℕ) (n : ℕ) (f : ℕ × TableRow → ℤ) (k : ℕ) (rows : List TableRow) (es : List (ℕ × ℤ))
+    → PlacesDiffer name n → k + length rows ≡ n → AreEntries n es → AllByRecursion (λ e. k ≤ e.0) es
     → AllByRecursion (λ e. IsSmall e.1) es → AllByRecursion (λ r. f r ≡ worth (look (name r.0) (map (pair_of name) es))) (enumerate_from k rows)
     → filter (λ e. not (int_eq e.1 (pos 0))) (map (λ r. (r.0, f r)) (enumerate_from k rows)) ≡ es
 entries-back name n f k [] [] differ len legal from small h = refl
 entries-back name n f k [] (e ∷ es) differ len legal from small h = let a = legal.0 in let b = from.0 in absurd (omega arith)
 entries-back name n f k (r ∷ rows) [] differ len legal from small h = rw (h.0) (entries-back name n f (k + 1) rows [] differ (omega arith) tt tt tt h.1)
 entries-back name n f k (r ∷ rows) ((i, z) ∷ es) differ len legal from small h =
-    by (eq-or-lt_of_le from.0) (λ at. entries-back name n f (k + 1) rows es differ (omega arith) legal.3 (next at) small.1) (λ at. entries-back name n f (k + 1) rows ((i, z) ∷ es) differ (omega arith) legal (omega arith, all_agree (λ e. i < e.0) (λ e. k + 1 ≤ e.0) es (λ e l. omega arith) legal.2) small h.1)
+    by (eq-or-lt_of_le from.0) (λ at. entries-back name n f (k + 1) rows es differ (omega arith) legal.3 (next at) small.1)
+    (λ at. entries-back name n f (k + 1) rows ((i, z) ∷ es) differ (omega arith) legal
+    (omega arith, all_agree (λ e. i < e.0) (λ e. k + 1 ≤ e.0) es (λ e l. omega arith) legal.2) small h.1)
   where
     next : k ≡ i → AllByRecursion (λ e. k + 1 ≤ e.0) es
     next at = all_agree (λ e. i < e.0) (λ e. k + 1 ≤ e.0) es (λ e l. omega arith) legal.2
 
     by : (k ≡ i) ⊎ (k < i)
-        → (k ≡ i → AllByRecursion (λ q. f q ≡ worth (look (name q.0) (map (pair_of name) es))) (enumerate_from (k + 1) rows) → filter (λ e. not (int_eq e.1 (pos 0))) (map (λ q. (q.0, f q)) (enumerate_from (k + 1) rows)) ≡ es)
+        → (k ≡ i → AllByRecursion (λ q. f q ≡ worth (look (name q.0) (map (pair_of name) es))) (enumerate_from (k + 1) rows) → filter
+        (λ e. not (int_eq e.1 (pos 0))) (map (λ q. (q.0, f q)) (enumerate_from (k + 1) rows)) ≡ es)
         → (k < i → filter (λ e. not (int_eq e.1 (pos 0))) (map (λ q. (q.0, f q)) (enumerate_from (k + 1) rows)) ≡ (i, z) ∷ es)
         → filter (λ e. not (int_eq e.1 (pos 0))) (map (λ q. (q.0, f q)) (enumerate_from k (r ∷ rows))) ≡ (i, z) ∷ es
     by (inl at) here behind =
@@ -65,5 +72,9 @@ entries-back name n f k (r ∷ rows) ((i, z) ∷ es) differ len legal from small
         let value_at : f (k, r) ≡ z = h.0 ∙ rw (at, same-name (name i), number-signed_decimal z small.0) refl in
         rw (value_at, not-nought z legal.1, rest, at) refl
     by (inr lt) here behind =
-        let none : f (k, r) ≡ pos 0 = h.0 ∙ rw (differ k i lt legal.0, none-looked name n k es differ legal.3 (all_agree (λ e. i < e.0) (λ e. k < e.0) es (λ e l. omega arith) legal.2)) refl in
+        let none : f (k, r) ≡ pos 0 = h.0 ∙ rw (
+          differ k i lt legal.0,
+          none-looked name n k es differ legal.3 (all_agree (λ e. i < e.0)
+              (λ e. k < e.0) es (λ e l. omega arith) legal.2),
+        ) refl in
         rw none (behind lt)

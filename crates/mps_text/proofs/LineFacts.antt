@@ -1,5 +1,6 @@
 -- What is written line by line is read as the same lines.
-use Rattle.std.proofs.Common.{◌≡◌, ℕ, zero, suc, ◌-◌, ◌<◌, ◌≤◌, Bool, true, false, not, cond, List, [], ◌∷◌, ◌++◌, length, map, refl, sym, ap, ◌∙◌, append_assoc, arith}
+use Rattle.std.proofs.Common.{◌≡◌, ℕ, zero, suc, ◌-◌, ◌<◌, ◌≤◌, Bool, true, false, not, cond, List, [], ◌∷◌, ◌++◌, length}
+use Rattle.std.proofs.Common.{map, refl, sym, ap, ◌∙◌, append_assoc, arith}
 use Rattle.std.specs.Prelude.{◌==◌, filter, flat_map, slice_index, ◌≢◌, ◌||◌, ◌&&◌, nat_le}
 use Rattle.std.specs.Str.Lines.{strip_carriage_return}
 use Rattle.std.specs.List.{slice_split, onto_first, join_with_byte, list_all, All, AllByRecursion}
@@ -56,8 +57,12 @@ keeps bytes h = rw (no_return bytes (length bytes - 1) h) refl
 pub lines-line : (bytes rest : List ℕ) → AllByRecursion Plain bytes → lines_of (bytes ++ 10 ∷ rest) ≡ bytes ∷ lines_of rest
 lines-line bytes rest h =
     let more = split_some is_line_feed rest in
-    let parts : slice_split is_line_feed (bytes ++ 10 ∷ rest) ≡ bytes ∷ more.0 ∷ more.1 = slice_split_at is_line_feed bytes 10 rest (none-passes is_line_feed bytes (all_agree Plain (λ b. (b == 10) ≡ false) bytes (λ b p. p.0) h)) refl ∙ ap (λ (w : List (List ℕ)). bytes ∷ w) more.2 in
-    let first : lines_of_parts (slice_split is_line_feed (bytes ++ 10 ∷ rest)) ≡ bytes ∷ lines_of_parts (slice_split is_line_feed rest) = rw (parts, more.2, keeps bytes h) refl in
+    let parts : slice_split is_line_feed (bytes ++ 10 ∷ rest)
+    ≡ bytes ∷ more.0 ∷ more.1 = slice_split_at is_line_feed bytes 10 rest
+    (none-passes is_line_feed bytes (all_agree Plain (λ b. (b == 10) ≡ false) bytes (λ b p. p.0) h)) refl
+    ∙ ap (λ (w : List (List ℕ)). bytes ∷ w) more.2 in
+    let first : lines_of_parts (slice_split is_line_feed (bytes ++ 10 ∷ rest)) ≡ bytes ∷ lines_of_parts (slice_split is_line_feed rest) =
+    rw (parts, more.2, keeps bytes h) refl in
     lines_are (bytes ++ 10 ∷ rest) ∙ first ∙ ap (λ (w : List (List ℕ)). bytes ∷ w) (sym (lines_are rest))
 
 -- ---- fields
@@ -115,7 +120,8 @@ joined_text a (b ∷ more) h = list_all-append is_text_byte a (32 ∷ join_with_
 
 joined_plain : (a : List ℕ) (more : List (List ℕ)) → AllByRecursion IsField (a ∷ more) → AllByRecursion Plain (join_with_byte 32 (a ∷ more))
 joined_plain a [] h = all_agree Printable Plain a printable-plain h.0.1
-joined_plain a (b ∷ more) h = all_append Plain a (32 ∷ join_with_byte 32 (b ∷ more)) (all_agree Printable Plain a printable-plain h.0.1) ((refl, refl), joined_plain b more h.1)
+joined_plain a (b ∷ more) h = all_append Plain a (32 ∷ join_with_byte 32 (b ∷ more)) (all_agree Printable Plain a printable-plain h.0.1)
+    ((refl, refl), joined_plain b more h.1)
 
 not_none : (n : ℕ) → (suc n == 0) ≡ false
 not_none n = grind (arith, nat_tests)
@@ -156,12 +162,16 @@ pub read_again : (written_lines : List Line) → AllByRecursion IsWritten writte
 read_again [] h = refl
 read_again (Header word more ∷ after) h =
     let bytes = join_with_byte 32 (word ∷ more) in
-    let split : lines_of ((bytes ++ 10 ∷ []) ++ flat_map written after) ≡ bytes ∷ lines_of (flat_map written after) = ap lines_of (append_assoc bytes (10 ∷ []) (flat_map written after)) ∙ lines-line bytes (flat_map written after) (joined_plain word more h.0.1) in
+    let split : lines_of ((bytes ++ 10 ∷ []) ++ flat_map written after)
+    ≡ bytes ∷ lines_of (flat_map written after) = ap lines_of (append_assoc bytes (10 ∷ []) (flat_map written after))
+    ∙ lines-line bytes (flat_map written after) (joined_plain word more h.0.1) in
     rw (split, line_of-header word more h.0, read_again after h.1) refl
 read_again (Data [] ∷ after) h = absurd h.0
 read_again (Data (a ∷ more) ∷ after) h =
     let bytes = 32 ∷ join_with_byte 32 (a ∷ more) in
-    let split : lines_of ((bytes ++ 10 ∷ []) ++ flat_map written after) ≡ bytes ∷ lines_of (flat_map written after) = ap lines_of (append_assoc bytes (10 ∷ []) (flat_map written after)) ∙ lines-line bytes (flat_map written after) ((refl, refl), joined_plain a more h.0) in
+    let split : lines_of ((bytes ++ 10 ∷ []) ++ flat_map written after)
+    ≡ bytes ∷ lines_of (flat_map written after) = ap lines_of (append_assoc bytes (10 ∷ []) (flat_map written after))
+    ∙ lines-line bytes (flat_map written after) ((refl, refl), joined_plain a more h.0) in
     rw (split, line_of-data a more h.0, read_again after h.1) refl
 read_again (Skipped ∷ after) h = absurd h.0
 read_again (Unprintable ∷ after) h = absurd h.0

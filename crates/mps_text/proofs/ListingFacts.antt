@@ -45,7 +45,8 @@ places-differ (r ∷ rows) d zero (suc j) lt len = at-name (λ name. bytes_eq r.
 places-differ (r ∷ rows) d (suc i) (suc j) lt len = places-differ rows d.1 i j (omega arith) (omega arith)
 
 -- each row is at its place
-pub names-at : (all : List TableRow) (k : ℕ) (rows : List TableRow) → ((i : ℕ) → slice_get all (k + i) ≡ slice_get rows i) → AllByRecursion (λ r. row_name all r.0 ≡ r.1.name) (enumerate_from k rows)
+pub names-at : (all : List TableRow) (k : ℕ) (rows : List TableRow) → ((i : ℕ) → slice_get all (k + i) ≡ slice_get rows i)
+    → AllByRecursion (λ r. row_name all r.0 ≡ r.1.name) (enumerate_from k rows)
 names-at all k [] h = tt
 names-at all k (r ∷ rows) h =
     let here : slice_get all k ≡ Some r = ap (slice_get all) (omega arith) ∙ h 0 in
@@ -53,7 +54,8 @@ names-at all k (r ∷ rows) h =
 
 -- ---- the lines of the columns
 
-entry-lines : (rows : List TableRow) (name : List ℕ) (es : List (ℕ × ℤ)) → map (λ (e : ℕ × ℤ). name ∷ row_name rows e.0 ∷ signed_decimal e.1 ∷ []) es ≡ map (pair_fields name) (map (pair_of (row_name rows)) es)
+entry-lines : (rows : List TableRow) (name : List ℕ) (es : List (ℕ × ℤ))
+    → map (λ (e : ℕ × ℤ). name ∷ row_name rows e.0 ∷ signed_decimal e.1 ∷ []) es ≡ map (pair_fields name) (map (pair_of (row_name rows)) es)
 entry-lines rows name [] = refl
 entry-lines rows name (e ∷ es) = rw (entry-lines rows name es) refl
 
@@ -78,31 +80,43 @@ abbrev pub IsPlainName : List ℕ → Type 0
 IsPlainName name = bytes_eq name (codes "'MARKER'") ≡ false
 
 -- what holds of the names of rows holds of those of entries
-entries-named : (P : List ℕ → Type 0) (rows : List TableRow) (es : List (ℕ × ℤ)) → AllByRecursion P (row_names rows) → AreEntries (length rows) es → AllByRecursion (λ pair. P pair.0) (map (pair_of (row_name rows)) es)
+entries-named : (P : List ℕ → Type 0) (rows : List TableRow) (es : List (ℕ × ℤ)) → AllByRecursion P (row_names rows)
+    → AreEntries (length rows) es → AllByRecursion (λ pair. P pair.0) (map (pair_of (row_name rows)) es)
 entries-named P rows [] h legal = tt
 entries-named P rows (e ∷ es) h legal = (at-name P rows e.0 h legal.0, entries-named P rows es h legal.3)
 
-pub all-plain : (p : Table) (cs : List TableColumn) → AllByRecursion IsPlainName (p.objective ∷ row_names p.rows) → AllByRecursion (λ c. AreEntries (length p.rows) c.entries) cs → AllByRecursion (λ c. ArePlain c.1) (all_listed p cs)
+pub all-plain : (p : Table) (cs : List TableColumn) → AllByRecursion IsPlainName (p.objective ∷ row_names p.rows)
+    → AllByRecursion (λ c. AreEntries (length p.rows) c.entries) cs → AllByRecursion (λ c. ArePlain c.1) (all_listed p cs)
 all-plain p [] plain legal = tt
 all-plain p (c ∷ cs) plain legal = ((plain.0, entries-named IsPlainName p.rows c.entries plain.1 legal.0), all-plain p cs plain legal.1)
 
 -- ---- the rows of a column differ
 
-after-entry : (rows : List TableRow) (i : ℕ) (es : List (ℕ × ℤ)) → PlacesDiffer (row_name rows) (length rows) → AllByRecursion (λ later. i < later.0) es → AreEntries (length rows) es
+after-entry : (rows : List TableRow) (i : ℕ) (es : List (ℕ × ℤ)) → PlacesDiffer (row_name rows) (length rows)
+    → AllByRecursion (λ later. i < later.0) es → AreEntries (length rows) es
     → AllByRecursion (λ other. bytes_eq (row_name rows i) other ≡ false) (map (λ pair. pair.0) (map (pair_of (row_name rows)) es))
 after-entry rows i [] differ h legal = tt
 after-entry rows i (e ∷ es) differ h legal = (differ i e.0 h.0 legal.0, after-entry rows i es differ h.1 legal.3)
 
-entries-differ : (rows : List TableRow) (es : List (ℕ × ℤ)) → PlacesDiffer (row_name rows) (length rows) → AreEntries (length rows) es → IsDistinct bytes_eq (map (λ pair. pair.0) (map (pair_of (row_name rows)) es))
+entries-differ : (rows : List TableRow) (es : List (ℕ × ℤ)) → PlacesDiffer (row_name rows) (length rows) → AreEntries (length rows) es
+    → IsDistinct bytes_eq (map (λ pair. pair.0) (map (pair_of (row_name rows)) es))
 unfolding IsDistinct
 entries-differ rows [] differ legal = tt
 entries-differ rows (e ∷ es) differ legal = (after-entry rows e.0 es differ legal.2 legal.3, entries-differ rows es differ legal.3)
 
-pub pairs-differ : (p : Table) (c : TableColumn) → IsDistinct bytes_eq (p.objective ∷ row_names p.rows) → AreEntries (length p.rows) c.entries → IsDistinct bytes_eq (map (λ pair. pair.0) (pairs_of p c))
+pub pairs-differ : (p : Table) (c : TableColumn) → IsDistinct bytes_eq (p.objective ∷ row_names p.rows)
+    → AreEntries (length p.rows) c.entries → IsDistinct bytes_eq (map (λ pair. pair.0) (pairs_of p c))
 unfolding IsDistinct
-pairs-differ p c d legal = (each_map (λ other. bytes_eq p.objective other ≡ false) (λ pair. pair.0) (map (pair_of (row_name p.rows)) c.entries) (entries-named (λ other. bytes_eq p.objective other ≡ false) p.rows c.entries d.0 legal), entries-differ p.rows c.entries (places-differ p.rows d.1) legal)
+pairs-differ p c d legal = (
+  each_map (λ other. bytes_eq p.objective other ≡ false) (λ pair. pair.0) (map (pair_of (row_name p.rows))
+      c.entries) (entries-named (λ other. bytes_eq p.objective other ≡ false) p.rows c.entries d.0 legal),
+  entries-differ p.rows c.entries
+      (places-differ p.rows d.1) legal,
+)
 
-pub all-pairs-differ : (p : Table) (cs : List TableColumn) → IsDistinct bytes_eq (p.objective ∷ row_names p.rows) → AllByRecursion (λ c. AreEntries (length p.rows) c.entries) cs → AllByRecursion (λ c. IsDistinct bytes_eq (map (λ pair. pair.0) c.1)) (all_listed p cs)
+pub all-pairs-differ : (p : Table) (cs : List TableColumn) → IsDistinct bytes_eq (p.objective ∷ row_names p.rows)
+    → AllByRecursion (λ c. AreEntries (length p.rows) c.entries) cs
+    → AllByRecursion (λ c. IsDistinct bytes_eq (map (λ pair. pair.0) c.1)) (all_listed p cs)
 all-pairs-differ p [] d legal = tt
 all-pairs-differ p (c ∷ cs) d legal = (pairs-differ p c d legal.0, all-pairs-differ p cs d legal.1)
 
@@ -112,19 +126,29 @@ pub any-keeps : (q : LineFields → Bool) (xs before : List LineFields) → list
 any-keeps q [] before h = h
 any-keeps q (x ∷ xs) before h = any-keeps q xs (x ∷ before) (or_right (q x) (list_any q before) h)
 
-pub rows-declared : (rows : List TableRow) (before : List LineFields) → AllByRecursion (λ name. list_any (λ row. bytes_eq name (field 1 row)) (push (map row_fields rows) before) ≡ true) (row_names rows)
+pub rows-declared : (rows : List TableRow) (before : List LineFields)
+    → AllByRecursion (λ name. list_any (λ row. bytes_eq name (field 1 row)) (push (map row_fields rows) before) ≡ true) (row_names rows)
 rows-declared [] before = tt
-rows-declared (r ∷ rows) before =
-    (any-keeps (λ row. bytes_eq r.name (field 1 row)) (map row_fields rows) (row_fields r ∷ before) (rw (same-name r.name) refl), rows-declared rows (row_fields r ∷ before))
+rows-declared (r ∷ rows) before = (
+  any-keeps (λ row. bytes_eq r.name (field 1 row)) (map row_fields rows) (row_fields r ∷ before) (rw (same-name r.name)
+      refl),
+  rows-declared rows (row_fields r ∷ before),
+)
 
-column-named : (name : List ℕ) (pairs : List Pair) (before : List LineFields) → IsFilled pairs → list_any (λ f. bytes_eq name (field 0 f)) (push (map (pair_fields name) pairs) before) ≡ true
+column-named : (name : List ℕ) (pairs : List Pair) (before : List LineFields) → IsFilled pairs
+    → list_any (λ f. bytes_eq name (field 0 f)) (push (map (pair_fields name) pairs) before) ≡ true
 column-named name [] before f = absurd f
-column-named name (pair ∷ pairs) before f = any-keeps (λ q. bytes_eq name (field 0 q)) (map (pair_fields name) pairs) (pair_fields name pair ∷ before) (rw (same-name name) refl)
+column-named name (pair ∷ pairs) before f =
+    any-keeps (λ q. bytes_eq name (field 0 q)) (map (pair_fields name) pairs) (pair_fields name pair ∷ before) (rw (same-name name) refl)
 
-pub columns-named : (p : Table) (cs : List TableColumn) (before : List LineFields) → AllByRecursion (λ c. list_any (λ f. bytes_eq c.name (field 0 f)) (push (plain_lines (all_listed p cs)) before) ≡ true) cs
+pub columns-named : (p : Table) (cs : List TableColumn) (before : List LineFields)
+    → AllByRecursion (λ c. list_any (λ f. bytes_eq c.name (field 0 f)) (push (plain_lines (all_listed p cs)) before) ≡ true) cs
 columns-named p [] before = tt
 columns-named p (c ∷ cs) before =
     let chunk = map (pair_fields c.name) (pairs_of p c) in
     let rest = plain_lines (all_listed p cs) in
-    subst (λ (w : List LineFields). AllByRecursion (λ q. list_any (λ f. bytes_eq q.name (field 0 f)) w ≡ true) (c ∷ cs)) (sym (push-append chunk rest before))
-    (any-keeps (λ q. bytes_eq c.name (field 0 q)) rest (push chunk before) (column-named c.name (pairs_of p c) before tt), columns-named p cs (push chunk before))
+    subst (λ (w : List LineFields). AllByRecursion (λ q. list_any (λ f. bytes_eq q.name (field 0 f)) w ≡ true) (c ∷ cs)) (sym (push-append chunk rest before)) (
+      any-keeps (λ q. bytes_eq c.name (field 0 q)) rest (push chunk before) (column-named c.name (pairs_of p c) before
+          tt),
+      columns-named p cs (push chunk before),
+    )

@@ -54,14 +54,22 @@ whole_scale : (n : ℕ) → ((n * 1) % 1 == 0) ≡ true
 whole_scale n = eq-eqb _ _ (omega arith)
 
 -- digits, after a minus or not
-pub number-digits : (token ds : List ℕ) → without_sign token ≡ ds → list_any is_exponent_mark token ≡ false → Digits ds → 0 < length ds → length ds ≤ 30 → digits_value 10 ds ≤ 10 ^ 18
+pub number-digits : (token ds : List ℕ) → without_sign token ≡ ds → list_any is_exponent_mark token ≡ false → Digits ds → 0 < length ds
+    → length ds ≤ 30 → digits_value 10 ds ≤ 10 ^ 18
     → number token ≡ Ok (signed (is_minus token) (digits_value 10 ds))
 unfolding number
 number-digits token ds e marks h some short small =
     let n = digits_value 10 ds in
     let one : n * 1 / 1 ≡ n = omega arith in
     let at_most : nat_lt (10 ^ 18) n ≡ false = le-ltb _ _ small in
-    rw (e, marks) (rw (none-before is_exponent_mark no_mark ds h, none-after is_exponent_mark no_mark ds h) (rw (none-before (λ (c : ℕ). c == 46) no_point ds h, none-after (λ (c : ℕ). c == 46) no_point ds h) (rw (append-nil ds) (rw (lt-ltb 0 (length ds) some, all_pass is_ascii_digit ds (all_agree Digit (λ b. is_ascii_digit b ≡ true) ds is_digit h), le-ltb 30 (length ds) short) (rw (whole_scale n, one, at_most) refl)))))
+    rw (e, marks) (rw (none-before is_exponent_mark no_mark ds h, none-after is_exponent_mark no_mark ds h)
+    (rw (none-before (λ (c : ℕ). c == 46) no_point ds h, none-after (λ (c : ℕ). c == 46) no_point ds h)
+    (rw (append-nil ds) (rw (
+      lt-ltb 0 (length ds) some,
+      all_pass is_ascii_digit ds (all_agree Digit (λ b. is_ascii_digit b ≡ true) ds
+          is_digit h),
+      le-ltb 30 (length ds) short,
+    ) (rw (whole_scale n, one, at_most) refl)))))
 
 first_digit : (ds : List ℕ) → Digits ds → 0 < length ds → Digit (slice_index ds 0)
 first_digit [] h some = absurd (omega arith)
@@ -79,16 +87,19 @@ number-signed_decimal (pos n) small =
     let d = decimal_is_IsNumeral n (omega arith) in
     let ds = digits_from (decimal n) d.0.1 in
     let s = unsigned (decimal n) ds d.0.0 in
-    let read = number-digits (decimal n) (decimal n) s.1 (no_marks (decimal n) ds) ds d.0.0 (length-decimal-le 30 n (omega arith) (omega arith) (omega arith)) (rw d.1 small) in
+    let read = number-digits (decimal n) (decimal n) s.1 (no_marks (decimal n) ds) ds d.0.0
+    (length-decimal-le 30 n (omega arith) (omega arith) (omega arith)) (rw d.1 small) in
     read ∙ rw (s.0, d.1) refl
 number-signed_decimal (negsuc n) small =
     let d = decimal_is_IsNumeral (suc n) (omega arith) in
     let ds = digits_from (decimal (suc n)) d.0.1 in
-    let read = number-digits (45 ∷ decimal (suc n)) (decimal (suc n)) refl (no_marks (decimal (suc n)) ds) ds d.0.0 (length-decimal-le 30 (suc n) (omega arith) (omega arith) (omega arith)) (rw d.1 (omega arith)) in
+    let read = number-digits (45 ∷ decimal (suc n)) (decimal (suc n)) refl (no_marks (decimal (suc n)) ds) ds d.0.0
+    (length-decimal-le 30 (suc n) (omega arith) (omega arith) (omega arith)) (rw d.1 (omega arith)) in
     read ∙ rw d.1 refl
 
 pub IsField-decimal : (n : ℕ) → n < 2 ^ 64 → IsField (decimal n)
-IsField-decimal n small = let d = decimal_is_IsNumeral n small in (d.0.0, all_agree Digit Printable (decimal n) (λ b h. (omega arith, omega arith)) (digits_from (decimal n) d.0.1))
+IsField-decimal n small = let d = decimal_is_IsNumeral n small in
+    (d.0.0, all_agree Digit Printable (decimal n) (λ b h. (omega arith, omega arith)) (digits_from (decimal n) d.0.1))
 
 pub IsField-signed_decimal : (z : ℤ) → IsSmall z → IsField (signed_decimal z)
 IsField-signed_decimal (pos n) small = IsField-decimal n (omega arith)

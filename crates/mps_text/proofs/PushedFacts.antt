@@ -31,7 +31,8 @@ pub holds-rows : (lines rs cs ss bs : List LineFields) → onto (map Data lines)
 holds-rows [] rs cs ss bs = refl
 holds-rows (line ∷ lines) rs cs ss bs = holds-rows lines (line ∷ rs) cs ss bs
 
-pub holds-columns : (lines rs cs ss bs : List LineFields) → onto (map Data lines) (held (codes "COLUMNS") rs cs ss bs) ≡ held (codes "COLUMNS") rs (push lines cs) ss bs
+pub holds-columns : (lines rs cs ss bs : List LineFields)
+    → onto (map Data lines) (held (codes "COLUMNS") rs cs ss bs) ≡ held (codes "COLUMNS") rs (push lines cs) ss bs
 holds-columns [] rs cs ss bs = refl
 holds-columns (line ∷ lines) rs cs ss bs = holds-columns lines rs (line ∷ cs) ss bs
 
@@ -39,6 +40,7 @@ pub holds-sides : (lines rs cs ss bs : List LineFields) → onto (map Data lines
 holds-sides [] rs cs ss bs = refl
 holds-sides (line ∷ lines) rs cs ss bs = holds-sides lines rs cs (line ∷ ss) bs
 
-pub holds-bounds : (lines rs cs ss bs : List LineFields) → onto (map Data lines) (held (codes "BOUNDS") rs cs ss bs) ≡ held (codes "BOUNDS") rs cs ss (push lines bs)
+pub holds-bounds : (lines rs cs ss bs : List LineFields)
+    → onto (map Data lines) (held (codes "BOUNDS") rs cs ss bs) ≡ held (codes "BOUNDS") rs cs ss (push lines bs)
 holds-bounds [] rs cs ss bs = refl
 holds-bounds (line ∷ lines) rs cs ss bs = holds-bounds lines rs cs ss (line ∷ bs)

@@ -27,7 +27,8 @@ right_side-read : (before : Sections) (r : TableRow) → before.section ≡ code
 unfolding fault
 right_side-read before r s h = rw (s, h.declared, h.new, number-signed_decimal r.right_side h.small, h.bound) refl
 
-still_ready : (before : Sections) (r q : TableRow) → before.section ≡ codes "RHS" → bytes_eq r.name q.name ≡ false → Ready before q → Ready (with_line before (Data (right_side_fields r))) q
+still_ready : (before : Sections) (r q : TableRow) → before.section ≡ codes "RHS" → bytes_eq r.name q.name ≡ false → Ready before q
+    → Ready (with_line before (Data (right_side_fields r))) q
 still_ready before r q s differ h = record {
   declared = rw s h.declared;
   new = rw (s, bytes_flip r.name q.name differ) h.new;
@@ -35,11 +36,18 @@ still_ready before r q s differ h = record {
   small = h.small;
 }
 
-pub right_sides-read : (before : Sections) (rows : List TableRow) → before.section ≡ codes "RHS" → IsDistinct bytes_eq (map (λ q. q.name) rows) → AllByRecursion (Ready before) rows → AreRead before (map Data (map right_side_fields rows))
+pub right_sides-read : (before : Sections) (rows : List TableRow) → before.section ≡ codes "RHS"
+    → IsDistinct bytes_eq (map (λ q. q.name) rows) → AllByRecursion (Ready before) rows
+    → AreRead before (map Data (map right_side_fields rows))
 unfolding IsDistinct
 right_sides-read before [] s differ h = tt
-right_sides-read before (r ∷ rows) s differ h =
-    (right_side-read before r s h.0, refl, right_sides-read (with_line before (Data (right_side_fields r))) rows s differ.1 (others_kept (λ q. q.name) r.name (Ready before) (Ready (with_line before (Data (right_side_fields r)))) rows (λ q d k. still_ready before r q s d k) differ.0 h.1))
+right_sides-read before (r ∷ rows) s differ h = (
+  right_side-read before r s h.0,
+  refl,
+  right_sides-read (with_line before (Data (right_side_fields r))) rows s differ.1 (others_kept
+      (λ q. q.name) r.name (Ready before) (Ready (with_line before (Data (right_side_fields r)))) rows
+      (λ q d k. still_ready before r q s d k) differ.0 h.1),
+)
 
 -- ---- looking up by name in lines that are listed with the nearest first
 

@@ -49,7 +49,9 @@ abbrev nobody : ℕ → Bool
 nobody b = false
 
 -- only the third bidder has a form
-one_form : presolved_text lots ([] ∷ [] ∷ gamma ∷ []) nobody ≡ codes "NAME wdp\nROWS\n N OBJ\n L B3\n L C1\n L C2\nCOLUMNS\n M1 'MARKER' 'INTORG'\n X3_1 OBJ -12\n X3_1 B3 1\n X3_1 C2 1\n M2 'MARKER' 'INTEND'\nRHS\n RHS B3 1\n RHS C1 2\n RHS C2 1\nBOUNDS\n UP BND X3_1 1\nENDATA\n"
+one_form : presolved_text lots ([] ∷ [] ∷ gamma ∷ []) nobody
+    ≡ codes
+    "NAME wdp\nROWS\n N OBJ\n L B3\n L C1\n L C2\nCOLUMNS\n M1 'MARKER' 'INTORG'\n X3_1 OBJ -12\n X3_1 B3 1\n X3_1 C2 1\n M2 'MARKER' 'INTEND'\nRHS\n RHS B3 1\n RHS C1 2\n RHS C2 1\nBOUNDS\n UP BND X3_1 1\nENDATA\n"
 unfolding text digits
 one_form = refl
 
@@ -58,31 +60,37 @@ unfolding text digits
 no_form = refl
 
 -- the first bidder's third bid is dominated by its first, and the second bidder's second asks too much
-all_forms : presolved_text lots book nobody ≡ codes "NAME wdp\nROWS\n N OBJ\n L B1\n L B2\n L B3\n L C1\n L C2\nCOLUMNS\n M1 'MARKER' 'INTORG'\n X1_1 OBJ -30\n X1_1 B1 1\n X1_1 C1 1\n X1_2 OBJ -50\n X1_2 B1 1\n X1_2 C1 2\n X1_2 C2 1\n X2_1 OBJ -20\n X2_1 B2 1\n X2_1 C1 1\n X3_1 OBJ -12\n X3_1 B3 1\n X3_1 C2 1\n M2 'MARKER' 'INTEND'\nRHS\n RHS B1 1\n RHS B2 1\n RHS B3 1\n RHS C1 2\n RHS C2 1\nBOUNDS\n UP BND X1_1 1\n UP BND X1_2 1\n UP BND X2_1 1\n UP BND X3_1 1\nENDATA\n"
+all_forms : presolved_text lots book nobody ≡ codes
+    "NAME wdp\nROWS\n N OBJ\n L B1\n L B2\n L B3\n L C1\n L C2\nCOLUMNS\n M1 'MARKER' 'INTORG'\n X1_1 OBJ -30\n X1_1 B1 1\n X1_1 C1 1\n X1_2 OBJ -50\n X1_2 B1 1\n X1_2 C1 2\n X1_2 C2 1\n X2_1 OBJ -20\n X2_1 B2 1\n X2_1 C1 1\n X3_1 OBJ -12\n X3_1 B3 1\n X3_1 C2 1\n M2 'MARKER' 'INTEND'\nRHS\n RHS B1 1\n RHS B2 1\n RHS B3 1\n RHS C1 2\n RHS C2 1\nBOUNDS\n UP BND X1_1 1\n UP BND X1_2 1\n UP BND X2_1 1\n UP BND X3_1 1\nENDATA\n"
 unfolding text digits
 all_forms = refl
 
 -- at 40 for a lot that is left only the third bidder pays, and the last column is fixed at 1
-constant_column : presolved_text (valued 40) book nobody ≡ codes "NAME wdp\nROWS\n N OBJ\n L B3\n L C1\n L C2\nCOLUMNS\n M1 'MARKER' 'INTORG'\n X3_1 OBJ -12\n X3_1 B3 1\n X3_1 C2 1\n K OBJ -80\n M2 'MARKER' 'INTEND'\nRHS\n RHS B3 1\n RHS C1 2\n RHS C2 1\nBOUNDS\n UP BND X3_1 1\n FX BND K 1\nENDATA\n"
+constant_column : presolved_text (valued 40) book nobody ≡ codes
+    "NAME wdp\nROWS\n N OBJ\n L B3\n L C1\n L C2\nCOLUMNS\n M1 'MARKER' 'INTORG'\n X3_1 OBJ -12\n X3_1 B3 1\n X3_1 C2 1\n K OBJ -80\n M2 'MARKER' 'INTEND'\nRHS\n RHS B3 1\n RHS C1 2\n RHS C2 1\nBOUNDS\n UP BND X3_1 1\n FX BND K 1\nENDATA\n"
 unfolding text digits
 constant_column = refl
 
 -- at 20 the second bidder's first bid pays nothing more, and its cost of 0 is written
-no_cost : presolved_text (valued 20) book nobody ≡ codes "NAME wdp\nROWS\n N OBJ\n L B1\n L B2\n L B3\n L C1\n L C2\nCOLUMNS\n M1 'MARKER' 'INTORG'\n X1_1 OBJ -10\n X1_1 B1 1\n X1_1 C1 1\n X2_1 OBJ 0\n X2_1 B2 1\n X2_1 C1 1\n X3_1 OBJ -12\n X3_1 B3 1\n X3_1 C2 1\n K OBJ -40\n M2 'MARKER' 'INTEND'\nRHS\n RHS B1 1\n RHS B2 1\n RHS B3 1\n RHS C1 2\n RHS C2 1\nBOUNDS\n UP BND X1_1 1\n UP BND X2_1 1\n UP BND X3_1 1\n FX BND K 1\nENDATA\n"
+no_cost : presolved_text (valued 20) book nobody ≡ codes
+    "NAME wdp\nROWS\n N OBJ\n L B1\n L B2\n L B3\n L C1\n L C2\nCOLUMNS\n M1 'MARKER' 'INTORG'\n X1_1 OBJ -10\n X1_1 B1 1\n X1_1 C1 1\n X2_1 OBJ 0\n X2_1 B2 1\n X2_1 C1 1\n X3_1 OBJ -12\n X3_1 B3 1\n X3_1 C2 1\n K OBJ -40\n M2 'MARKER' 'INTEND'\nRHS\n RHS B1 1\n RHS B2 1\n RHS B3 1\n RHS C1 2\n RHS C2 1\nBOUNDS\n UP BND X1_1 1\n UP BND X2_1 1\n UP BND X3_1 1\n FX BND K 1\nENDATA\n"
 unfolding text digits
 no_cost = refl
 
 -- the row of a pool comes after those of the categories
-row_of_a_pool : presolved_text pooled book nobody ≡ codes "NAME wdp\nROWS\n N OBJ\n L B1\n L B2\n L B3\n L C1\n L C2\n L P1\nCOLUMNS\n M1 'MARKER' 'INTORG'\n X1_1 OBJ -30\n X1_1 B1 1\n X1_1 C1 1\n X1_1 P1 1\n X2_1 OBJ -20\n X2_1 B2 1\n X2_1 C1 1\n X2_1 P1 1\n X3_1 OBJ -12\n X3_1 B3 1\n X3_1 C2 1\n X3_1 P1 1\n M2 'MARKER' 'INTEND'\nRHS\n RHS B1 1\n RHS B2 1\n RHS B3 1\n RHS C1 2\n RHS C2 1\n RHS P1 2\nBOUNDS\n UP BND X1_1 1\n UP BND X2_1 1\n UP BND X3_1 1\nENDATA\n"
+row_of_a_pool : presolved_text pooled book nobody ≡ codes
+    "NAME wdp\nROWS\n N OBJ\n L B1\n L B2\n L B3\n L C1\n L C2\n L P1\nCOLUMNS\n M1 'MARKER' 'INTORG'\n X1_1 OBJ -30\n X1_1 B1 1\n X1_1 C1 1\n X1_1 P1 1\n X2_1 OBJ -20\n X2_1 B2 1\n X2_1 C1 1\n X2_1 P1 1\n X3_1 OBJ -12\n X3_1 B3 1\n X3_1 C2 1\n X3_1 P1 1\n M2 'MARKER' 'INTEND'\nRHS\n RHS B1 1\n RHS B2 1\n RHS B3 1\n RHS C1 2\n RHS C2 1\n RHS P1 2\nBOUNDS\n UP BND X1_1 1\n UP BND X2_1 1\n UP BND X3_1 1\nENDATA\n"
 unfolding text digits
 row_of_a_pool = refl
 
 -- without the second bidder
-left_out : map choice_of (kept_of lots book (λ b. b == 2)) ≡ record { bidder = 1; bid = 1 } ∷ record { bidder = 1; bid = 2 } ∷ record { bidder = 3; bid = 1 } ∷ []
+left_out : map choice_of (kept_of lots book (λ b. b == 2))
+    ≡ record { bidder = 1; bid = 1 } ∷ record { bidder = 1; bid = 2 } ∷ record { bidder = 3; bid = 1 } ∷ []
 left_out = refl
 
 -- a least point: the first columns of each bidder
-least : back (program_of lots (kept_of lots book nobody)).columns (true ∷ false ∷ true ∷ true ∷ []) ≡ record { bidder = 1; bid = 1 } ∷ record { bidder = 2; bid = 1 } ∷ record { bidder = 3; bid = 1 } ∷ []
+least : back (program_of lots (kept_of lots book nobody)).columns (true ∷ false ∷ true ∷ true ∷ [])
+    ≡ record { bidder = 1; bid = 1 } ∷ record { bidder = 2; bid = 1 } ∷ record { bidder = 3; bid = 1 } ∷ []
 unfolding column_bid digits
 least = refl
 

@@ -23,9 +23,11 @@ presolved_text lots book group = text (program_of lots (kept_of lots book group)
 
 -- it is faithful
 abbrev pub PresolvedTextIsFaithful : Type 0
-PresolvedTextIsFaithful = (lots : Lots) (book : Book) (group : ℕ → Bool) → IsLots lots → IsBook lots book → IsFaithfulText lots book group (presolved_text lots book group)
+PresolvedTextIsFaithful = (lots : Lots) (book : Book) (group : ℕ → Bool) → IsLots lots → IsBook lots book
+    → IsFaithfulText lots book group (presolved_text lots book group)
 
 -- a point of least objective of a faithful text maps back to a feasible allocation of greatest total
 abbrev pub LeastOfTextIsGreatest : Type 0
 LeastOfTextIsGreatest = (lots : Lots) (book : Book) (group : ℕ → Bool) (bytes : List ℕ) → IsFaithfulText lots book group bytes
-    → (program : Table) → meaning bytes ≡ Ok program → (values : List Bool) → IsPoint program values → IsLeast program values → IsGreatest lots book group (back program.columns values)
+    → (program : Table) → meaning bytes ≡ Ok program → (values : List Bool) → IsPoint program values → IsLeast program values
+    → IsGreatest lots book group (back program.columns values)

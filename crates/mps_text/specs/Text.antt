@@ -37,12 +37,14 @@ abbrev pub if_any : {X : Type 0} → List TableColumn → List X → List X
 if_any [] lines = []
 if_any (c ∷ columns) lines = lines
 
--- its lines in their order: each row, each column with its cost, also if that is 0, and its entries, between markers, each right side, and the bounds of each column
+-- its lines in their order: each row, each column with its cost, also if that is 0, and its entries, between markers, each right side, and
+-- the bounds of each column
 unfoldable pub text : Table → List ℕ
 text p = flat_map written (
     Header (codes "NAME") (codes "wdp" ∷ []) ∷ block (codes "ROWS") ((codes "N" ∷ p.objective ∷ []) ∷ map (λ r. kind_letter r.kind ∷ r.name ∷ []) p.rows)
     ++ block (codes "COLUMNS") (if_any p.columns ((codes "M1" ∷ codes "'MARKER'" ∷ codes "'INTORG'" ∷ [])
-    ∷ flat_map (λ c. (c.name ∷ p.objective ∷ signed_decimal c.cost ∷ []) ∷ map (λ e. c.name ∷ row_name p.rows e.0 ∷ signed_decimal e.1 ∷ []) c.entries) p.columns
+    ∷ flat_map (λ c. (c.name ∷ p.objective ∷ signed_decimal c.cost ∷ []) ∷ map (λ e. c.name ∷ row_name p.rows e.0 ∷ signed_decimal e.1 ∷ [])
+    c.entries) p.columns
     ++ (codes "M2" ∷ codes "'MARKER'" ∷ codes "'INTEND'" ∷ []) ∷ []))
     ++ block (codes "RHS") (map (λ r. codes "RHS" ∷ r.name ∷ signed_decimal r.right_side ∷ []) p.rows)
     ++ if_any p.columns (block (codes "BOUNDS") (map (λ c. (bound_words c.bounds).0 ∷ codes "BND" ∷ c.name ∷ (bound_words c.bounds).1 ∷ []) p.columns))

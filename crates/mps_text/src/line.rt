@@ -51,7 +51,8 @@ fn write_end(line: &mut [u8], at: usize, number: u8) -> usize
     at + 4
 }
 
-/// Writes the front of a line, the name of a row and a number from a place on, and returns where the line ends. The front is copied with all of its room, which takes no loop; what follows its end is written over.
+/// Writes the front of a line, the name of a row and a number from a place on, and returns where the line ends. The front is
+/// copied with all of its room, which takes no loop; what follows its end is written over.
 #[inline(always)]
 pub fn write_line(
     lines: &mut [u8],

@@ -1,5 +1,7 @@
 -- Forms that give each place the same can stand for one another.
-use Rattle.std.proofs.Common.{◌≡◌, ℕ, zero, suc, ◌+◌, ◌<◌, ◌≤◌, Bool, true, false, cond, List, [], ◌∷◌, ◌++◌, Option, Some, None, Result, Ok, Err, inl, inr, length, refl, subst, sym, ap, ap₂, ◌∙◌, arith, ℤ, pos, neg_ℤ, ◌+ℤ◌}
+use Rattle.std.proofs.Common.{◌≡◌, ℕ, zero, suc, ◌+◌, ◌<◌, ◌≤◌, Bool, true, false, cond, List, [], ◌∷◌, ◌++◌, Option, Some}
+use Rattle.std.proofs.Common.{None, Result, Ok, Err, inl, inr, length, refl, subst, sym, ap, ap₂, ◌∙◌, arith, ℤ, pos, neg_ℤ}
+use Rattle.std.proofs.Common.{◌+ℤ◌}
 use Rattle.std.specs.Prelude.{◌*◌, ◌^◌, ◌*ℤ◌, ◌-ℤ◌, ◌==◌, if◌then◌else◌, int_lt, unsigned_abs}
 use Rattle.std.specs.List.{zip}
 use native.Mathlib.Nat.{mul-le-mul_left}
@@ -73,7 +75,8 @@ weighed-more (suc m) place n s h l = by (weighed-more m place n s h) (place == m
     arrange : (a b w : ℤ) → w +ℤ (a +ℤ b) ≡ a +ℤ (w +ℤ b)
     arrange a b w = omega (arith, ints)
 
-    by : (place < m → weighed m (more_at place n s) h ≡ n *ℤ h place +ℤ weighed m s h) → (b : Bool) → (place == m) ≡ b → weighed m (more_at place n s) h +ℤ more_at place n s m *ℤ h m ≡ n *ℤ h place +ℤ (weighed m s h +ℤ s m *ℤ h m)
+    by : (place < m → weighed m (more_at place n s) h ≡ n *ℤ h place +ℤ weighed m s h) → (b : Bool) → (place == m) ≡ b
+        → weighed m (more_at place n s) h +ℤ more_at place n s m *ℤ h m ≡ n *ℤ h place +ℤ (weighed m s h +ℤ s m *ℤ h m)
     by later true e =
         let same : place ≡ m = grind (arith, nat_tests) in
         ap₂ (λ (a b : ℤ). a +ℤ b *ℤ h m) (weighed-past m place n s h (omega arith)) (here place m n s e)
@@ -99,10 +102,13 @@ sum-alike form other h alike =
 -- ---------- leaves ----------
 
 -- rows that are alike
-pub rows-alike : (p : Table) (cuts : List Cut) (scale : ℕ) (ys : List ℕ) (rows other : Form) → AreAlike rows other → leaf_value p cuts scale ys rows ≡ leaf_value p cuts scale ys other
+pub rows-alike : (p : Table) (cuts : List Cut) (scale : ℕ) (ys : List ℕ) (rows other : Form) → AreAlike rows other
+    → leaf_value p cuts scale ys rows ≡ leaf_value p cuts scale ys other
 rows-alike p cuts scale ys rows other alike =
     let columns : least_sum (reduced scale ys cuts rows) 0 p.columns ≡ least_sum (reduced scale ys cuts other) 0 p.columns =
-    least-same (reduced scale ys cuts rows) (reduced scale ys cuts other) 0 p.columns (λ i j c place at. ap (λ (n : ℤ). pos scale *ℤ c.cost +ℤ (cuts_number ys cuts i +ℤ n)) (sum-alike rows other (λ row. coefficient_at row c) alike)) in
+    least-same (reduced scale ys cuts rows) (reduced scale ys cuts other) 0 p.columns
+    (λ i j c place at. ap (λ (n : ℤ). pos scale *ℤ c.cost +ℤ (cuts_number ys cuts i +ℤ n))
+    (sum-alike rows other (λ row. coefficient_at row c) alike)) in
     ap₂ (λ (a b : ℤ). a -ℤ (cuts_right ys cuts +ℤ b)) columns (sum-alike rows other (λ row. right_side_at p.rows row) alike)
 
 -- cuts that are alike
@@ -123,17 +129,20 @@ cuts-right-alike (y ∷ ys) (cut ∷ cuts) [] alike = absurd alike
 cuts-right-alike (y ∷ ys) (cut ∷ cuts) (other ∷ others) alike = ap₂ (λ (a b : ℤ). pos y *ℤ a +ℤ b) alike.0 (cuts-right-alike ys cuts others alike.2)
 cuts-right-alike _ _ _ alike = refl
 
-value-alike : (p : Table) (cuts others : List Cut) (scale : ℕ) (ys : List ℕ) (rows : Form) → CutsAlike cuts others → leaf_value p cuts scale ys rows ≡ leaf_value p others scale ys rows
+value-alike : (p : Table) (cuts others : List Cut) (scale : ℕ) (ys : List ℕ) (rows : Form) → CutsAlike cuts others
+    → leaf_value p cuts scale ys rows ≡ leaf_value p others scale ys rows
 value-alike p cuts others scale ys rows alike =
     let columns : least_sum (reduced scale ys cuts rows) 0 p.columns ≡ least_sum (reduced scale ys others rows) 0 p.columns =
-    least-same (reduced scale ys cuts rows) (reduced scale ys others rows) 0 p.columns (λ i j c place at. ap (λ (n : ℤ). pos scale *ℤ c.cost +ℤ (n +ℤ rows_number rows c)) (cuts-number-alike ys cuts others i alike)) in
+    least-same (reduced scale ys cuts rows) (reduced scale ys others rows) 0 p.columns
+    (λ i j c place at. ap (λ (n : ℤ). pos scale *ℤ c.cost +ℤ (n +ℤ rows_number rows c)) (cuts-number-alike ys cuts others i alike)) in
     ap₂ (λ (a b : ℤ). a -ℤ (b +ℤ rows_right p.rows rows)) columns (cuts-right-alike ys cuts others alike)
 
 -- ---------- open splits ----------
 
 abbrev pub BranchesAlike : List Branch → List Branch → Type 0
 BranchesAlike [] [] = Unit {0}
-BranchesAlike (At is_second form most ∷ above) (At other_second other other_most ∷ others) = (is_second ≡ other_second) × (most ≡ other_most) × AreAlike form other × AreNoLarger other form × BranchesAlike above others
+BranchesAlike (At is_second form most ∷ above) (At other_second other other_most ∷ others) =
+    (is_second ≡ other_second) × (most ≡ other_most) × AreAlike form other × AreNoLarger other form × BranchesAlike above others
 BranchesAlike _ _ = ⊥
 
 pub branches-themselves : (branches : List Branch) → BranchesAlike branches branches
@@ -145,11 +154,13 @@ lengths-alike [] [] alike = refl
 lengths-alike (At is_second form most ∷ above) (At other_second other other_most ∷ others) alike = ap suc (lengths-alike above others alike.4)
 lengths-alike _ _ alike = absurd alike
 
-sides-alike : (is_second : Bool) (form other : Form) (most : ℤ) → AreAlike form other → CutsAlike (side is_second form most ∷ []) (side is_second other most ∷ [])
+sides-alike : (is_second : Bool) (form other : Form) (most : ℤ) → AreAlike form other
+    → CutsAlike (side is_second form most ∷ []) (side is_second other most ∷ [])
 sides-alike false form other most alike = (refl, alike, tt)
 sides-alike true form other most alike = (refl, λ q. negated-in form most q ∙ ap neg_ℤ (alike q) ∙ sym (negated-in other most q), tt)
 
-cuts-joined : (cuts others more_cuts more_others : List Cut) → CutsAlike cuts others → CutsAlike more_cuts more_others → CutsAlike (cuts ++ more_cuts) (others ++ more_others)
+cuts-joined : (cuts others more_cuts more_others : List Cut) → CutsAlike cuts others → CutsAlike more_cuts more_others
+    → CutsAlike (cuts ++ more_cuts) (others ++ more_others)
 cuts-joined [] [] more_cuts more_others alike more = more
 cuts-joined (cut ∷ cuts) (other ∷ others) more_cuts more_others alike more = (alike.0, alike.1, cuts-joined cuts others more_cuts more_others alike.2 more)
 cuts-joined _ _ more_cuts more_others alike more = absurd alike
@@ -160,7 +171,8 @@ cuts-above-alike (At is_second form most ∷ above) (At other_second other other
     let last : CutsAlike (side is_second form most ∷ []) (side other_second other other_most ∷ []) =
     subst (λ (s : Bool). CutsAlike (side is_second form most ∷ []) (side s other other_most ∷ [])) alike.0
     (subst (λ (k : ℤ). CutsAlike (side is_second form most ∷ []) (side is_second other k ∷ [])) alike.1 (sides-alike is_second form other most alike.2)) in
-    cuts-joined (cuts_above above) (cuts_above others) (side is_second form most ∷ []) (side other_second other other_most ∷ []) (cuts-above-alike above others alike.4) last
+    cuts-joined (cuts_above above) (cuts_above others) (side is_second form most ∷ []) (side other_second other other_most ∷ [])
+    (cuts-above-alike above others alike.4) last
 cuts-above-alike _ _ alike = absurd alike
 
 -- ---------- after a line ----------
@@ -182,33 +194,41 @@ closed-alike (At true form most ∷ above) (At false other other_most ∷ others
 closed-alike (At false form most ∷ above) (At true other other_most ∷ others) alike = let apart = alike.0 in absurd cc
 closed-alike _ _ alike = absurd alike
 
-taken-alike : (p : Table) (least : ℤ) (branches others : List Branch) (parsed : ParsedLine) → BranchesAlike branches others → OpenAlike (taken p least branches parsed) (taken p least others parsed)
+taken-alike : (p : Table) (least : ℤ) (branches others : List Branch) (parsed : ParsedLine) → BranchesAlike branches others
+    → OpenAlike (taken p least branches parsed) (taken p least others parsed)
 taken-alike p least branches others (SplitLine form most) alike = (refl, refl, λ _. refl, λ _. omega arith, alike)
 taken-alike p least branches others (BoundLine scale ys rows) alike =
-    let same : leaf_value p (cuts_above branches) scale ys rows ≡ leaf_value p (cuts_above others) scale ys rows = value-alike p (cuts_above branches) (cuts_above others) scale ys rows (cuts-above-alike branches others alike) in
-    subst (λ (n : ℤ). OpenAlike (taken p least branches (BoundLine scale ys rows)) (if int_lt (pos scale *ℤ (least -ℤ pos 1)) n then Ok (closed others) else Err NotShown)) same
+    let same : leaf_value p (cuts_above branches) scale ys rows ≡ leaf_value p (cuts_above others) scale ys rows =
+    value-alike p (cuts_above branches) (cuts_above others) scale ys rows (cuts-above-alike branches others alike) in
+    subst (λ (n : ℤ). OpenAlike (taken p least branches (BoundLine scale ys rows))
+    (if int_lt (pos scale *ℤ (least -ℤ pos 1)) n then Ok (closed others) else Err NotShown)) same
     (by (int_lt (pos scale *ℤ (least -ℤ pos 1)) (leaf_value p (cuts_above branches) scale ys rows)))
   where
     by : (b : Bool) → OpenAlike (if b then Ok (closed branches) else Err NotShown) (if b then Ok (closed others) else Err NotShown)
     by true = closed-alike branches others alike
     by false = refl
 
-parsed-alike : (p : Table) (least : ℤ) (branches others : List Branch) (parsed : Result ParsedLine CertificateFaultKind) → BranchesAlike branches others → OpenAlike (and_then parsed (taken p least branches)) (and_then parsed (taken p least others))
+parsed-alike : (p : Table) (least : ℤ) (branches others : List Branch) (parsed : Result ParsedLine CertificateFaultKind)
+    → BranchesAlike branches others → OpenAlike (and_then parsed (taken p least branches)) (and_then parsed (taken p least others))
 parsed-alike p least branches others (Ok parsed) alike = taken-alike p least branches others parsed alike
 parsed-alike p least branches others (Err kind) alike = refl
 
 abbrev behind : Table → ℤ → List ℕ → Option (List Branch) → Opened
-behind p least line branches = and_then (ok_or branches Beyond) (λ above. and_then (parsed_certificate_line p (length above) (fields line)) (taken p least above))
+behind p least line branches =
+    and_then (ok_or branches Beyond) (λ above. and_then (parsed_certificate_line p (length above) (fields line)) (taken p least above))
 
-behind-alike : (p : Table) (least : ℤ) (line : List ℕ) (branches others : Option (List Branch)) → OpenAlike (Ok branches) (Ok others) → OpenAlike (behind p least line branches) (behind p least line others)
+behind-alike : (p : Table) (least : ℤ) (line : List ℕ) (branches others : Option (List Branch)) → OpenAlike (Ok branches) (Ok others)
+    → OpenAlike (behind p least line branches) (behind p least line others)
 behind-alike p least line None None alike = refl
 behind-alike p least line (Some branches) (Some others) alike =
-    subst (λ (depth : ℕ). OpenAlike (and_then (parsed_certificate_line p (length branches) (fields line)) (taken p least branches)) (and_then (parsed_certificate_line p depth (fields line)) (taken p least others))) (lengths-alike branches others alike)
+    subst (λ (depth : ℕ). OpenAlike (and_then (parsed_certificate_line p (length branches) (fields line)) (taken p least branches))
+    (and_then (parsed_certificate_line p depth (fields line)) (taken p least others))) (lengths-alike branches others alike)
     (parsed-alike p least branches others (parsed_certificate_line p (length branches) (fields line)) alike)
 behind-alike p least line _ _ alike = absurd alike
 
 -- the first fault is the same
-pub fault-alike : (p : Table) (least : ℤ) (place : ℕ) (lines : List (List ℕ)) (parsed other : Opened) → OpenAlike parsed other → fault_from p least parsed place lines ≡ fault_from p least other place lines
+pub fault-alike : (p : Table) (least : ℤ) (place : ℕ) (lines : List (List ℕ)) (parsed other : Opened) → OpenAlike parsed other
+    → fault_from p least parsed place lines ≡ fault_from p least other place lines
 fault-alike p least place lines (Err kind) (Err other) alike = ap (λ (k : CertificateFaultKind). Some (place, k)) alike
 fault-alike p least place lines (Ok o) (Err kind) alike = absurd (by o alike)
   where
@@ -218,10 +238,15 @@ fault-alike p least place lines (Ok o) (Err kind) alike = absurd (by o alike)
 fault-alike p least place [] (Ok None) (Ok None) alike = refl
 fault-alike p least place [] (Ok (Some branches)) (Ok (Some others)) alike = refl
 fault-alike p least place (line ∷ lines) (Ok branches) (Ok others) alike =
-    by (fault-alike p least (suc place) lines (Ok branches) (Ok others) alike) (fault-alike p least (suc place) lines (behind p least line branches) (behind p least line others) (behind-alike p least line branches others alike)) (is_skipped line)
+    by (fault-alike p least (suc place) lines (Ok branches) (Ok others) alike)
+    (fault-alike p least (suc place) lines (behind p least line branches) (behind p least line others)
+    (behind-alike p least line branches others alike)) (is_skipped line)
   where
-    by : fault_from p least (Ok branches) (suc place) lines ≡ fault_from p least (Ok others) (suc place) lines → fault_from p least (behind p least line branches) (suc place) lines ≡ fault_from p least (behind p least line others) (suc place) lines
-        → (b : Bool) → fault_from p least (if b then Ok branches else behind p least line branches) (suc place) lines ≡ fault_from p least (if b then Ok others else behind p least line others) (suc place) lines
+    by : fault_from p least (Ok branches) (suc place) lines ≡ fault_from p least (Ok others) (suc place) lines
+        → fault_from p least (behind p least line branches) (suc place) lines
+        ≡ fault_from p least (behind p least line others) (suc place) lines
+        → (b : Bool) → fault_from p least (if b then Ok branches else behind p least line branches) (suc place) lines
+        ≡ fault_from p least (if b then Ok others else behind p least line others) (suc place) lines
     by skipped parsed true = skipped
     by skipped parsed false = parsed
 fault-alike p least place _ _ _ alike = absurd alike
@@ -234,7 +259,8 @@ CutsNoLarger [] [] = Unit {0}
 CutsNoLarger (other ∷ others) (cut ∷ cuts) = (cut_size other ≤ cut_size cut) × CutsNoLarger others cuts
 CutsNoLarger _ _ = ⊥
 
-cuts-size : (ys : List ℕ) (others cuts : List Cut) → CutsNoLarger others cuts → size_of (λ e. e.0 * cut_size e.1) (zip ys others) ≤ size_of (λ e. e.0 * cut_size e.1) (zip ys cuts)
+cuts-size : (ys : List ℕ) (others cuts : List Cut) → CutsNoLarger others cuts
+    → size_of (λ e. e.0 * cut_size e.1) (zip ys others) ≤ size_of (λ e. e.0 * cut_size e.1) (zip ys cuts)
 cuts-size (y ∷ ys) [] (cut ∷ cuts) h = absurd h
 cuts-size (y ∷ ys) (other ∷ others) [] h = absurd h
 cuts-size (y ∷ ys) (other ∷ others) (cut ∷ cuts) h =
@@ -242,7 +268,8 @@ cuts-size (y ∷ ys) (other ∷ others) (cut ∷ cuts) h =
     omega (arith, cuts-size ys others cuts h.1)
 cuts-size _ _ _ h = omega arith
 
-larger-joined : (others cuts more_others more_cuts : List Cut) → CutsNoLarger others cuts → CutsNoLarger more_others more_cuts → CutsNoLarger (others ++ more_others) (cuts ++ more_cuts)
+larger-joined : (others cuts more_others more_cuts : List Cut) → CutsNoLarger others cuts → CutsNoLarger more_others more_cuts
+    → CutsNoLarger (others ++ more_others) (cuts ++ more_cuts)
 larger-joined [] [] more_others more_cuts h more = more
 larger-joined (other ∷ others) (cut ∷ cuts) more_others more_cuts h more = (h.0, larger-joined others cuts more_others more_cuts h.1 more)
 larger-joined _ _ more_others more_cuts h more = absurd h
@@ -256,26 +283,33 @@ cuts-above-size [] [] alike = tt
 cuts-above-size (At is_second form most ∷ above) (At other_second other other_most ∷ others) alike =
     let left = side-size is_second form most in
     let right = side-size other_second other other_most in
-    let same : unsigned_abs (side is_second [] most).most ≡ unsigned_abs (side other_second [] other_most).most = ap₂ (λ (s : Bool) (k : ℤ). unsigned_abs (side s [] k).most) alike.0 alike.1 in
+    let same : unsigned_abs (side is_second [] most).most ≡ unsigned_abs (side other_second [] other_most).most =
+    ap₂ (λ (s : Bool) (k : ℤ). unsigned_abs (side s [] k).most) alike.0 alike.1 in
     let less = form-no-larger other form alike.3 in
     let last : cut_size (side other_second other other_most) ≤ cut_size (side is_second form most) = omega arith in
-    larger-joined (cuts_above others) (cuts_above above) (side other_second other other_most ∷ []) (side is_second form most ∷ []) (cuts-above-size above others alike.4) (last, tt)
+    larger-joined (cuts_above others) (cuts_above above) (side other_second other other_most ∷ []) (side is_second form most ∷ [])
+    (cuts-above-size above others alike.4) (last, tt)
 cuts-above-size _ _ alike = absurd alike
 
-parsed-large : (p : Table) (least : ℤ) (branches others : List Branch) (parsed : Result ParsedLine CertificateFaultKind) → BranchesAlike branches others → IsLargeParsed p least others parsed → IsLargeParsed p least branches parsed
+parsed-large : (p : Table) (least : ℤ) (branches others : List Branch) (parsed : Result ParsedLine CertificateFaultKind)
+    → BranchesAlike branches others → IsLargeParsed p least others parsed → IsLargeParsed p least branches parsed
 parsed-large p least branches others (Ok (BoundLine scale ys rows)) alike h =
     let large : 2 ^ 126 ≤ leaf_size p least (cuts_above others) scale ys rows = h in
     omega (arith, cuts-size ys (cuts_above others) (cuts_above branches) (cuts-above-size branches others alike))
 parsed-large p least branches others _ alike h = absurd h
 
-line-large : (p : Table) (least : ℤ) (line : List ℕ) (branches others : Option (List Branch)) → OpenAlike (Ok branches) (Ok others) → IsLargeLine p least others line → IsLargeLine p least branches line
+line-large : (p : Table) (least : ℤ) (line : List ℕ) (branches others : Option (List Branch)) → OpenAlike (Ok branches) (Ok others)
+    → IsLargeLine p least others line → IsLargeLine p least branches line
 line-large p least line None None alike h = absurd h
 line-large p least line (Some branches) (Some others) alike h =
-    let moved : IsLargeParsed p least others (parsed_certificate_line p (length branches) (fields line)) = subst (λ (depth : ℕ). IsLargeParsed p least others (parsed_certificate_line p depth (fields line))) (sym (lengths-alike branches others alike)) h in
+    let moved : IsLargeParsed p least others (parsed_certificate_line p (length branches) (fields line)) = subst
+    (λ (depth : ℕ). IsLargeParsed p least others (parsed_certificate_line p depth (fields line)))
+    (sym (lengths-alike branches others alike)) h in
     parsed-large p least branches others (parsed_certificate_line p (length branches) (fields line)) alike moved
 line-large p least line _ _ alike h = absurd alike
 
-passed-alike : (p : Table) (least : ℤ) (line : List ℕ) (branches others : Option (List Branch)) → OpenAlike (Ok branches) (Ok others) → OpenAlike (after_line p least branches line) (after_line p least others line)
+passed-alike : (p : Table) (least : ℤ) (line : List ℕ) (branches others : Option (List Branch)) → OpenAlike (Ok branches) (Ok others)
+    → OpenAlike (after_line p least branches line) (after_line p least others line)
 passed-alike p least line branches others alike = by (is_skipped line)
   where
     by : (b : Bool) → OpenAlike (if b then Ok branches else behind p least line branches) (if b then Ok others else behind p least line others)
@@ -283,16 +317,21 @@ passed-alike p least line branches others alike = by (is_skipped line)
     by false = behind-alike p least line branches others alike
 
 -- a line that is large by the code's splits is so by those of the definition
-pub large-alike : (p : Table) (least : ℤ) (place : ℕ) (lines : List (List ℕ)) (parsed other : Opened) (number : ℕ) → OpenAlike parsed other → IsLargeFrom p least other place lines number → IsLargeFrom p least parsed place lines number
+pub large-alike : (p : Table) (least : ℤ) (place : ℕ) (lines : List (List ℕ)) (parsed other : Opened) (number : ℕ) → OpenAlike parsed other
+    → IsLargeFrom p least other place lines number → IsLargeFrom p least parsed place lines number
 large-alike p least place lines (Err kind) (Err other) number alike h = absurd h
 large-alike p least place lines (Err kind) (Ok o) number alike h = absurd alike
 large-alike p least place lines (Ok o) (Err kind) number alike h = absurd h
 large-alike p least place [] (Ok branches) (Ok others) number alike h = absurd h
 large-alike p least place (line ∷ lines) (Ok branches) (Ok others) number alike (inl h) = inl (h.0, line-large p least line branches others alike h.1)
-large-alike p least place (line ∷ lines) (Ok branches) (Ok others) number alike (inr h) = inr (large-alike p least (suc place) lines (after_line p least branches line) (after_line p least others line) number (passed-alike p least line branches others alike) h)
+large-alike p least place (line ∷ lines) (Ok branches) (Ok others) number alike (inr h) = inr
+    (large-alike p least (suc place) lines (after_line p least branches line) (after_line p least others line) number
+    (passed-alike p least line branches others alike) h)
 
 -- a split that is opened with another form than the line tells, which gives each column the same and is no larger
-pub split-opened : (p : Table) (least : ℤ) (branches after : List Branch) (parsed : Result ParsedLine CertificateFaultKind) (form : Form) (most : ℤ) (split : OpenSplit) → parsed ≡ Ok (SplitLine form most) → AreAlike split.form.items form → AreNoLarger split.form.items form → split.most ≡ most
+pub split-opened : (p : Table) (least : ℤ) (branches after : List Branch) (parsed : Result ParsedLine CertificateFaultKind) (form : Form)
+    (most : ℤ) (split : OpenSplit) → parsed ≡ Ok (SplitLine form most) → AreAlike split.form.items form → AreNoLarger split.form.items form
+    → split.most ≡ most
     → split.is_high ≡ false → after ≡ branch_of split ∷ branches → GoOnAlike p least (and_then parsed (taken p least branches)) (Ok (Some after))
 split-opened p least branches after parsed form most split t alike less m low a place lines = (
   ap (λ (r : Result ParsedLine CertificateFaultKind). fault_from p least (and_then r (taken p least branches)) place lines) t
@@ -300,7 +339,8 @@ split-opened p least branches after parsed form most split t alike less m low a 
       ∙ ap (λ (bs : List Branch). fault_from p least (Ok (Some bs)) place lines) (sym a),
   λ number h.
       subst (λ (r : Result ParsedLine CertificateFaultKind). IsLargeFrom p least (and_then r (taken p least branches)) place lines number) (sym t)
-      (large-alike p least place lines (Ok (Some (At false form most ∷ branches))) (Ok (Some (branch_of split ∷ branches))) number opened (subst (λ (bs : List Branch). IsLargeFrom p least (Ok (Some bs)) place lines number) a h)),
+      (large-alike p least place lines (Ok (Some (At false form most ∷ branches))) (Ok (Some (branch_of split ∷ branches))) number opened
+      (subst (λ (bs : List Branch). IsLargeFrom p least (Ok (Some bs)) place lines number) a h)),
 )
   where
     opened : BranchesAlike (At false form most ∷ branches) (branch_of split ∷ branches)

@@ -1,5 +1,6 @@
 -- A leaf whose columns are gone over one after the other.
-use Rattle.std.proofs.Common.{◌≡◌, ℕ, zero, suc, ◌+◌, ◌<◌, ◌≤◌, Bool, true, false, cond, List, [], ◌∷◌, Some, length, drop, get_or, slice_get, refl, sym, ap, ap₂, ◌∙◌, arith, ℤ, pos, ◌+ℤ◌}
+use Rattle.std.proofs.Common.{◌≡◌, ℕ, zero, suc, ◌+◌, ◌<◌, ◌≤◌, Bool, true, false, cond, List, [], ◌∷◌, Some, length, drop}
+use Rattle.std.proofs.Common.{get_or, slice_get, refl, sym, ap, ap₂, ◌∙◌, arith, ℤ, pos, ◌+ℤ◌}
 use Rattle.std.specs.Prelude.{◌*ℤ◌, ◌==◌}
 use Rattle.std.specs.Option.{option_map}
 use Rattle.std.proofs.lemmas.Int.{ints}
@@ -22,36 +23,45 @@ use Rattle.optimality.proofs.RowFacts.{entries-of, entry-is}
 -- ---------- multipliers ----------
 
 -- a term more is added at its place, and the terms that are left
-pub multipliers-step : (rows : Form) (i : ℕ) (d : ℕ × ℤ) (before after : List ℤ) (q : ℕ) → i < length rows → number_at after q ≡ number_at before q +ℤ at_place (get_or rows i d).0 (get_or rows i d).1 q
+pub multipliers-step : (rows : Form) (i : ℕ) (d : ℕ × ℤ) (before after : List ℤ) (q : ℕ) → i < length rows
+    → number_at after q ≡ number_at before q +ℤ at_place (get_or rows i d).0 (get_or rows i d).1 q
     → number_at before q +ℤ number_in (drop i rows) q ≡ number_in rows q → number_at after q +ℤ number_in (drop (i + 1) rows) q ≡ number_in rows q
 multipliers-step rows i d before after q l more h =
-    let split : number_in (drop i rows) q ≡ at_place (get_or rows i d).0 (get_or rows i d).1 q +ℤ number_in (drop (i + 1) rows) q = ap (λ (f : Form). number_in f q) (rest rows i d l) in
+    let split : number_in (drop i rows) q ≡ at_place (get_or rows i d).0 (get_or rows i d).1 q +ℤ number_in (drop (i + 1) rows) q =
+    ap (λ (f : Form). number_in f q) (rest rows i d l) in
     omega (arith, ints)
 
 -- ---------- entries ----------
 
-entries-step : (ys : List ℤ) (entries : Form) (i : ℕ) (d : ℕ × ℤ) (sum next y all : ℤ) → i < length entries → y ≡ number_at ys (get_or entries i d).0 → next ≡ sum +ℤ y *ℤ (get_or entries i d).1
+entries-step : (ys : List ℤ) (entries : Form) (i : ℕ) (d : ℕ × ℤ) (sum next y all : ℤ) → i < length entries
+    → y ≡ number_at ys (get_or entries i d).0 → next ≡ sum +ℤ y *ℤ (get_or entries i d).1
     → sum +ℤ entries_given ys (drop i entries) ≡ all → next +ℤ entries_given ys (drop (i + 1) entries) ≡ all
 entries-step ys entries i d sum next y all l at s h =
     let e = get_or entries i d in
     let first : y *ℤ e.1 ≡ number_at ys e.0 *ℤ e.1 = ap (λ (k : ℤ). k *ℤ e.1) at in
-    let before : sum +ℤ (number_at ys e.0 *ℤ e.1 +ℤ entries_given ys (drop (i + 1) entries)) ≡ all = ap (λ (es : Form). sum +ℤ entries_given ys es) (sym (rest entries i d l)) ∙ h in
+    let before : sum +ℤ (number_at ys e.0 *ℤ e.1 +ℤ entries_given ys (drop (i + 1) entries)) ≡ all =
+    ap (λ (es : Form). sum +ℤ entries_given ys es) (sym (rest entries i d l)) ∙ h in
     omega (arith, ints)
 
-pub entry-added : (ys : List ℤ) (entries : Form) (i : ℕ) (e : ℕ × ℤ) (sum next y all : ℤ) → slice_get entries i ≡ Some e → y ≡ number_at ys e.0 → next ≡ sum +ℤ y *ℤ e.1
+pub entry-added : (ys : List ℤ) (entries : Form) (i : ℕ) (e : ℕ × ℤ) (sum next y all : ℤ) → slice_get entries i ≡ Some e
+    → y ≡ number_at ys e.0 → next ≡ sum +ℤ y *ℤ e.1
     → sum +ℤ entries_given ys (drop i entries) ≡ all → next +ℤ entries_given ys (drop (i + 1) entries) ≡ all
 entry-added ys entries i e sum next y all there at s h =
     let is : get_or entries i e ≡ e = get_or_from_slice_get entries i e e there in
-    entries-step ys entries i e sum next y all (slice_get_within entries i e there) (at ∙ ap (λ (t : ℕ × ℤ). number_at ys t.0) (sym is)) (s ∙ ap (λ (t : ℕ × ℤ). sum +ℤ y *ℤ t.1) (sym is)) h
+    entries-step ys entries i e sum next y all (slice_get_within entries i e there) (at ∙ ap (λ (t : ℕ × ℤ). number_at ys t.0) (sym is))
+    (s ∙ ap (λ (t : ℕ × ℤ). sum +ℤ y *ℤ t.1) (sym is)) h
 
 -- ---------- columns ----------
 
-least_there : (f : ℕ → TableColumn → ℤ) (p i : ℕ) (cs : List TableColumn) (n : ℤ) → option_map (λ c. least_part c.bounds (f p c)) (slice_get cs i) ≡ Some n → least_sum f p (drop i cs) ≡ n +ℤ least_sum f (p + 1) (drop (suc i) cs)
+least_there : (f : ℕ → TableColumn → ℤ) (p i : ℕ) (cs : List TableColumn) (n : ℤ)
+    → option_map (λ c. least_part c.bounds (f p c)) (slice_get cs i) ≡ Some n
+    → least_sum f p (drop i cs) ≡ n +ℤ least_sum f (p + 1) (drop (suc i) cs)
 least_there f p i [] n h = absurd cc
 least_there f p zero (c ∷ cs) n h = let here : least_part c.bounds (f p c) ≡ n = cc in ap (λ (m : ℤ). m +ℤ least_sum f (p + 1) cs) here
 least_there f p (suc i) (c ∷ cs) n h = least_there f p i cs n h
 
-pub least-step : (f : ℕ → TableColumn → ℤ) (i : ℕ) (cs : List TableColumn) (sum next n all : ℤ) → option_map (λ c. least_part c.bounds (f i c)) (slice_get cs i) ≡ Some n → next ≡ sum +ℤ n
+pub least-step : (f : ℕ → TableColumn → ℤ) (i : ℕ) (cs : List TableColumn) (sum next n all : ℤ)
+    → option_map (λ c. least_part c.bounds (f i c)) (slice_get cs i) ≡ Some n → next ≡ sum +ℤ n
     → sum +ℤ least_sum f i (drop i cs) ≡ all → next +ℤ least_sum f (i + 1) (drop (i + 1) cs) ≡ all
 least-step f i cs sum next n all e s h =
     let place : i + 1 ≡ suc i = omega arith in
@@ -70,11 +80,14 @@ least-end f i cs sum all l h =
 columns_there : (ys : List ℤ) (p i : ℕ) (cs : List TableColumn) (es : Form) (q : ℕ) → option_map (λ c. c.entries) (slice_get cs i) ≡ Some es
     → columns_given ys p (drop i cs) q ≡ at_place p (entries_given ys es) q +ℤ columns_given ys (suc p) (drop (suc i) cs) q
 columns_there ys p i [] es q h = absurd cc
-columns_there ys p zero (c ∷ cs) es q h = let same : c.entries ≡ es = cc in ap (λ (e : Form). at_place p (entries_given ys e) q +ℤ columns_given ys (suc p) cs q) same
+columns_there ys p zero (c ∷ cs) es q h =
+    let same : c.entries ≡ es = cc in ap (λ (e : Form). at_place p (entries_given ys e) q +ℤ columns_given ys (suc p) cs q) same
 columns_there ys p (suc i) (c ∷ cs) es q h = columns_there ys p i cs es q h
 
-pub columns-step : (ys : List ℤ) (i : ℕ) (cs : List TableColumn) (es : Form) (n : ℤ) (start before after : List ℤ) → option_map (λ c. c.entries) (slice_get cs i) ≡ Some es → n ≡ entries_given ys es → AreGivenMore (at_place i n) before after
-    → ((q : ℕ) → number_at before q +ℤ columns_given ys i (drop i cs) q ≡ number_at start q +ℤ columns_given ys 0 cs q) → (q : ℕ) → number_at after q +ℤ columns_given ys (i + 1) (drop (i + 1) cs) q ≡ number_at start q +ℤ columns_given ys 0 cs q
+pub columns-step : (ys : List ℤ) (i : ℕ) (cs : List TableColumn) (es : Form) (n : ℤ) (start before after : List ℤ)
+    → option_map (λ c. c.entries) (slice_get cs i) ≡ Some es → n ≡ entries_given ys es → AreGivenMore (at_place i n) before after
+    → ((q : ℕ) → number_at before q +ℤ columns_given ys i (drop i cs) q ≡ number_at start q +ℤ columns_given ys 0 cs q) → (q : ℕ)
+    → number_at after q +ℤ columns_given ys (i + 1) (drop (i + 1) cs) q ≡ number_at start q +ℤ columns_given ys 0 cs q
 columns-step ys i cs es n start before after there is more h =
     let place : suc i ≡ i + 1 = omega arith in
     given-step (columns_given ys i (drop i cs)) (at_place i n) (columns_given ys (i + 1) (drop (i + 1) cs)) start before after (columns_given ys 0 cs)
@@ -82,9 +95,12 @@ columns-step ys i cs es n start before after there is more h =
     ∙ ap (λ (k : ℕ). at_place i (entries_given ys es) q +ℤ columns_given ys k (drop k cs) q) place
     ∙ ap (λ (m : ℤ). at_place i m q +ℤ columns_given ys (i + 1) (drop (i + 1) cs) q) (sym is)) more h
 
-pub columns-end : (ys : List ℤ) (i : ℕ) (cs : List TableColumn) (start after : List ℤ) → length cs ≤ i → ((q : ℕ) → number_at after q +ℤ columns_given ys i (drop i cs) q ≡ number_at start q +ℤ columns_given ys 0 cs q) → AreGivenMore (columns_given ys 0 cs) start after
+pub columns-end : (ys : List ℤ) (i : ℕ) (cs : List TableColumn) (start after : List ℤ) → length cs ≤ i
+    → ((q : ℕ) → number_at after q +ℤ columns_given ys i (drop i cs) q ≡ number_at start q +ℤ columns_given ys 0 cs q)
+    → AreGivenMore (columns_given ys 0 cs) start after
 columns-end ys i cs start after l h q =
-    let e : number_at after q +ℤ pos 0 ≡ number_at start q +ℤ columns_given ys 0 cs q = ap (λ (ds : List TableColumn). number_at after q +ℤ columns_given ys i ds q) (sym (drop_all i cs l)) ∙ h q in
+    let e : number_at after q +ℤ pos 0 ≡ number_at start q +ℤ columns_given ys 0 cs q =
+    ap (λ (ds : List TableColumn). number_at after q +ℤ columns_given ys i ds q) (sym (drop_all i cs l)) ∙ h q in
     omega (arith, ints)
 
 columns_passed : (ys : List ℤ) (p : ℕ) (cs : List TableColumn) (q : ℕ) → q < p → columns_given ys p cs q ≡ pos 0
@@ -93,7 +109,8 @@ columns_passed ys p (c ∷ cs) q h =
     let other : (p == q) ≡ false = grind (arith, nat_tests) in
     rw (other, columns_passed ys (suc p) cs q (omega arith)) refl
 
-columns_at : (ys : List ℤ) (p j : ℕ) (cs : List TableColumn) (q : ℕ) (c : TableColumn) → q ≡ p + j → slice_get cs j ≡ Some c → columns_given ys p cs q ≡ entries_given ys c.entries
+columns_at : (ys : List ℤ) (p j : ℕ) (cs : List TableColumn) (q : ℕ) (c : TableColumn) → q ≡ p + j → slice_get cs j ≡ Some c
+    → columns_given ys p cs q ≡ entries_given ys c.entries
 columns_at ys p j [] q c e at = absurd cc
 columns_at ys p zero (d ∷ cs) q c e at =
     let same : d ≡ c = cc in
@@ -133,7 +150,9 @@ none-given (e ∷ es) = rw (zero-*ℤ e.1, none-given es) refl
 both : (f g : ℕ → ℤ) (es : Form) → sum_of (λ e. (f e.0 +ℤ g e.0) *ℤ e.1) es ≡ sum_of (λ e. f e.0 *ℤ e.1) es +ℤ sum_of (λ e. g e.0 *ℤ e.1) es
 both f g [] = refl
 both f g (e ∷ es) =
-    let first : (f e.0 +ℤ g e.0) *ℤ e.1 ≡ f e.0 *ℤ e.1 +ℤ g e.0 *ℤ e.1 = *ℤ_comm (f e.0 +ℤ g e.0) e.1 ∙ times-sum e.1 (f e.0) (g e.0) ∙ ap₂ (λ (a b : ℤ). a +ℤ b) (*ℤ_comm e.1 (f e.0)) (*ℤ_comm e.1 (g e.0)) in
+    let first : (f e.0 +ℤ g e.0) *ℤ e.1 ≡ f e.0 *ℤ e.1 +ℤ g e.0 *ℤ e.1 =
+    *ℤ_comm (f e.0 +ℤ g e.0) e.1 ∙ times-sum e.1 (f e.0) (g e.0)
+    ∙ ap₂ (λ (a b : ℤ). a +ℤ b) (*ℤ_comm e.1 (f e.0)) (*ℤ_comm e.1 (g e.0)) in
     omega (arith, ints, both f g es)
 
 -- multipliers of entries, and entries of multipliers
@@ -147,14 +166,17 @@ coefficients : (m : ℕ) (c : TableColumn) (rows : Form) → AreEntries m c.entr
 coefficients m c [] h = refl
 coefficients m c (t ∷ rows) h = ap₂ (λ (a b : ℤ). t.1 *ℤ a +ℤ b) (entry-is m t.0 c.entries h) (coefficients m c rows h)
 
-given-same : (m : ℕ) (ys : List ℤ) (rows es : Form) → ((row : ℕ) → row < m → number_at ys row ≡ number_in rows row) → AreEntries m es → entries_given ys es ≡ sum_of (λ e. number_in rows e.0 *ℤ e.1) es
+given-same : (m : ℕ) (ys : List ℤ) (rows es : Form) → ((row : ℕ) → row < m → number_at ys row ≡ number_in rows row) → AreEntries m es
+    → entries_given ys es ≡ sum_of (λ e. number_in rows e.0 *ℤ e.1) es
 given-same m ys rows [] same h = refl
 given-same m ys rows (e ∷ es) same h = ap₂ (λ (a b : ℤ). a *ℤ e.1 +ℤ b) (same e.0 h.0) (given-same m ys rows es same h.3)
 
-pub columns-have : (p : Table) (rows : Form) (ys before after : List ℤ) → IsProgram p → ((row : ℕ) → number_at ys row ≡ number_in rows row) → AreGivenMore (columns_given ys 0 p.columns) before after → HaveRows p rows before after
+pub columns-have : (p : Table) (rows : Form) (ys before after : List ℤ) → IsProgram p → ((row : ℕ) → number_at ys row ≡ number_in rows row)
+    → AreGivenMore (columns_given ys 0 p.columns) before after → HaveRows p rows before after
 columns-have p rows ys before after h same more place c at =
     let m = length p.rows in
     let entries = entries-of m p.columns place c h.entries at in
     more place
     ∙ ap (λ (n : ℤ). number_at before place +ℤ n)
-    (columns_at ys 0 place p.columns place c (omega arith) at ∙ given-same m ys rows c.entries (λ row _. same row) entries ∙ turned-round rows c.entries ∙ coefficients m c rows entries)
+    (columns_at ys 0 place p.columns place c (omega arith) at ∙ given-same m ys rows c.entries (λ row _. same row) entries ∙ turned-round
+    rows c.entries ∙ coefficients m c rows entries)

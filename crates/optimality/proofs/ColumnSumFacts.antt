@@ -1,5 +1,6 @@
 -- Sums over the columns at 1, of numbers that go by column and place.
-use Rattle.std.proofs.Common.{◌≡◌, ℕ, zero, suc, ◌+◌, ◌<◌, Bool, true, false, cond, List, [], ◌∷◌, length, slice_index_or, refl, sym, ap, ◌∙◌, arith, ℤ, pos, ◌+ℤ◌}
+use Rattle.std.proofs.Common.{◌≡◌, ℕ, zero, suc, ◌+◌, ◌<◌, Bool, true, false, cond, List, [], ◌∷◌, length, slice_index_or}
+use Rattle.std.proofs.Common.{refl, sym, ap, ◌∙◌, arith, ℤ, pos, ◌+ℤ◌}
 use Rattle.optimality.proofs.PlaceFacts.{times-at}
 use Rattle.std.specs.Prelude.{◌*ℤ◌, ◌==◌}
 use Rattle.std.specs.List.{enumerate_from, zip}
@@ -41,12 +42,15 @@ abbrev pub rows_right : List TableRow → Form → ℤ
 rows_right table rows = sum_of (λ t. t.1 *ℤ right_side_at table t.0) rows
 
 -- of sums
-pub over-sum : (f g : ℕ → TableColumn → ℤ) (p : ℕ) (cs : List TableColumn) (vs : List Bool) → sum_over (λ q c. f q c +ℤ g q c) p cs vs ≡ sum_over f p cs vs +ℤ sum_over g p cs vs
-over-sum f g p (c ∷ cs) (v ∷ vs) = one_sum v (f p c) (g p c) (sum_over f (p + 1) cs vs) (sum_over g (p + 1) cs vs) (sum_over (λ q d. f q d +ℤ g q d) (p + 1) cs vs) (over-sum f g (p + 1) cs vs)
+pub over-sum : (f g : ℕ → TableColumn → ℤ) (p : ℕ) (cs : List TableColumn) (vs : List Bool)
+    → sum_over (λ q c. f q c +ℤ g q c) p cs vs ≡ sum_over f p cs vs +ℤ sum_over g p cs vs
+over-sum f g p (c ∷ cs) (v ∷ vs) = one_sum v (f p c) (g p c) (sum_over f (p + 1) cs vs) (sum_over g (p + 1) cs vs)
+    (sum_over (λ q d. f q d +ℤ g q d) (p + 1) cs vs) (over-sum f g (p + 1) cs vs)
 over-sum f g p _ _ = omega (arith, ints)
 
 -- of multiples
-pub over-times : (k : ℤ) (f : ℕ → TableColumn → ℤ) (p : ℕ) (cs : List TableColumn) (vs : List Bool) → sum_over (λ q c. k *ℤ f q c) p cs vs ≡ k *ℤ sum_over f p cs vs
+pub over-times : (k : ℤ) (f : ℕ → TableColumn → ℤ) (p : ℕ) (cs : List TableColumn) (vs : List Bool)
+    → sum_over (λ q c. k *ℤ f q c) p cs vs ≡ k *ℤ sum_over f p cs vs
 over-times k f p (c ∷ cs) (v ∷ vs) =
     ap (λ (n : ℤ). n +ℤ sum_over (λ q d. k *ℤ f q d) (p + 1) cs vs) (times-at k (f p c) v)
     ∙ ap (λ (n : ℤ). k *ℤ cond v (f p c) (pos 0) +ℤ n) (over-times k f (p + 1) cs vs)
@@ -62,7 +66,8 @@ over-none p _ _ = refl
 -- of numbers that go by column alone
 pub over-columns : (f : TableColumn → ℤ) (p : ℕ) (cs : List TableColumn) (vs : List Bool) → sum_over (λ q c. f c) p cs vs ≡ sum_at_one f cs vs
 over-columns f p (c ∷ cs) (true ∷ vs) = ap (λ (n : ℤ). f c +ℤ n) (over-columns f (p + 1) cs vs)
-over-columns f p (c ∷ cs) (false ∷ vs) = let rest : sum_over (λ q d. f d) (p + 1) cs vs ≡ sum_at_one f cs vs = over-columns f (p + 1) cs vs in omega (arith, ints)
+over-columns f p (c ∷ cs) (false ∷ vs) =
+    let rest : sum_over (λ q d. f d) (p + 1) cs vs ≡ sum_at_one f cs vs = over-columns f (p + 1) cs vs in omega (arith, ints)
 over-columns f p _ _ = refl
 
 -- of a number that one place has
@@ -79,7 +84,8 @@ passed k n p (c ∷ cs) (v ∷ vs) h =
     rw (other, nothing v n, passed k n (p + 1) cs vs (omega arith)) refl
 passed k n p _ _ h = refl
 
-pub over-place : (k : ℕ) (n : ℤ) (p j : ℕ) (cs : List TableColumn) (vs : List Bool) → length vs ≡ length cs → k ≡ p + j → sum_over (at_place k n) p cs vs ≡ cond (slice_index_or vs j false) n (pos 0)
+pub over-place : (k : ℕ) (n : ℤ) (p j : ℕ) (cs : List TableColumn) (vs : List Bool) → length vs ≡ length cs → k ≡ p + j
+    → sum_over (at_place k n) p cs vs ≡ cond (slice_index_or vs j false) n (pos 0)
 over-place k n p j [] [] l e = refl
 over-place k n p j [] (v ∷ vs) l e = absurd (omega arith)
 over-place k n p j (c ∷ cs) [] l e = refl
@@ -89,7 +95,8 @@ over-place k n p zero (c ∷ cs) (v ∷ vs) l e =
     rw (here, rest) (omega (arith, ints))
 over-place k n p (suc j) (c ∷ cs) (v ∷ vs) l e =
     let there : (k == p) ≡ false = grind (arith, nat_tests) in
-    let rest : sum_over (at_place k n) (p + 1) cs vs ≡ cond (slice_index_or vs j false) n (pos 0) = over-place k n (p + 1) j cs vs (omega arith) (omega arith) in
+    let rest : sum_over (at_place k n) (p + 1) cs vs ≡ cond (slice_index_or vs j false) n (pos 0) =
+    over-place k n (p + 1) j cs vs (omega arith) (omega arith) in
     rw (there, nothing v n, rest) (omega (arith, ints))
 
 -- of a form

@@ -1,5 +1,6 @@
 -- Which lines are reported to be too large: no fault that a line tells is, and a refused one is a leaf of that size.
-use Rattle.std.proofs.Common.{◌≡◌, ◌≢◌, ℕ, zero, suc, ◌+◌, Bool, true, false, List, [], ◌∷◌, Option, Some, None, Result, Ok, Err, inl, inr, arith, ap, length, subst, sym, ◌∙◌, ℤ, pos, ◌*ℤ◌}
+use Rattle.std.proofs.Common.{◌≡◌, ◌≢◌, ℕ, zero, suc, ◌+◌, Bool, true, false, List, [], ◌∷◌, Option, Some, None, Result, Ok}
+use Rattle.std.proofs.Common.{Err, inl, inr, arith, ap, length, subst, sym, ◌∙◌, ℤ, pos, ◌*ℤ◌}
 use Rattle.std.specs.Prelude.{◌-ℤ◌, bytes_eq, codes, if◌then◌else◌, int_lt, nat_abs, position}
 use Rattle.std.specs.List.{list_all}
 use Rattle.std.specs.Option.{ok_or}
@@ -14,7 +15,8 @@ use Rattle.program_rows.specs.declared.certificate_fault.CertificateFault.{Certi
 use Rattle.program_rows.specs.declared.certificate_fault.CertificateFaultKind.{CertificateFaultKind}
 use Rattle.program_rows.specs.declared.certificate_fault.CertificateFaultKind.TheVariants.{Beyond, Fields, NotShown, Sign, TooLarge, UnknownColumn, UnknownRow}
 use Rattle.optimality.specs.Branches.{Branch, closed, cuts_above}
-use Rattle.optimality.specs.LineMeaning.{ParsedLine, BoundLine, SplitLine, parsed_integer, parsed_natural, parsed_naturals, named_numbers, parsed_certificate_line}
+use Rattle.optimality.specs.LineMeaning.{ParsedLine, BoundLine, SplitLine, parsed_integer, parsed_natural, parsed_naturals}
+use Rattle.optimality.specs.LineMeaning.{named_numbers, parsed_certificate_line}
 use Rattle.optimality.specs.inside.LineMeaning.{bound_behind, split_behind}
 use Rattle.optimality.proofs.LineFacts.{line_by_word}
 use Rattle.optimality.specs.Shows.{leaf_value, may_have}
@@ -34,7 +36,8 @@ abbrev NotLarge : {X : Type 0} → Result X CertificateFaultKind → Type 0
 NotLarge (Ok x) = Unit {0}
 NotLarge (Err kind) = kind ≢ TooLarge
 
-in-turn : {X Y : Type 0} (r : Result X CertificateFaultKind) (f : X → Result Y CertificateFaultKind) → NotLarge r → ((x : X) → NotLarge (f x)) → NotLarge (and_then r f)
+in-turn : {X Y : Type 0} (r : Result X CertificateFaultKind) (f : X → Result Y CertificateFaultKind) → NotLarge r
+    → ((x : X) → NotLarge (f x)) → NotLarge (and_then r f)
 in-turn (Ok x) f h later = later x
 in-turn (Err kind) f h later = h
 
@@ -53,7 +56,8 @@ integer-not (Err numbers.NumberRange) = λ e. absurd cc
 integer-not (Err numbers.NotWhole) = λ e. absurd cc
 
 natural-not : (token : List ℕ) → NotLarge (parsed_natural token)
-natural-not token = in-turn (parsed_integer (number token)) (λ n. if int_lt n (pos 0) then Err Sign else Ok (nat_abs n)) (integer-not (number token)) (λ n. either (int_lt n (pos 0)) (Err Sign) (Ok (nat_abs n)) (λ e. absurd cc) tt)
+natural-not token = in-turn (parsed_integer (number token)) (λ n. if int_lt n (pos 0) then Err Sign else Ok (nat_abs n))
+    (integer-not (number token)) (λ n. either (int_lt n (pos 0)) (Err Sign) (Ok (nat_abs n)) (λ e. absurd cc) tt)
 
 naturals-not : (count : ℕ) (fs : List (List ℕ)) → NotLarge (parsed_naturals count fs)
 naturals-not zero fs = tt
@@ -66,8 +70,11 @@ named-not : (names : List (List ℕ)) (unknown : CertificateFaultKind) → unkno
 named-not names unknown h [] = tt
 named-not names unknown h (name ∷ []) = λ e. absurd cc
 named-not names unknown h (name ∷ token ∷ fs) =
-    in-turn (and_then (ok_or (position (bytes_eq name) names) unknown) (λ place. and_then (parsed_integer (number token)) (λ n. Ok (place, n)))) (λ term. and_then (named_numbers names unknown fs) (λ form. Ok (term ∷ form)))
-    (in-turn (ok_or (position (bytes_eq name) names) unknown) (λ place. and_then (parsed_integer (number token)) (λ n. Ok (place, n))) (of-option (position (bytes_eq name) names) unknown h)
+    in-turn (and_then (ok_or (position (bytes_eq name) names) unknown)
+    (λ place. and_then (parsed_integer (number token)) (λ n. Ok (place, n))))
+    (λ term. and_then (named_numbers names unknown fs) (λ form. Ok (term ∷ form)))
+    (in-turn (ok_or (position (bytes_eq name) names) unknown) (λ place. and_then (parsed_integer (number token)) (λ n. Ok (place, n)))
+    (of-option (position (bytes_eq name) names) unknown h)
     (λ place. in-turn (parsed_integer (number token)) (λ n. Ok (place, n)) (integer-not (number token)) (λ n. tt)))
     (λ term. in-turn (named_numbers names unknown fs) (λ form. Ok (term ∷ form)) (named-not names unknown h fs) (λ form. tt))
 
@@ -88,7 +95,8 @@ split-not p (token ∷ fs) =
 line-not : (p : Table) (depth : ℕ) (fs : List (List ℕ)) → NotLarge (parsed_certificate_line p depth fs)
 line-not p depth [] = λ e. absurd cc
 line-not p depth (word ∷ fs) =
-    subst NotLarge (sym (line_by_word p depth word fs)) (either (bytes_eq word (codes "split")) (split_behind p fs) (if bytes_eq word (codes "bound") then bound_behind p depth fs else Err Fields) (split-not p fs)
+    subst NotLarge (sym (line_by_word p depth word fs)) (either (bytes_eq word (codes "split")) (split_behind p fs)
+    (if bytes_eq word (codes "bound") then bound_behind p depth fs else Err Fields) (split-not p fs)
     (either (bytes_eq word (codes "bound")) (bound_behind p depth fs) (Err Fields) (bound-not p depth fs) (λ e. absurd cc)))
 
 taken-not : (p : Table) (least : ℤ) (branches : List Branch) (parsed : ParsedLine) → NotLarge (taken p least branches parsed)
@@ -99,10 +107,13 @@ taken-not p least branches (BoundLine scale ys rows) =
 behind-not : (p : Table) (least : ℤ) (branches : Option (List Branch)) (line : List ℕ) → NotLarge (behind p least branches line)
 behind-not p least branches line = by (is_skipped line)
   where
-    by : (b : Bool) → NotLarge (if b then Ok branches else and_then (ok_or branches Beyond) (λ above. and_then (parsed_certificate_line p (length above) (fields line)) (taken p least above)))
+    by : (b : Bool) → NotLarge (if b then Ok branches else and_then (ok_or branches Beyond)
+        (λ above. and_then (parsed_certificate_line p (length above) (fields line)) (taken p least above)))
     by true = tt
-    by false = in-turn (ok_or branches Beyond) (λ above. and_then (parsed_certificate_line p (length above) (fields line)) (taken p least above)) (of-option branches Beyond (λ e. absurd cc))
-        (λ above. in-turn (parsed_certificate_line p (length above) (fields line)) (taken p least above) (line-not p (length above) (fields line)) (taken-not p least above))
+    by false = in-turn (ok_or branches Beyond) (λ above. and_then (parsed_certificate_line p (length above) (fields line))
+        (taken p least above)) (of-option branches Beyond (λ e. absurd cc))
+        (λ above. in-turn (parsed_certificate_line p (length above) (fields line)) (taken p least above)
+        (line-not p (length above) (fields line)) (taken-not p least above))
 
 parsed-not : {X : Type 0} (r : Result X CertificateFaultKind) (kind : CertificateFaultKind) → NotLarge r → r ≡ Err kind → kind ≢ TooLarge
 parsed-not (Ok x) kind h e = absurd cc
@@ -111,8 +122,10 @@ parsed-not (Err other) kind h e = λ same. let is : other ≡ kind = cc in h (is
 -- ---------- what is refused ----------
 
 -- the line that is refused as too large
-pub refused-large : (p : Table) (least : ℤ) (branches : Option (List Branch)) (place : ℕ) (line : List ℕ) (lines : List (List ℕ)) (splits : List OpenSplit) (refusal : Refusal) (fault : CertificateFault)
-    → IsRefusedCertificate (place + 1) refusal fault → AnswersAlike p least splits (Err refusal) (behind p least branches line) → RefusedLargeOnly {X = Bool} (IsLargeLine p least branches line) (Err refusal)
+pub refused-large : (p : Table) (least : ℤ) (branches : Option (List Branch)) (place : ℕ) (line : List ℕ) (lines : List (List ℕ))
+    (splits : List OpenSplit) (refusal : Refusal) (fault : CertificateFault)
+    → IsRefusedCertificate (place + 1) refusal fault → AnswersAlike p least splits (Err refusal) (behind p least branches line)
+    → RefusedLargeOnly {X = Bool} (IsLargeLine p least branches line) (Err refusal)
     → fault.kind ≡ TooLarge → IsLargeFrom p least (Ok branches) place (line ∷ lines) fault.line
 refused-large p least branches place line lines splits (Stopped limits.Memory) fault refused parsed large e = absurd cc
 refused-large p least branches place line lines splits (Stopped limits.TooLarge) fault refused parsed large e =
@@ -123,12 +136,15 @@ refused-large p least branches place line lines splits (Fault kind) fault refuse
     absurd (parsed-not (behind p least branches line) kind (behind-not p least branches line) parsed (sym of_fault ∙ e))
 
 -- a line more
-pub line-passed : (p : Table) (least : ℤ) (branches after : Option (List Branch)) (place : ℕ) (line : List ℕ) (lines rest : List (List ℕ)) (first : Option (ℕ × CertificateFaultKind)) (IsLarge : ℕ → Type 0) → lines ≡ line ∷ rest
-    → GoOnAlike p least (behind p least branches line) (Ok after) → fault_from p least (Ok branches) place lines ≡ first → ((number : ℕ) → IsLargeFrom p least (Ok branches) place lines number → IsLarge number)
+pub line-passed : (p : Table) (least : ℤ) (branches after : Option (List Branch)) (place : ℕ) (line : List ℕ) (lines rest : List (List ℕ))
+    (first : Option (ℕ × CertificateFaultKind)) (IsLarge : ℕ → Type 0) → lines ≡ line ∷ rest
+    → GoOnAlike p least (behind p least branches line) (Ok after) → fault_from p least (Ok branches) place lines ≡ first
+    → ((number : ℕ) → IsLargeFrom p least (Ok branches) place lines number → IsLarge number)
     → (fault_from p least (Ok after) (place + 1) rest ≡ first) × ((number : ℕ) → IsLargeFrom p least (Ok after) (place + 1) rest number → IsLarge number)
 line-passed p least branches after place line lines rest first IsLarge e alike before large =
     let next : place + 1 ≡ suc place = omega arith in
-    let now : fault_from p least (behind p least branches line) (suc place) rest ≡ first = subst (λ (ls : List (List ℕ)). fault_from p least (Ok branches) place ls ≡ first) e before in (
+    let now : fault_from p least (behind p least branches line) (suc place) rest ≡ first =
+    subst (λ (ls : List (List ℕ)). fault_from p least (Ok branches) place ls ≡ first) e before in (
       subst (λ (k : ℕ). fault_from p least (Ok after) k rest ≡ first) (sym next) (sym (alike (suc place) rest).0 ∙ now),
       λ number h.
           large number (subst (λ (ls : List (List ℕ)). IsLargeFrom p least (Ok branches) place ls number) (sym e)

@@ -1,5 +1,6 @@
 -- A certificate judged after the split from a point bounds all others.
-use Rattle.std.proofs.Common.{◌≡◌, ℕ, zero, suc, ◌+◌, Bool, true, false, cond, List, [], ◌∷◌, ◌++◌, Some, slice_get, slice_index_or, drop, refl, sym, ap, ap₂, ◌∙◌, arith, ℤ, pos, neg_ℤ, ◌+ℤ◌, ◌≤ℤ◌}
+use Rattle.std.proofs.Common.{◌≡◌, ℕ, zero, suc, ◌+◌, Bool, true, false, cond, List, [], ◌∷◌, ◌++◌, Some, slice_get}
+use Rattle.std.proofs.Common.{slice_index_or, drop, refl, sym, ap, ap₂, ◌∙◌, arith, ℤ, pos, neg_ℤ, ◌+ℤ◌, ◌≤ℤ◌}
 use Rattle.std.specs.Prelude.{◌&&◌, if◌then◌else◌}
 use Rattle.std.specs.Option.{option_map}
 use Rattle.std.proofs.lemmas.Int.{ints}
@@ -32,7 +33,8 @@ abbrev one_of : Bool → ℕ
 one_of b = if b then 1 else 0
 
 -- what a column adds to the sum and to the ones
-one-column : (b v x w : Bool) (place : ℕ) (form : Form) (all : List Bool) (n a : ℕ) → slice_index_or all place false ≡ w → w ≡ x → form_sum form all +ℤ pos n ≡ pos a
+one-column : (b v x w : Bool) (place : ℕ) (form : Form) (all : List Bool) (n a : ℕ) → slice_index_or all place false ≡ w → w ≡ x
+    → form_sum form all +ℤ pos n ≡ pos a
     → form_sum (if b then term place v ∷ form else form) all +ℤ pos (one_of (b && v) + n) ≡ pos (cond b (differ v x) 0 + a)
 one-column true true true true place form all n a e f h = rw e (omega (arith, ints))
 one-column true true false false place form all n a e f h = rw e (omega (arith, ints))
@@ -43,7 +45,8 @@ one-column true v false true place form all n a e f h = absurd cc
 one-column false v x w place form all n a e f h = omega (arith, ints)
 
 -- the sum of the split's form, and the ones, are how far the values are apart
-measured : (all : List Bool) (place : ℕ) (cs : List TableColumn) (vs xs : List Bool) → AreAllowed cs vs → AreAllowed cs xs → ((k m : ℕ) → m ≡ place + k → slice_index_or all m false ≡ slice_index_or xs k false)
+measured : (all : List Bool) (place : ℕ) (cs : List TableColumn) (vs xs : List Bool) → AreAllowed cs vs → AreAllowed cs xs
+    → ((k m : ℕ) → m ≡ place + k → slice_index_or all m false ≡ slice_index_or xs k false)
     → form_sum (distance place cs vs) all +ℤ pos (free_ones cs vs) ≡ pos (apart cs vs xs)
 measured all place [] [] [] h i same = refl
 measured all place [] (v ∷ vs) xs h i same = absurd h
@@ -82,10 +85,13 @@ shown-is-only p values certificate point shows others h lower = by (apart p.colu
     by (suc d) e =
         let s : ℤ = form_sum (distance 0 p.columns values) others in
         let n : ℕ = free_ones p.columns values in
-        let sum : s +ℤ pos n ≡ pos (apart p.columns values others) = measured others 0 p.columns values others point.allowed h.allowed (λ k m e. ap (λ (i : ℕ). slice_index_or others i false) (let t : m ≡ k = omega arith in t)) in
+        let sum : s +ℤ pos n ≡ pos (apart p.columns values others) = measured others 0 p.columns values others point.allowed h.allowed
+        (λ k m e. ap (λ (i : ℕ). slice_index_or others i false) (let t : m ≡ k = omega arith in t)) in
         let far : s +ℤ pos n ≡ pos (suc d) = sum ∙ ap (λ (i : ℕ). pos i) e in
-        let within : form_sum (side true (distance 0 p.columns values) (neg_ℤ (pos n))).form others ≤ℤ neg_ℤ (neg_ℤ (pos n) +ℤ pos 1) = rw (negated-sum (distance 0 p.columns values) others) (omega (arith, ints)) in
-        let above : (objective p values +ℤ pos 1) ≤ℤ objective p others = shown-within p (objective p values +ℤ pos 1) (cuts_above (all_others p values ∷ [])) certificate others shows h (within, tt) in
+        let within : form_sum (side true (distance 0 p.columns values) (neg_ℤ (pos n))).form others ≤ℤ neg_ℤ (neg_ℤ (pos n) +ℤ pos 1) =
+        rw (negated-sum (distance 0 p.columns values) others) (omega (arith, ints)) in
+        let above : (objective p values +ℤ pos 1) ≤ℤ objective p others =
+        shown-within p (objective p values +ℤ pos 1) (cuts_above (all_others p values ∷ [])) certificate others shows h (within, tt) in
         absurd (omega (arith, ints))
 
 -- ---------- column by column ----------
@@ -95,7 +101,8 @@ chosen true t form = refl
 chosen false t form = refl
 
 -- the term of the column at a place, and then those after it
-pub distance-at : (i place : ℕ) (cs : List TableColumn) (vs : List Bool) (b : Bounds) (v : Bool) → option_map (λ c. c.bounds) (slice_get cs i) ≡ Some b → slice_get vs i ≡ Some v
+pub distance-at : (i place : ℕ) (cs : List TableColumn) (vs : List Bool) (b : Bounds) (v : Bool)
+    → option_map (λ c. c.bounds) (slice_get cs i) ≡ Some b → slice_get vs i ≡ Some v
     → distance place (drop i cs) (drop i vs) ≡ (if is_zero_or_one b then term place v ∷ [] else []) ++ distance (suc place) (drop (suc i) cs) (drop (suc i) vs)
 distance-at zero place (c ∷ cs) [] b v e f = cc f
 distance-at zero place (c ∷ cs) (w ∷ vs) b v e f =
@@ -106,7 +113,8 @@ distance-at (suc i) place (c ∷ cs) [] b v e f = cc f
 distance-at (suc i) place (c ∷ cs) (w ∷ vs) b v e f = distance-at i place cs vs b v e f
 distance-at _ place [] vs b v e f = cc e
 
-pub free_ones-at : (i : ℕ) (cs : List TableColumn) (vs : List Bool) (b : Bounds) (v : Bool) → option_map (λ c. c.bounds) (slice_get cs i) ≡ Some b → slice_get vs i ≡ Some v
+pub free_ones-at : (i : ℕ) (cs : List TableColumn) (vs : List Bool) (b : Bounds) (v : Bool)
+    → option_map (λ c. c.bounds) (slice_get cs i) ≡ Some b → slice_get vs i ≡ Some v
     → free_ones (drop i cs) (drop i vs) ≡ one_of (is_zero_or_one b && v) + free_ones (drop (suc i) cs) (drop (suc i) vs)
 free_ones-at zero (c ∷ cs) [] b v e f = cc f
 free_ones-at zero (c ∷ cs) (w ∷ vs) b v e f =

@@ -1,5 +1,7 @@
 -- Numbers by place: what a write, a step of a loop and a taken place leave.
-use Rattle.std.proofs.Common.{◌≡◌, ℕ, suc, ◌+◌, ◌<◌, ◌≤◌, Bool, true, false, cond, List, [], ◌∷◌, ◌++◌, length, drop, drop-cons, get_or, slice_set, refl, sym, ap, ◌∙◌, arith, get_or-set_other, length-set, ℤ, pos, neg_ℤ, ◌+ℤ◌, ◌≢◌}
+use Rattle.std.proofs.Common.{◌≡◌, ℕ, suc, ◌+◌, ◌<◌, ◌≤◌, Bool, true, false, cond, List, [], ◌∷◌, ◌++◌, length, drop}
+use Rattle.std.proofs.Common.{drop-cons, get_or, slice_set, refl, sym, ap, ◌∙◌, arith, get_or-set_other, length-set, ℤ, pos}
+use Rattle.std.proofs.Common.{neg_ℤ, ◌+ℤ◌, ◌≢◌}
 use Rattle.std.specs.Prelude.{◌*ℤ◌, ◌==◌, ◌||◌, Some}
 use Rattle.std.proofs.lemmas.Grind.{get_or-set_at}
 use Rattle.std.proofs.lemmas.List.{get_or_past, drop_all}
@@ -12,7 +14,8 @@ use Rattle.optimality.proofs.ProductFacts.{times-sum}
 
 -- ---------- a write ----------
 
-pub set-at : (numbers : List ℤ) (place q : ℕ) (n : ℤ) → place < length numbers → number_at (slice_set numbers place n) q ≡ cond (place == q) n (number_at numbers q)
+pub set-at : (numbers : List ℤ) (place q : ℕ) (n : ℤ) → place < length numbers
+    → number_at (slice_set numbers place n) q ≡ cond (place == q) n (number_at numbers q)
 set-at numbers place q n h = by (place == q) refl
   where
     by : (b : Bool) → (place == q) ≡ b → number_at (slice_set numbers place n) q ≡ cond b n (number_at numbers q)
@@ -42,7 +45,8 @@ not-pushed [] place q h = by (place == q) refl h
     by false e h = (refl, e)
 not-pushed (p ∷ places) place q h = by (not-pushed places place q) (p == q) h
   where
-    by : (has_place (places ++ place ∷ []) q ≡ false → (has_place places q ≡ false) × ((place == q) ≡ false)) → (b : Bool) → (b || has_place (places ++ place ∷ []) q) ≡ false → ((b || has_place places q) ≡ false) × ((place == q) ≡ false)
+    by : (has_place (places ++ place ∷ []) q ≡ false → (has_place places q ≡ false) × ((place == q) ≡ false)) → (b : Bool)
+        → (b || has_place (places ++ place ∷ []) q) ≡ false → ((b || has_place places q) ≡ false) × ((place == q) ≡ false)
     by later true h = absurd cc
     by later false h = later h
 
@@ -50,13 +54,15 @@ not-listed-last : (places : List ℕ) (place q : ℕ) → has_place places q ≡
 not-listed-last [] place q h e = rw e refl
 not-listed-last (p ∷ places) place q h e = by (λ none. not-listed-last places place q none e) (p == q) h
   where
-    by : (has_place places q ≡ false → has_place (places ++ place ∷ []) q ≡ false) → (b : Bool) → (b || has_place places q) ≡ false → (b || has_place (places ++ place ∷ []) q) ≡ false
+    by : (has_place places q ≡ false → has_place (places ++ place ∷ []) q ≡ false) → (b : Bool) → (b || has_place places q) ≡ false
+        → (b || has_place (places ++ place ∷ []) q) ≡ false
     by later true h = absurd cc
     by later false h = later h
 
 -- ---------- a number more ----------
 
-pub more-set : (before grown : List ℤ) (place : ℕ) (n : ℤ) → AreAsBefore before grown → place < length grown → AreGivenMore (at_place place n) before (slice_set grown place (number_at before place +ℤ n))
+pub more-set : (before grown : List ℤ) (place : ℕ) (n : ℤ) → AreAsBefore before grown → place < length grown
+    → AreGivenMore (at_place place n) before (slice_set grown place (number_at before place +ℤ n))
 more-set before grown place n same h q = set-at grown place q (number_at before place +ℤ n) h ∙ by (place == q) refl
   where
     by : (b : Bool) → (place == q) ≡ b → cond b (number_at before place +ℤ n) (number_at grown q) ≡ number_at before q +ℤ cond b n (pos 0)
@@ -64,7 +70,8 @@ more-set before grown place n same h q = set-at grown place q (number_at before 
     by false e = same q ∙ omega (arith, ints)
 
 -- a place that had 0 is listed now, and no other one is left out
-pub listed-too : (places more : List ℕ) (before grown : List ℤ) (place : ℕ) (n : ℤ) → ((q : ℕ) → has_place more q ≡ false → has_place places q ≡ false) → (number_at before place ≡ pos 0 → has_place more place ≡ true)
+pub listed-too : (places more : List ℕ) (before grown : List ℤ) (place : ℕ) (n : ℤ)
+    → ((q : ℕ) → has_place more q ≡ false → has_place places q ≡ false) → (number_at before place ≡ pos 0 → has_place more place ≡ true)
     → AreListed places before → AreAsBefore before grown → place < length grown → AreListed more (slice_set grown place n)
 listed-too places more before grown place n kept new listed same h q none = set-at grown place q n h ∙ by (place == q) refl
   where
@@ -89,7 +96,8 @@ pushed-keeps places place q h = (not-pushed places place q h).0
 
 -- ---------- a place taken ----------
 
-pub listed-taken : (places : List ℕ) (numbers : List ℤ) (place : ℕ) → AreListed (places ++ place ∷ []) numbers → AreListed places (slice_set numbers place (pos 0))
+pub listed-taken : (places : List ℕ) (numbers : List ℤ) (place : ℕ) → AreListed (places ++ place ∷ []) numbers
+    → AreListed places (slice_set numbers place (pos 0))
 listed-taken places numbers place listed q none = zero-at numbers place q ∙ by (place == q) refl
   where
     by : (b : Bool) → (place == q) ≡ b → cond b (pos 0) (number_at numbers q) ≡ pos 0
@@ -107,7 +115,8 @@ times-at k n true = refl
 times-at k n false = sym (*ℤ-zero k)
 
 -- the multiple of a form's term, and that of the terms after it
-pub form-rest : (k : ℤ) (form : Form) (i : ℕ) (d : ℕ × ℤ) (q : ℕ) → i < length form → form_given k (drop i form) q ≡ at_place (get_or form i d).0 (k *ℤ (get_or form i d).1) q +ℤ form_given k (drop (i + 1) form) q
+pub form-rest : (k : ℤ) (form : Form) (i : ℕ) (d : ℕ × ℤ) (q : ℕ) → i < length form
+    → form_given k (drop i form) q ≡ at_place (get_or form i d).0 (k *ℤ (get_or form i d).1) q +ℤ form_given k (drop (i + 1) form) q
 form-rest k form i d q h =
     let t = get_or form i d in
     ap (λ (f : Form). k *ℤ number_in f q) (rest form i d h)
@@ -118,17 +127,25 @@ form-rest k form i d q h =
 abbrev pub IsSplit : (ℕ → ℤ) → (ℕ → ℤ) → (ℕ → ℤ) → Type 0
 IsSplit all first later = (q : ℕ) → all q ≡ first q +ℤ later q
 
-pub given-step : (all first later : ℕ → ℤ) (start before after : List ℤ) (total : ℕ → ℤ) → IsSplit all first later → AreGivenMore first before after → ((q : ℕ) → number_at before q +ℤ all q ≡ number_at start q +ℤ total q) → (q : ℕ) → number_at after q +ℤ later q ≡ number_at start q +ℤ total q
+pub given-step : (all first later : ℕ → ℤ) (start before after : List ℤ) (total : ℕ → ℤ) → IsSplit all first later
+    → AreGivenMore first before after → ((q : ℕ) → number_at before q +ℤ all q ≡ number_at start q +ℤ total q) → (q : ℕ)
+    → number_at after q +ℤ later q ≡ number_at start q +ℤ total q
 given-step all first later start before after total split more h q = omega (arith, ints, split q, more q, h q)
 
-pub form-step : (k : ℤ) (form : Form) (i : ℕ) (d : ℕ × ℤ) (start before after : List ℤ) → i < length form → AreGivenMore (at_place (get_or form i d).0 (k *ℤ (get_or form i d).1)) before after
-    → ((q : ℕ) → number_at before q +ℤ form_given k (drop i form) q ≡ number_at start q +ℤ form_given k form q) → (q : ℕ) → number_at after q +ℤ form_given k (drop (i + 1) form) q ≡ number_at start q +ℤ form_given k form q
+pub form-step : (k : ℤ) (form : Form) (i : ℕ) (d : ℕ × ℤ) (start before after : List ℤ) → i < length form
+    → AreGivenMore (at_place (get_or form i d).0 (k *ℤ (get_or form i d).1)) before after
+    → ((q : ℕ) → number_at before q +ℤ form_given k (drop i form) q ≡ number_at start q +ℤ form_given k form q) → (q : ℕ)
+    → number_at after q +ℤ form_given k (drop (i + 1) form) q ≡ number_at start q +ℤ form_given k form q
 form-step k form i d start before after l more h =
-    given-step (form_given k (drop i form)) (at_place (get_or form i d).0 (k *ℤ (get_or form i d).1)) (form_given k (drop (i + 1) form)) start before after (form_given k form) (λ q. form-rest k form i d q l) more h
+    given-step (form_given k (drop i form)) (at_place (get_or form i d).0 (k *ℤ (get_or form i d).1)) (form_given k (drop (i + 1) form))
+    start before after (form_given k form) (λ q. form-rest k form i d q l) more h
 
-pub form-end : (k : ℤ) (form : Form) (i : ℕ) (start after : List ℤ) → length form ≤ i → ((q : ℕ) → number_at after q +ℤ form_given k (drop i form) q ≡ number_at start q +ℤ form_given k form q) → AreGivenMore (form_given k form) start after
+pub form-end : (k : ℤ) (form : Form) (i : ℕ) (start after : List ℤ) → length form ≤ i
+    → ((q : ℕ) → number_at after q +ℤ form_given k (drop i form) q ≡ number_at start q +ℤ form_given k form q)
+    → AreGivenMore (form_given k form) start after
 form-end k form i start after l h q =
-    let e : number_at after q +ℤ k *ℤ pos 0 ≡ number_at start q +ℤ form_given k form q = ap (λ (f : Form). number_at after q +ℤ form_given k f q) (sym (drop_all i form l)) ∙ h q in
+    let e : number_at after q +ℤ k *ℤ pos 0 ≡ number_at start q +ℤ form_given k form q =
+    ap (λ (f : Form). number_at after q +ℤ form_given k f q) (sym (drop_all i form l)) ∙ h q in
     let none : k *ℤ pos 0 ≡ pos 0 = *ℤ-zero k in
     omega (arith, ints)
 
@@ -140,17 +157,22 @@ number-both (t ∷ a) b q = let later = number-both a b q in omega (arith, ints)
 form-both : (k : ℤ) (a b : Form) (q : ℕ) → form_given k (a ++ b) q ≡ form_given k a q +ℤ form_given k b q
 form-both k a b q = ap (λ (n : ℤ). k *ℤ n) (number-both a b q) ∙ times-sum k (number_in a q) (number_in b q)
 
-given-both : (all first later : ℕ → ℤ) (start mid after : List ℤ) → IsSplit all first later → AreGivenMore first start mid → AreGivenMore later mid after → AreGivenMore all start after
+given-both : (all first later : ℕ → ℤ) (start mid after : List ℤ) → IsSplit all first later → AreGivenMore first start mid
+    → AreGivenMore later mid after → AreGivenMore all start after
 given-both all first later start mid after split one two q = omega (arith, ints, split q, one q, two q)
 
-pub forms-given : (k : ℤ) (a b : Form) (start mid after : List ℤ) → AreGivenMore (form_given k a) start mid → AreGivenMore (form_given k b) mid after → AreGivenMore (form_given k (a ++ b)) start after
+pub forms-given : (k : ℤ) (a b : Form) (start mid after : List ℤ) → AreGivenMore (form_given k a) start mid
+    → AreGivenMore (form_given k b) mid after → AreGivenMore (form_given k (a ++ b)) start after
 forms-given k a b start mid after = given-both (form_given k (a ++ b)) (form_given k a) (form_given k b) start mid after (form-both k a b)
 
 -- terms added up as they stand
-pub terms-step : (form : Form) (i : ℕ) (d : ℕ × ℤ) (start before after : List ℤ) → i < length form → AreGivenMore (at_place (get_or form i d).0 (get_or form i d).1) before after
-    → ((q : ℕ) → number_at before q +ℤ number_in (drop i form) q ≡ number_at start q +ℤ number_in form q) → (q : ℕ) → number_at after q +ℤ number_in (drop (i + 1) form) q ≡ number_at start q +ℤ number_in form q
+pub terms-step : (form : Form) (i : ℕ) (d : ℕ × ℤ) (start before after : List ℤ) → i < length form
+    → AreGivenMore (at_place (get_or form i d).0 (get_or form i d).1) before after
+    → ((q : ℕ) → number_at before q +ℤ number_in (drop i form) q ≡ number_at start q +ℤ number_in form q) → (q : ℕ)
+    → number_at after q +ℤ number_in (drop (i + 1) form) q ≡ number_at start q +ℤ number_in form q
 terms-step form i d start before after l more h =
-    given-step (number_in (drop i form)) (at_place (get_or form i d).0 (get_or form i d).1) (number_in (drop (i + 1) form)) start before after (number_in form) (λ q. ap (λ (f : Form). number_in f q) (rest form i d l)) more h
+    given-step (number_in (drop i form)) (at_place (get_or form i d).0 (get_or form i d).1) (number_in (drop (i + 1) form)) start before
+    after (number_in form) (λ q. ap (λ (f : Form). number_in f q) (rest form i d l)) more h
 
 -- ---------- the second side of a split ----------
 
@@ -168,7 +190,9 @@ pub number-last : (form : Form) (t : ℕ × ℤ) (q : ℕ) → number_in (form +
 number-last [] t q = omega (arith, ints)
 number-last (s ∷ form) t q = let later = number-last form t q in omega (arith, ints)
 
-pub taken-pushed : (all : ℕ → ℤ) (form next : Form) (t : ℕ × ℤ) (before after : List ℤ) → IsTaken (Some t) before after → next ≡ form ++ t ∷ [] → ((q : ℕ) → all q ≡ number_in form q +ℤ number_at before q) → (q : ℕ) → all q ≡ number_in next q +ℤ number_at after q
+pub taken-pushed : (all : ℕ → ℤ) (form next : Form) (t : ℕ × ℤ) (before after : List ℤ) → IsTaken (Some t) before after
+    → next ≡ form ++ t ∷ [] → ((q : ℕ) → all q ≡ number_in form q +ℤ number_at before q) → (q : ℕ)
+    → all q ≡ number_in next q +ℤ number_at after q
 taken-pushed all form next t before after taken e h q =
     let pushed : number_in next q ≡ number_in form q +ℤ at_place t.0 t.1 q = ap (λ (f : Form). number_in f q) e ∙ number-last form t q in
     omega (arith, ints, taken.1 q, h q)

@@ -1,5 +1,7 @@
 -- The rows of a program as forms: what each gives a column is its coefficient there.
-use Rattle.std.proofs.Common.{◌≡◌, ℕ, zero, suc, ◌+◌, ◌<◌, ◌≤◌, Bool, true, false, cond, drop, List, [], ◌∷◌, ◌++◌, Some, length, slice_get, refl, subst, sym, ap, ◌∙◌, arith, get_or, get_or-set_other, length-set, ℤ, pos, ◌+ℤ◌, ◌≢◌}
+use Rattle.std.proofs.Common.{◌≡◌, ℕ, zero, suc, ◌+◌, ◌<◌, ◌≤◌, Bool, true, false, cond, drop, List, [], ◌∷◌, ◌++◌, Some}
+use Rattle.std.proofs.Common.{length, slice_get, refl, subst, sym, ap, ◌∙◌, arith, get_or, get_or-set_other, length-set, ℤ}
+use Rattle.std.proofs.Common.{pos, ◌+ℤ◌, ◌≢◌}
 use Rattle.optimality.proofs.PlaceFacts.{number-last, rest}
 use Rattle.std.specs.Prelude.{◌==◌, find, replicate, slice_set}
 use Rattle.std.specs.Option.{option_map, option_map_or}
@@ -20,18 +22,23 @@ use Rattle.optimality.specs.inside.RowForms.{form_held, with_term, with_entries,
 -- ---------- what the code does ----------
 
 -- a term pushed onto the form of a row
-pub term-pushed : (forms : List RowForm) (row : ℕ) (t : ℕ × ℤ) (d next : RowForm) → row < length forms → form_held next ≡ form_held (get_or forms row d) ++ t ∷ [] → forms_held (slice_set forms row next) ≡ with_term row t (forms_held forms)
+pub term-pushed : (forms : List RowForm) (row : ℕ) (t : ℕ × ℤ) (d next : RowForm) → row < length forms
+    → form_held next ≡ form_held (get_or forms row d) ++ t ∷ [] → forms_held (slice_set forms row next) ≡ with_term row t (forms_held forms)
 term-pushed forms row t d next h e =
     map-set form_held forms row next
     ∙ ap (λ (form : Form). slice_set (forms_held forms) row form) (e ∙ ap (λ (form : Form). form ++ t ∷ []) (sym (get_or-map form_held forms row d [] h)))
 
-columns_there : (place i : ℕ) (cs : List TableColumn) (es : List (ℕ × ℤ)) (forms : List Form) → option_map (λ c. c.entries) (slice_get cs i) ≡ Some es → with_columns place (drop i cs) forms ≡ with_columns (suc place) (drop (suc i) cs) (with_entries place es forms)
+columns_there : (place i : ℕ) (cs : List TableColumn) (es : List (ℕ × ℤ)) (forms : List Form)
+    → option_map (λ c. c.entries) (slice_get cs i) ≡ Some es
+    → with_columns place (drop i cs) forms ≡ with_columns (suc place) (drop (suc i) cs) (with_entries place es forms)
 columns_there place i [] es forms h = absurd cc
-columns_there place zero (c ∷ cs) es forms h = let here : c.entries ≡ es = cc in ap (λ (x : List (ℕ × ℤ)). with_columns (suc place) cs (with_entries place x forms)) here
+columns_there place zero (c ∷ cs) es forms h =
+    let here : c.entries ≡ es = cc in ap (λ (x : List (ℕ × ℤ)). with_columns (suc place) cs (with_entries place x forms)) here
 columns_there place (suc i) (c ∷ cs) es forms h = columns_there place i cs es forms h
 
 -- one column more
-pub columns-step : (i : ℕ) (cs : List TableColumn) (es : List (ℕ × ℤ)) (forms next all : List Form) → option_map (λ c. c.entries) (slice_get cs i) ≡ Some es → next ≡ with_entries i es forms
+pub columns-step : (i : ℕ) (cs : List TableColumn) (es : List (ℕ × ℤ)) (forms next all : List Form)
+    → option_map (λ c. c.entries) (slice_get cs i) ≡ Some es → next ≡ with_entries i es forms
     → with_columns i (drop i cs) forms ≡ all → with_columns (i + 1) (drop (i + 1) cs) next ≡ all
 columns-step i cs es forms next all e s h =
     let after : i + 1 ≡ suc i = omega arith in
@@ -54,7 +61,8 @@ pub length-columns : (place : ℕ) (cs : List TableColumn) (forms : List Form) �
 length-columns place [] forms = refl
 length-columns place (c ∷ cs) forms = length-columns (suc place) cs (with_entries place c.entries forms) ∙ length-entries place c.entries forms
 
-term-at : (place : ℕ) (t : ℕ × ℤ) (forms : List Form) (row i : ℕ) → row < length forms → given (with_term place t forms) row i ≡ given forms row i +ℤ cond (place == row) (cond (t.0 == i) t.1 (pos 0)) (pos 0)
+term-at : (place : ℕ) (t : ℕ × ℤ) (forms : List Form) (row i : ℕ) → row < length forms
+    → given (with_term place t forms) row i ≡ given forms row i +ℤ cond (place == row) (cond (t.0 == i) t.1 (pos 0)) (pos 0)
 term-at place t forms row i h = by (place == row) refl
   where
     by : (b : Bool) → (place == row) ≡ b → given (with_term place t forms) row i ≡ given forms row i +ℤ cond b (cond (t.0 == i) t.1 (pos 0)) (pos 0)
@@ -73,7 +81,8 @@ exchanged true false n m = refl
 exchanged false true n m = refl
 exchanged false false n m = refl
 
-entries-at : (place : ℕ) (es : List (ℕ × ℤ)) (forms : List Form) (row i : ℕ) → row < length forms → given (with_entries place es forms) row i ≡ given forms row i +ℤ cond (place == i) (number_in es row) (pos 0)
+entries-at : (place : ℕ) (es : List (ℕ × ℤ)) (forms : List Form) (row i : ℕ) → row < length forms
+    → given (with_entries place es forms) row i ≡ given forms row i +ℤ cond (place == i) (number_in es row) (pos 0)
 entries-at place [] forms row i h = by (place == i)
   where
     by : (b : Bool) → given forms row i ≡ given forms row i +ℤ cond b (pos 0) (pos 0)
@@ -85,7 +94,8 @@ entries-at place (e ∷ es) forms row i h =
     omega (arith, ints, entries-at place es (with_term e.0 (place, e.1) forms) row i longer, term-at e.0 (place, e.1) forms row i h)
 
 -- columns after a place give it nothing
-passed : (place : ℕ) (cs : List TableColumn) (forms : List Form) (row i : ℕ) → row < length forms → i < place → given (with_columns place cs forms) row i ≡ given forms row i
+passed : (place : ℕ) (cs : List TableColumn) (forms : List Form) (row i : ℕ) → row < length forms → i < place
+    → given (with_columns place cs forms) row i ≡ given forms row i
 passed place [] forms row i h l = refl
 passed place (c ∷ cs) forms row i h l =
     let longer : row < length (with_entries place c.entries forms) = omega (arith, length-entries place c.entries forms) in
@@ -94,7 +104,8 @@ passed place (c ∷ cs) forms row i h l =
     let none = ap (λ (b : Bool). cond b (number_in c.entries row) (pos 0)) other in
     omega (arith, ints, entries-at place c.entries forms row i h)
 
-columns-at : (place j : ℕ) (cs : List TableColumn) (forms : List Form) (row i : ℕ) (c : TableColumn) → row < length forms → i ≡ place + j → slice_get cs j ≡ Some c → given (with_columns place cs forms) row i ≡ given forms row i +ℤ number_in c.entries row
+columns-at : (place j : ℕ) (cs : List TableColumn) (forms : List Form) (row i : ℕ) (c : TableColumn) → row < length forms → i ≡ place + j
+    → slice_get cs j ≡ Some c → given (with_columns place cs forms) row i ≡ given forms row i +ℤ number_in c.entries row
 columns-at place j [] forms row i c h e at = absurd cc
 columns-at place zero (d ∷ cs) forms row i c h e at =
     let same : d ≡ c = cc in
@@ -125,7 +136,8 @@ pub entry-is : (m row : ℕ) (es : List (ℕ × ℤ)) → AreEntries m es → nu
 entry-is m row [] h = refl
 entry-is m row (e ∷ es) h = by (entry-is m row es h.3) (e.0 == row) refl
   where
-    by : number_in es row ≡ option_map_or (λ x. x.1) (find (λ x. x.0 == row) es) (pos 0) → (b : Bool) → (e.0 == row) ≡ b → cond b e.1 (pos 0) +ℤ number_in es row ≡ option_map_or (λ x. x.1) (cond b (Some e) (find (λ x. x.0 == row) es)) (pos 0)
+    by : number_in es row ≡ option_map_or (λ x. x.1) (find (λ x. x.0 == row) es) (pos 0) → (b : Bool) → (e.0 == row) ≡ b
+        → cond b e.1 (pos 0) +ℤ number_in es row ≡ option_map_or (λ x. x.1) (cond b (Some e) (find (λ x. x.0 == row) es)) (pos 0)
     by rest true q =
         let same : row ≡ e.0 = grind (arith, nat_tests) in
         omega (arith, ints, none-later row e.0 es same h.2)
@@ -138,13 +150,15 @@ none-behind m row (e ∷ es) h l =
     let other : (e.0 == row) ≡ false = grind (arith, nat_tests, h.0) in
     rw (other, none-behind m row es h.3 l) refl
 
-pub entries-of : (m : ℕ) (cs : List TableColumn) (i : ℕ) (c : TableColumn) → AllByRecursion (λ d. AreEntries m d.entries) cs → slice_get cs i ≡ Some c → AreEntries m c.entries
+pub entries-of : (m : ℕ) (cs : List TableColumn) (i : ℕ) (c : TableColumn) → AllByRecursion (λ d. AreEntries m d.entries) cs
+    → slice_get cs i ≡ Some c → AreEntries m c.entries
 entries-of m [] i c h at = absurd cc
 entries-of m (d ∷ cs) zero c h at = let same : d ≡ c = cc in subst (λ (x : TableColumn). AreEntries m x.entries) same h.0
 entries-of m (d ∷ cs) (suc i) c h at = entries-of m cs i c h.1 at
 
 -- the form of a row gives a column its coefficient
-pub row-form-at : (p : Table) → IsProgram p → (row i : ℕ) (c : TableColumn) → slice_get p.columns i ≡ Some c → number_in (form_at (row_forms p) row) i ≡ coefficient_at row c
+pub row-form-at : (p : Table) → IsProgram p → (row i : ℕ) (c : TableColumn) → slice_get p.columns i ≡ Some c
+    → number_in (form_at (row_forms p) row) i ≡ coefficient_at row c
 row-form-at p h row i c at =
     let m = length p.rows in
     let none = replicate m [] in
@@ -160,11 +174,14 @@ row-form-at p h row i c at =
     (λ more.
     let l : m ≤ row = omega (arith, ints) in
     let behind : length (row_forms p) ≤ row = omega (arith, length-columns 0 p.columns none, length-replicate {A = Form} m []) in
-    ap (λ (form : Form). number_in form i) (get_or_past (row_forms p) row [] behind) ∙ sym (none-behind m row c.entries entries l) ∙ entry-is m row c.entries entries)
+    ap (λ (form : Form). number_in form i) (get_or_past (row_forms p) row [] behind) ∙ sym (none-behind m row c.entries entries l)
+    ∙ entry-is m row c.entries entries)
 
 -- the entry at a place, added before those after it
-pub entry-taken : (place : ℕ) (entries : Form) (i : ℕ) (e : ℕ × ℤ) (forms new whole : List Form) → slice_get entries i ≡ Some e → new ≡ with_term e.0 (place, e.1) forms
+pub entry-taken : (place : ℕ) (entries : Form) (i : ℕ) (e : ℕ × ℤ) (forms new whole : List Form) → slice_get entries i ≡ Some e
+    → new ≡ with_term e.0 (place, e.1) forms
     → with_entries place (drop i entries) forms ≡ whole → with_entries place (drop (i + 1) entries) new ≡ whole
 entry-taken place entries i e forms new whole there added so =
-    let front : drop i entries ≡ e ∷ drop (i + 1) entries = rest entries i e (slice_get_within entries i e there) ∙ ap (λ (x : ℕ × ℤ). x ∷ drop (i + 1) entries) (get_or_from_slice_get entries i e e there) in
+    let front : drop i entries ≡ e ∷ drop (i + 1) entries = rest entries i e (slice_get_within entries i e there)
+    ∙ ap (λ (x : ℕ × ℤ). x ∷ drop (i + 1) entries) (get_or_from_slice_get entries i e e there) in
     ap (λ (fs : List Form). with_entries place (drop (i + 1) entries) fs) added ∙ sym (ap (λ (es : Form). with_entries place es forms) front) ∙ so

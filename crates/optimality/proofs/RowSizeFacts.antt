@@ -1,5 +1,6 @@
 -- The rows of a program as forms: the numbers of each are no larger than its coefficients.
-use Rattle.std.proofs.Common.{◌≡◌, ℕ, suc, ◌+◌, ◌<◌, ◌≤◌, Bool, true, false, cond, List, [], ◌∷◌, ◌++◌, Some, length, refl, sym, ap, ◌∙◌, arith, get_or-set_other, ℤ, pos, ◌≢◌}
+use Rattle.std.proofs.Common.{◌≡◌, ℕ, suc, ◌+◌, ◌<◌, ◌≤◌, Bool, true, false, cond, List, [], ◌∷◌, ◌++◌, Some, length, refl}
+use Rattle.std.proofs.Common.{sym, ap, ◌∙◌, arith, get_or-set_other, ℤ, pos, ◌≢◌}
 use Rattle.std.specs.Prelude.{◌==◌, find, replicate, unsigned_abs}
 use Rattle.std.specs.Option.{option_map_or}
 use Rattle.std.specs.List.{AllByRecursion}
@@ -25,7 +26,8 @@ size-more : (form : Form) (t : ℕ × ℤ) → form_size (form ++ t ∷ []) ≡ 
 size-more [] t = omega arith
 size-more (s ∷ form) t = let later = size-more form t in omega arith
 
-term-at : (place : ℕ) (t : ℕ × ℤ) (forms : List Form) (row : ℕ) → row < length forms → held (with_term place t forms) row ≡ held forms row + cond (place == row) (unsigned_abs t.1) 0
+term-at : (place : ℕ) (t : ℕ × ℤ) (forms : List Form) (row : ℕ) → row < length forms
+    → held (with_term place t forms) row ≡ held forms row + cond (place == row) (unsigned_abs t.1) 0
 term-at place t forms row h = by (place == row) refl
   where
     by : (b : Bool) → (place == row) ≡ b → held (with_term place t forms) row ≡ held forms row + cond b (unsigned_abs t.1) 0
@@ -38,13 +40,15 @@ term-at place t forms row h = by (place == row) refl
         let other : row ≢ place = grind (arith, nat_tests) in
         ap form_size (get_or-set_other forms place row (form_at forms place ++ t ∷ []) [] other) ∙ omega arith
 
-entries-at : (place : ℕ) (es : List (ℕ × ℤ)) (forms : List Form) (row : ℕ) → row < length forms → held (with_entries place es forms) row ≡ held forms row + size_in es row
+entries-at : (place : ℕ) (es : List (ℕ × ℤ)) (forms : List Form) (row : ℕ) → row < length forms
+    → held (with_entries place es forms) row ≡ held forms row + size_in es row
 entries-at place [] forms row h = omega arith
 entries-at place (e ∷ es) forms row h =
     let longer : row < length (with_term e.0 (place, e.1) forms) = omega (arith, length-term e.0 (place, e.1) forms) in
     omega (arith, entries-at place es (with_term e.0 (place, e.1) forms) row longer, term-at e.0 (place, e.1) forms row h)
 
-columns-at : (place : ℕ) (cs : List TableColumn) (forms : List Form) (row : ℕ) → row < length forms → held (with_columns place cs forms) row ≡ held forms row + size_of (λ c. size_in c.entries row) cs
+columns-at : (place : ℕ) (cs : List TableColumn) (forms : List Form) (row : ℕ) → row < length forms
+    → held (with_columns place cs forms) row ≡ held forms row + size_of (λ c. size_in c.entries row) cs
 columns-at place [] forms row h = omega arith
 columns-at place (c ∷ cs) forms row h =
     let longer : row < length (with_entries place c.entries forms) = omega (arith, length-entries place c.entries forms) in
@@ -69,7 +73,8 @@ entry-is m row (e ∷ es) h = by (entry-is m row es h.3) (e.0 == row) refl
         omega (arith, none-later row e.0 es same h.2)
     by rest false q = omega arith
 
-columns-are : (m row : ℕ) (cs : List TableColumn) → AllByRecursion (λ d. AreEntries m d.entries) cs → size_of (λ c. size_in c.entries row) cs ≡ coefficients_size cs row
+columns-are : (m row : ℕ) (cs : List TableColumn) → AllByRecursion (λ d. AreEntries m d.entries) cs
+    → size_of (λ c. size_in c.entries row) cs ≡ coefficients_size cs row
 columns-are m row [] h = refl
 columns-are m row (c ∷ cs) h = omega (arith, entry-is m row c.entries h.0, columns-are m row cs h.1)
 

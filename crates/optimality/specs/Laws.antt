@@ -25,7 +25,8 @@ ShownIsLeast = (p : Table) (values : List Bool) (certificate : Certificate) → 
 -- in a faithful program a point whose own objective is shown maps back to a feasible allocation of greatest total
 abbrev pub ShownIsGreatest : Type 0
 ShownIsGreatest = (lots : Lots) (book : Book) (group : ℕ → Bool) (program : Table) → IsFaithful lots book group program
-    → (values : List Bool) → IsPoint program values → (certificate : Certificate) → Shows program (objective program values) certificate → IsGreatest lots book group (back program.columns values)
+    → (values : List Bool) → IsPoint program values → (certificate : Certificate) → Shows program (objective program values) certificate
+    → IsGreatest lots book group (back program.columns values)
 
 -- a text has no fault if and only if it describes a certificate that shows `least`
 abbrev pub FirstFaultIsExact : Type 0

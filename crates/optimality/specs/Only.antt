@@ -23,7 +23,8 @@ is_zero_or_one _ = false
 -- such columns from a place on: those that are 1 with -1, and the others with 1
 abbrev pub distance : ℕ → List TableColumn → List Bool → Form
 distance place (c ∷ columns) (value ∷ values) =
-    if is_zero_or_one c.bounds then (place, if value then neg_ℤ (pos 1) else pos 1) ∷ distance (suc place) columns values else distance (suc place) columns values
+    if is_zero_or_one c.bounds then (place, if value then neg_ℤ (pos 1) else pos 1) ∷ distance (suc place) columns values else distance
+    (suc place) columns values
 distance place columns values = []
 
 -- how many of them are 1
@@ -45,7 +46,8 @@ ShownIsOnly = (p : Table) (values : List Bool) (certificate : Certificate) → I
 
 -- the text describes a certificate that shows it
 abbrev pub IsShownOnlyBy : Table → List Bool → List ℕ → Type 0
-IsShownOnlyBy p values text = (certificate : Certificate) × TellsCertificate p 1 certificate (certificate_lines (lines_of text)) [] × ShowsOnly p values certificate
+IsShownOnlyBy p values text =
+    (certificate : Certificate) × TellsCertificate p 1 certificate (certificate_lines (lines_of text)) [] × ShowsOnly p values certificate
 
 -- the first fault of a text that is to show it
 abbrev pub only_fault : Table → List Bool → List ℕ → Option (ℕ × CertificateFaultKind)

@@ -31,7 +31,8 @@ pub record LeafShows (p : Table) (least : ℤ) (cuts : List Cut) (scale : ℕ) (
 -- the same for a tree: each of its leaves does, within the cuts on the way to it
 abbrev pub ShowsWithin : Table → ℤ → List Cut → Certificate → Type 0
 ShowsWithin p least cuts (Bound scale ys rows) = LeafShows p least cuts scale ys rows
-ShowsWithin p least cuts (Split form most low high) = ShowsWithin p least (cuts ++ side false form most ∷ []) low × ShowsWithin p least (cuts ++ side true form most ∷ []) high
+ShowsWithin p least cuts (Split form most low high) =
+    ShowsWithin p least (cuts ++ side false form most ∷ []) low × ShowsWithin p least (cuts ++ side true form most ∷ []) high
 
 abbrev pub Shows : Table → ℤ → Certificate → Type 0
 Shows p least certificate = ShowsWithin p least [] certificate

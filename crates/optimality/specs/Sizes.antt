@@ -35,7 +35,8 @@ costs_size columns = size_of (λ c. unsigned_abs c.cost) columns
 -- of a leaf: the costs and one less than the bound, times the scale, and each cut and row, times its multiplier
 abbrev pub leaf_size : Table → ℤ → List Cut → ℕ → List ℕ → Form → ℕ
 leaf_size p least cuts scale ys rows =
-    scale * (costs_size p.columns + unsigned_abs (least -ℤ pos 1)) + (size_of (λ e. e.0 * cut_size e.1) (zip ys cuts) + size_of (λ t. unsigned_abs t.1 * row_size p t.0) rows)
+    scale * (costs_size p.columns + unsigned_abs (least -ℤ pos 1)) +
+    (size_of (λ e. e.0 * cut_size e.1) (zip ys cuts) + size_of (λ t. unsigned_abs t.1 * row_size p t.0) rows)
 
 -- ---------- lines ----------
 
@@ -50,7 +51,8 @@ IsLargeLine p least (Some above) line = IsLargeParsed p least above (parsed_cert
 
 -- the line of this number is such a leaf, and no line before it has a fault; `place` lines were before these
 abbrev pub IsLargeFrom : Table → ℤ → Result (Option (List Branch)) CertificateFaultKind → ℕ → List (List ℕ) → ℕ → Type 0
-IsLargeFrom p least (Ok branches) place (line ∷ lines) number = ((suc place ≡ number) × IsLargeLine p least branches line) ⊎ IsLargeFrom p least (behind p least branches line) (suc place) lines number
+IsLargeFrom p least (Ok branches) place (line ∷ lines) number = ((suc place ≡ number) × IsLargeLine p least branches line)
+    ⊎ IsLargeFrom p least (behind p least branches line) (suc place) lines number
 IsLargeFrom p least parsed place lines number = ⊥
 
 -- the line of this number in a text that is to show `least`

@@ -20,7 +20,8 @@ taken p least branches (BoundLine scale ys rows) =
 -- what is open after a line; nothing may follow the last subtree
 abbrev pub behind : Table → ℤ → Option (List Branch) → List ℕ → Result (Option (List Branch)) CertificateFaultKind
 behind p least branches line =
-    if is_skipped line then Ok branches else and_then (ok_or branches Beyond) (λ above. and_then (parsed_certificate_line p (length above) (fields line)) (taken p least above))
+    if is_skipped line then Ok branches else and_then (ok_or branches Beyond)
+    (λ above. and_then (parsed_certificate_line p (length above) (fields line)) (taken p least above))
 
 -- the fault of the line at this place, or else the first one after it; the text may not end before the last subtree
 abbrev pub fault_from : Table → ℤ → Result (Option (List Branch)) CertificateFaultKind → ℕ → List (List ℕ) → Option (ℕ × CertificateFaultKind)

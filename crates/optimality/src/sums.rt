@@ -1,7 +1,9 @@
 //! Sums by place in 128 bits, and multiples of forms that are added to them.
 
-ghost use Rattle.std.specs.Prelude.{◌≡◌, ◌<◌, ◌≤◌, ◌+◌, ◌^◌, ◌-ℤ◌, ◌≤ℤ◌, IfSome, OnOk, neg_ℤ, pos, unsigned_abs, vec_len, ℕ, false, slice_set, true, ◌*ℤ◌, ◌*◌, IfOk};
-ghost use Rattle.optimality.specs.inside.Adding.{AreGivenMore, AreListed, AreNone, IsTaken, at_place, AreAsBefore, has_place, form_given, number_at, AreAlike, AreOf, AreNoLarger, size_in};
+ghost use Rattle.std.specs.Prelude.{◌≡◌, ◌<◌, ◌≤◌, ◌+◌, ◌^◌, ◌-ℤ◌, ◌≤ℤ◌, IfSome, OnOk, neg_ℤ, pos, unsigned_abs, vec_len, ℕ};
+ghost use Rattle.std.specs.Prelude.{false, slice_set, true, ◌*ℤ◌, ◌*◌, IfOk};
+ghost use Rattle.optimality.specs.inside.Adding.{AreGivenMore, AreListed, AreNone, IsTaken, at_place, AreAsBefore};
+ghost use Rattle.optimality.specs.inside.Adding.{has_place, form_given, number_at, AreAlike, AreOf, AreNoLarger, size_in};
 ghost use Rattle.optimality.specs.inside.Stopping.{TooLargeOnly, ReachesLimit};
 ghost use Rattle.optimality.specs.inside.Sizes.{form_size};
 ghost use Rattle.optimality.specs.Certificates.{number_in};

@@ -11,8 +11,10 @@ abbrev pub breaks : TableColumn × Bool → Bool
 breaks e = not (allows e.0.bounds e.1)
 
 -- the column at a place is the first that breaks its bounds, or that is one after it
-pub bound_at : (place i : ℕ) (columns : List TableColumn) (values : List Bool) (b : Bounds) (v t : Bool) → option_map (λ c. c.bounds) (slice_get columns i) ≡ Some b → slice_get values i ≡ Some v → allows b v ≡ t
-    → position_from breaks place (zip (drop i columns) (drop i values)) ≡ cond (not t) (Some place) (position_from breaks (place + 1) (zip (drop (suc i) columns) (drop (suc i) values)))
+pub bound_at : (place i : ℕ) (columns : List TableColumn) (values : List Bool) (b : Bounds) (v t : Bool)
+    → option_map (λ c. c.bounds) (slice_get columns i) ≡ Some b → slice_get values i ≡ Some v → allows b v ≡ t
+    → position_from breaks place (zip (drop i columns) (drop i values))
+    ≡ cond (not t) (Some place) (position_from breaks (place + 1) (zip (drop (suc i) columns) (drop (suc i) values)))
 bound_at place zero [] values b v t e f h = cc e
 bound_at place zero (c ∷ columns) [] b v t e f h = cc f
 bound_at place zero (c ∷ columns) (w ∷ values) b v t e f h =

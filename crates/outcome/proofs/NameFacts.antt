@@ -1,5 +1,6 @@
 -- A point takes the bids whose columns are at 1.
-use Rattle.std.proofs.Common.{◌≡◌, ℕ, ◌+◌, Bool, true, false, ◌&&◌, ◌==◌, cond, List, [], ◌∷◌, Option, Some, None, refl, sym, ap, ap₂, ◌∙◌, arith, eqb-true, eq-eqb, zero-add}
+use Rattle.std.proofs.Common.{◌≡◌, ℕ, ◌+◌, Bool, true, false, ◌&&◌, ◌==◌, cond, List, [], ◌∷◌, Option, Some, None, refl}
+use Rattle.std.proofs.Common.{sym, ap, ap₂, ◌∙◌, arith, eqb-true, eq-eqb, zero-add}
 use Rattle.std.specs.Prelude.{count_by, bytes_eq}
 use Rattle.std.specs.Option.{option_to_list}
 use Rattle.std.proofs.lemmas.Bool.{and_parts, and_from, both_ways}
@@ -16,10 +17,12 @@ use Rattle.outcome.proofs.BackFacts.{same_sum, back_bidders}
 count_one : (b j : ℕ) (c : Choice) → count_by (is_choice b j) (c ∷ []) ≡ cond (is_choice b j c) 1 0
 count_one b j c = let s = sum_by-cons (λ (d : Choice). cond (is_choice b j d) 1 0) c [] in omega (arith, s)
 
-name_counts : (b j : ℕ) (name : List ℕ) → count_by (is_choice b j) (option_to_list (column_bid name)) ≡ cond (is_bid b j) (cond (bytes_eq name (bid_name b j)) 1 0) 0
+name_counts : (b j : ℕ) (name : List ℕ) → count_by (is_choice b j) (option_to_list (column_bid name))
+    ≡ cond (is_bid b j) (cond (bytes_eq name (bid_name b j)) 1 0) 0
 name_counts b j name = by (is_bid b j) (bytes_eq name (bid_name b j)) (column_bid name) refl refl refl
   where
-    other : (s t : Bool) (o : Option Choice) → is_bid b j ≡ s → bytes_eq name (bid_name b j) ≡ t → column_bid name ≡ o → (s && t) ≡ false → count_by (is_choice b j) (option_to_list o) ≡ 0
+    other : (s t : Bool) (o : Option Choice) → is_bid b j ≡ s → bytes_eq name (bid_name b j) ≡ t → column_bid name ≡ o → (s && t) ≡ false
+        → count_by (is_choice b j) (option_to_list o) ≡ 0
     other s t None es et eo never = refl
     other s t (Some c) es et eo never = count_one b j c ∙ rest (is_choice b j c) refl
       where
@@ -35,7 +38,8 @@ name_counts b j name = by (is_bid b j) (bytes_eq name (bid_name b j)) (column_bi
             let both : (s && t) ≡ true = rw (sym es ∙ yes_bid, sym et ∙ yes_name) refl in
             absurd (both_ways false (refl) (sym never ∙ both))
 
-    by : (s t : Bool) (o : Option Choice) → is_bid b j ≡ s → bytes_eq name (bid_name b j) ≡ t → column_bid name ≡ o → count_by (is_choice b j) (option_to_list (column_bid name)) ≡ cond (is_bid b j) (cond (bytes_eq name (bid_name b j)) 1 0) 0
+    by : (s t : Bool) (o : Option Choice) → is_bid b j ≡ s → bytes_eq name (bid_name b j) ≡ t → column_bid name ≡ o
+        → count_by (is_choice b j) (option_to_list (column_bid name)) ≡ cond (is_bid b j) (cond (bytes_eq name (bid_name b j)) 1 0) 0
     by true true o es et eo =
         let same : name ≡ bid_name b j = (bytes_eq-Decides name (bid_name b j)).0 et in
         let read = ap column_bid same ∙ reads_back b j es in
@@ -53,14 +57,17 @@ nothing : (s : Bool) → ◌≡◌ {A = ℕ} 0 (cond s 0 0)
 nothing true = refl
 nothing false = refl
 
-back_counts : (b j : ℕ) (columns : List TableColumn) (values : List Bool) → count_by (is_choice b j) (back columns values) ≡ cond (is_bid b j) (ones_named columns values (bid_name b j)) 0
+back_counts : (b j : ℕ) (columns : List TableColumn) (values : List Bool)
+    → count_by (is_choice b j) (back columns values) ≡ cond (is_bid b j) (ones_named columns values (bid_name b j)) 0
 back_counts b j [] values = nothing (is_bid b j)
 back_counts b j (c ∷ columns) [] = nothing (is_bid b j)
 back_counts b j (c ∷ columns) (true ∷ values) =
     sum_by-append (λ (d : Choice). cond (is_choice b j d) 1 0) (option_to_list (column_bid c.name)) (back columns values)
     ∙ ap₂ (λ (m n : ℕ). m + n) (name_counts b j c.name) (back_counts b j columns values)
     ∙ plus_cond (is_bid b j) (cond (bytes_eq c.name (bid_name b j)) 1 0) (ones_named columns values (bid_name b j))
-back_counts b j (c ∷ columns) (false ∷ values) = back_counts b j columns values ∙ ap (λ (n : ℕ). cond (is_bid b j) n 0) (sym (zero-add (ones_named columns values (bid_name b j))))
+back_counts b j (c ∷ columns) (false ∷ values) =
+    back_counts b j columns values ∙ ap (λ (n : ℕ). cond (is_bid b j) n 0) (sym (zero-add (ones_named columns values (bid_name b j))))
 
 pub takes_what_is_named : TakesWhatIsNamed
-takes_what_is_named p values bidder bid = same_sum (λ c. cond (is_choice bidder bid c) 1 0) (back p.columns values) (back_bidders p.columns values) ∙ back_counts bidder bid p.columns values
+takes_what_is_named p values bidder bid = same_sum (λ c. cond (is_choice bidder bid c) 1 0) (back p.columns values)
+    (back_bidders p.columns values) ∙ back_counts bidder bid p.columns values

@@ -52,18 +52,22 @@ module _ (p : Table) (text : List ℕ) where
   unfolding solution
   short h = let t : nat_lt SOLUTION_LIMIT (length text) ≡ false = grind (arith, nat_tests) in rw t refl
 
-  pub faulty_line : (f : SolutionFault) → length text ≤ SOLUTION_LIMIT → Answers is_solution_memory (Err f) (unless line_faults (Ok values)) → Answers is_solution_memory (Err f) (solution p text)
+  pub faulty_line : (f : SolutionFault) → length text ≤ SOLUTION_LIMIT → Answers is_solution_memory (Err f) (unless line_faults (Ok values))
+      → Answers is_solution_memory (Err f) (solution p text)
   faulty_line f small h = answers-more is_solution_memory f (unless line_faults (Ok values)) (solution p text) h (λ e. ap (checked p) e ∙ sym (short small))
 
-  of_point : (r : Result (Unit {0}) SolutionFault) (read : List Bool) → r ≡ unless {A = Unit {0}} (point_fault p read) (Ok tt) → and_then r (λ u. Ok read) ≡ checked p (Ok read)
+  of_point : (r : Result (Unit {0}) SolutionFault) (read : List Bool) → r ≡ unless {A = Unit {0}} (point_fault p read) (Ok tt)
+      → and_then r (λ u. Ok read) ≡ checked p (Ok read)
   of_point r read h = ap (λ (s : Result (Unit {0}) SolutionFault). and_then s (λ u. Ok read)) h ∙ by (point_fault p read)
     where
       by : (f : Option SolutionFault) → and_then (unless {A = Unit {0}} f (Ok tt)) (λ u. Ok read) ≡ unless f (Ok read)
       by None = refl
       by (Some f) = refl
 
-  pub no_point : (f : SolutionFault) (read : List Bool) → length text ≤ SOLUTION_LIMIT → Ok read ≡ unless line_faults (Ok values) → Err f ≡ unless {A = Unit {0}} (point_fault p read) (Ok tt) → Answers is_solution_memory (Err f) (solution p text)
+  pub no_point : (f : SolutionFault) (read : List Bool) → length text ≤ SOLUTION_LIMIT → Ok read ≡ unless line_faults (Ok values)
+      → Err f ≡ unless {A = Unit {0}} (point_fault p read) (Ok tt) → Answers is_solution_memory (Err f) (solution p text)
   no_point f read small e h = answers-parsed is_solution_memory (Err f) (solution p text) (of_point (Err f) read h ∙ ap (checked p) e ∙ sym (short small))
 
-  pub parsed_point : (read : List Bool) → length text ≤ SOLUTION_LIMIT → Ok read ≡ unless line_faults (Ok values) → Ok tt ≡ unless {A = Unit {0}} (point_fault p read) (Ok tt) → Ok read ≡ solution p text
+  pub parsed_point : (read : List Bool) → length text ≤ SOLUTION_LIMIT → Ok read ≡ unless line_faults (Ok values)
+      → Ok tt ≡ unless {A = Unit {0}} (point_fault p read) (Ok tt) → Ok read ≡ solution p text
   parsed_point read small e h = of_point (Ok tt) read h ∙ ap (checked p) e ∙ sym (short small)

@@ -36,7 +36,9 @@ parsed_ok None mine values e = (refl, cc e)
 parsed_ok (Some x) mine values e = cc e
 
 -- what is described if no line has a fault, and the point has none
-pub parts_hold : (p : Table) (f : Option SolutionFault) (mine values : List Bool) → and_then (unless f (Ok mine)) (λ vs. unless (point_fault p vs) (Ok vs)) ≡ Ok values → (f ≡ None) × (point_fault p mine ≡ None) × (mine ≡ values)
+pub parts_hold : (p : Table) (f : Option SolutionFault) (mine values : List Bool)
+    → and_then (unless f (Ok mine)) (λ vs. unless (point_fault p vs) (Ok vs)) ≡ Ok values
+    → (f ≡ None) × (point_fault p mine ≡ None) × (mine ≡ values)
 parts_hold p None mine values e = let rest = parsed_ok (point_fault p mine) mine values e in (refl, rest.0, rest.1)
 parts_hold p (Some x) mine values e = cc e
 
@@ -44,7 +46,8 @@ map_none : {X Y : Type 0} (f : X → Y) (o : Option X) → option_map f o ≡ No
 map_none f None e = refl
 map_none f (Some x) e = cc e
 
-allowed : (columns : List TableColumn) (values : List Bool) → length columns ≡ length values → AllByRecursion (λ e. not (allows e.0.bounds e.1) ≡ false) (zip columns values) → AreAllowed columns values
+allowed : (columns : List TableColumn) (values : List Bool) → length columns ≡ length values
+    → AllByRecursion (λ e. not (allows e.0.bounds e.1) ≡ false) (zip columns values) → AreAllowed columns values
 allowed [] [] e h = tt
 allowed [] (v ∷ values) e h = absurd (omega arith)
 allowed (c ∷ columns) [] e h = absurd (omega arith)
@@ -53,17 +56,22 @@ allowed (c ∷ columns) (v ∷ values) e h = (not-false _ h.0, allowed columns v
 is_point : (p : Table) (value : TableColumn → Bool) → point_fault p (map value p.columns) ≡ None → IsPoint p (map value p.columns)
 is_point p value e =
     let values = map value p.columns in
-    let both = both_none (option_map fault.BoundBroken (position (λ e. not (allows e.0.bounds e.1)) (zip p.columns values))) (option_map fault.RowBroken (broken_row p values)) e in
+    let both = both_none (option_map fault.BoundBroken (position (λ e. not (allows e.0.bounds e.1)) (zip p.columns values)))
+    (option_map fault.RowBroken (broken_row p values)) e in
     let rows = none_passes (λ r. not (meets r.1.kind (row_sum p values r.0) r.1.right_side)) (enumerate_from 0 p.rows) (map_none fault.RowBroken _ both.1) in
     record {
-      allowed = allowed p.columns values (sym (length-map p.columns value)) (none_passes (λ e. not (allows e.0.bounds e.1)) (zip p.columns values) (map_none fault.BoundBroken _ both.0));
-      met = all_agree (λ r. not (meets r.1.kind (row_sum p values r.0) r.1.right_side) ≡ false) (λ r. meets r.1.kind (row_sum p values r.0) r.1.right_side ≡ true) (enumerate_from 0 p.rows) (λ r. not-false _) rows;
+      allowed = allowed p.columns values (sym (length-map p.columns value))
+          (none_passes (λ e. not (allows e.0.bounds e.1)) (zip p.columns values) (map_none fault.BoundBroken _ both.0));
+      met = all_agree (λ r. not (meets r.1.kind (row_sum p values r.0) r.1.right_side) ≡ false)
+          (λ r. meets r.1.kind (row_sum p values r.0) r.1.right_side ≡ true) (enumerate_from 0 p.rows) (λ r. not-false _) rows;
     }
 
 pub solutions_are_points : SolutionsArePoints
 unfolding solution
 solutions_are_points p text values e =
     let short = false_from_ne_true (nat_lt SOLUTION_LIMIT (length text)) (λ t. let f = rw t at e in cc f) in
-    let parsed = parts_hold p (first_fault (solution_line_fault (column_names p)) [] (lines_of text)) (map (is_one (lines_of text)) (column_names p)) values (rw short at e) in
-    let same : map (is_one (lines_of text)) (column_names p) ≡ map (λ c. is_one (lines_of text) c.name) p.columns = map-map (is_one (lines_of text)) (λ (c : TableColumn). c.name) p.columns in
+    let parsed = parts_hold p (first_fault (solution_line_fault (column_names p)) [] (lines_of text))
+    (map (is_one (lines_of text)) (column_names p)) values (rw short at e) in
+    let same : map (is_one (lines_of text)) (column_names p) ≡ map (λ c. is_one (lines_of text) c.name) p.columns =
+    map-map (is_one (lines_of text)) (λ (c : TableColumn). c.name) p.columns in
     subst (IsPoint p) parsed.2 (rw same (is_point p (λ c. is_one (lines_of text) c.name) (rw same at parsed.1)))

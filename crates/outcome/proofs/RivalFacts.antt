@@ -1,5 +1,7 @@
 -- A bid in a winner's place: what its total is, and which of the winner's other bids is the first that does as well.
-use Rattle.std.proofs.Common.{◌≡◌, ℕ, zero, suc, ◌+◌, ◌-◌, ◌<◌, ◌≤◌, Bool, true, false, not, ◌&&◌, ◌==◌, cond, List, [], ◌∷◌, Option, Some, None, is_some, slice_get, get_or, drop, length, map, refl, sym, ap, ap₂, ◌∙◌, arith, eqb-true, eq-eqb, add-one, pos, ℤ, ◌-ℤ◌, drop-cons, ⊎_elim}
+use Rattle.std.proofs.Common.{◌≡◌, ℕ, zero, suc, ◌+◌, ◌-◌, ◌<◌, ◌≤◌, Bool, true, false, not, ◌&&◌, ◌==◌, cond, List, []}
+use Rattle.std.proofs.Common.{◌∷◌, Option, Some, None, is_some, slice_get, get_or, drop, length, map, refl, sym, ap, ap₂}
+use Rattle.std.proofs.Common.{◌∙◌, arith, eqb-true, eq-eqb, add-one, pos, ℤ, ◌-ℤ◌, drop-cons, ⊎_elim}
 use Rattle.std.specs.Prelude.{count_by, sum_by, filter, find, flat_map}
 use Rattle.std.specs.Cmp.{both_ways as same_answer}
 use Rattle.std.specs.List.{AllByRecursion, range_with_len}
@@ -52,7 +54,8 @@ module _ (c : Choice) where
         (cases_Bool (is_its d))
 
     -- in the place of the choice w
-    pub replaced_sum : (a : List Choice) (w : Choice) (k : ℕ) → count_by is_its a ≤ 1 → k < length a → get_or a k w ≡ w → w.bidder ≡ c.bidder → sum_by f (with_bid c a) + f w ≡ sum_by f a + f c
+    pub replaced_sum : (a : List Choice) (w : Choice) (k : ℕ) → count_by is_its a ≤ 1 → k < length a → get_or a k w ≡ w
+        → w.bidder ≡ c.bidder → sum_by f (with_bid c a) + f w ≡ sum_by f a + f c
     replaced_sum [] w k h l at same = absurd (omega arith)
     replaced_sum (d ∷ a) w zero h l at same =
         let here : is_its d ≡ true = eq-eqb d.bidder c.bidder (ap (λ (x : Choice). x.bidder) at ∙ same) in
@@ -85,10 +88,12 @@ module _ (c : Choice) where
 -- ---- a bid in the place of a winner's
 
 -- equal totals are equal nets
-same_net : (t t' s s' v v' ax aw wx ww all : ℕ) → t + v ≡ s + all → t' + v' ≡ s' + all → t ≡ t' → s + aw ≡ s' + ax → v + ww ≡ v' + wx → (pos ax -ℤ pos wx) ≡ (pos aw -ℤ pos ww)
+same_net : (t t' s s' v v' ax aw wx ww all : ℕ) → t + v ≡ s + all → t' + v' ≡ s' + all → t ≡ t' → s + aw ≡ s' + ax → v + ww ≡ v' + wx
+    → (pos ax -ℤ pos wx) ≡ (pos aw -ℤ pos ww)
 same_net t t' s s' v v' ax aw wx ww all e h m k n = omega (arith, ints)
 
-same_total : (t t' s s' v v' ax aw wx ww all : ℕ) → t + v ≡ s + all → t' + v' ≡ s' + all → (pos ax -ℤ pos wx) ≡ (pos aw -ℤ pos ww) → s + aw ≡ s' + ax → v + ww ≡ v' + wx → t ≡ t'
+same_total : (t t' s s' v v' ax aw wx ww all : ℕ) → t + v ≡ s + all → t' + v' ≡ s' + all → (pos ax -ℤ pos wx) ≡ (pos aw -ℤ pos ww)
+    → s + aw ≡ s' + ax → v + ww ≡ v' + wx → t ≡ t'
 same_total t t' s s' v v' ax aw wx ww all e h m k n = omega (arith, ints)
 
 module _ (lots : Lots) (book : Book) (sized : IsSized lots book) (a : List Choice) (f : IsFeasible lots book (λ b. false) a)
@@ -111,7 +116,8 @@ module _ (lots : Lots) (book : Book) (sized : IsSized lots book) (a : List Choic
       let size_here = sized c.bidder c.bid x stands in
       let size_left = left-length (loads lots book a) won.package in
       let size_both = both-length (left (loads lots book a) won.package) x.package (omega arith) in
-      fill_by_all (λ category. sum_by (quantity_of book category) (with_bid c a)) (both_packages (left (loads lots book a) won.package) x.package) (length lots.supply) 0 (omega arith)
+      fill_by_all (λ category. sum_by (quantity_of book category) (with_bid c a))
+      (both_packages (left (loads lots book a) won.package) x.package) (length lots.supply) 0 (omega arith)
       (λ category below.
       let e = both-at (left (loads lots book a) won.package) x.package category (omega arith) (omega arith) in
       let less = left-at (loads lots book a) won.package category (omega arith) (omega arith) in
@@ -151,17 +157,23 @@ module _ (lots : Lots) (book : Book) (sized : IsSized lots book) (a : List Choic
     totals_are_nets : int_eq (net lots x) (net lots won) ≡ (total lots book (with_bid c a) == total lots book a)
     totals_are_nets = same_answer (int_eq (net lots x) (net lots won)) (total lots book (with_bid c a) == total lots book a)
         (λ e. eq-eqb (total lots book (with_bid c a)) (total lots book a)
-        (same_total (total lots book (with_bid c a)) (total lots book a) (sum_by (amount_of book) (with_bid c a)) (sum_by (amount_of book) a) (worths lots book (with_bid c a)) (worths lots book a) x.amount won.amount (worth lots x.package) (worth lots won.package) (worth_of_all lots)
+        (same_total (total lots book (with_bid c a)) (total lots book a) (sum_by (amount_of book) (with_bid c a))
+        (sum_by (amount_of book) a) (worths lots book (with_bid c a)) (worths lots book a) x.amount won.amount (worth lots x.package)
+        (worth lots won.package) (worth_of_all lots)
         whole_with whole ((Decides-int_eq (net lots x) (net lots won)).0 e) amounts_swapped worths_swapped))
         (λ e. (Decides-int_eq (net lots x) (net lots won)).1
-        (same_net (total lots book (with_bid c a)) (total lots book a) (sum_by (amount_of book) (with_bid c a)) (sum_by (amount_of book) a) (worths lots book (with_bid c a)) (worths lots book a) x.amount won.amount (worth lots x.package) (worth lots won.package) (worth_of_all lots)
+        (same_net (total lots book (with_bid c a)) (total lots book a) (sum_by (amount_of book) (with_bid c a)) (sum_by (amount_of book) a)
+        (worths lots book (with_bid c a)) (worths lots book a) x.amount won.amount (worth lots x.package) (worth lots won.package)
+        (worth_of_all lots)
         whole_with whole (eqb-true (total lots book (with_bid c a)) (total lots book a) e) amounts_swapped worths_swapped))
 
   -- it suits if and only if it does as well
   suits_is : suits lots (net lots won) (left (loads lots book a) won.package) x ≡ does_as_well lots book a c
   suits_is = ap (λ (q : List ℕ). int_eq (net lots x) (net lots won) && fits lots q) loads_with ∙ by (fits lots (loads lots book (with_bid c a))) refl
     where
-      by : (b : Bool) → fits lots (loads lots book (with_bid c a)) ≡ b → (int_eq (net lots x) (net lots won) && fits lots (loads lots book (with_bid c a))) ≡ (fits lots (loads lots book (with_bid c a)) && (total lots book (with_bid c a) == total lots book a))
+      by : (b : Bool) → fits lots (loads lots book (with_bid c a)) ≡ b
+          → (int_eq (net lots x) (net lots won) && fits lots (loads lots book (with_bid c a)))
+          ≡ (fits lots (loads lots book (with_bid c a)) && (total lots book (with_bid c a) == total lots book a))
       by true e = rw e (and-true (int_eq (net lots x) (net lots won)) ∙ totals_are_nets e)
       by false e = rw e (and-false (int_eq (net lots x) (net lots won)))
 
@@ -170,7 +182,8 @@ module _ (lots : Lots) (book : Book) (sized : IsSized lots book) (a : List Choic
 module _ {X Y : Type 0} (p : Y → Bool) (g : X → Y) where
   find_mapped : (xs : List X) → find p (map g xs) ≡ option_map g (find (λ x. p (g x)) xs)
   find_mapped [] = refl
-  find_mapped (x ∷ xs) = cond_both (p (g x)) (Some x) (find (λ y. p (g y)) xs) (λ (o : Option X). cond (p (g x)) (Some (g x)) (find p (map g xs)) ≡ option_map g o) (λ e. rw e refl) (λ e. rw e (find_mapped xs))
+  find_mapped (x ∷ xs) = cond_both (p (g x)) (Some x) (find (λ y. p (g y)) xs)
+      (λ (o : Option X). cond (p (g x)) (Some (g x)) (find p (map g xs)) ≡ option_map g o) (λ e. rw e refl) (λ e. rw e (find_mapped xs))
 
 find_agree : {X : Type 0} (p q : X → Bool) (xs : List X) → AllByRecursion (λ x. p x ≡ q x) xs → find p xs ≡ find q xs
 find_agree p q [] h = refl
@@ -191,7 +204,8 @@ bids_stand form a (suc n) l =
 
 module _ (lots : Lots) (book : Book) (sized : IsSized lots book) (a : List Choice) (f : IsFeasible lots book (λ b. false) a) where
   -- among a winner's other bids
-  pub rival_at : (w : Choice) (k : ℕ) → k < length a → get_or a k w ≡ w → rival_of lots book (loads lots book a) w ≡ find (does_as_well lots book a) (other_bids book w)
+  pub rival_at : (w : Choice) (k : ℕ) → k < length a → get_or a k w ≡ w
+      → rival_of lots book (loads lots book a) w ≡ find (does_as_well lots book a) (other_bids book w)
   rival_at w k l at =
       let g = good lots book (λ b. false) sized a f k w l in
       let wins : bid_of book w ≡ Some g.bid = ap (λ (d : Choice). bid_of book d) (sym at) ∙ g.stands in
@@ -202,25 +216,33 @@ module _ (lots : Lots) (book : Book) (sized : IsSized lots book) (a : List Choic
       let v = value_of (bid_at form number) some in
       ap (λ (o : Option Bid). option_map_or (suits lots (net lots g.bid) (left (loads lots book a) g.bid.package)) o false) v.1
       ∙ suits_is lots book sized a f w k l at g.bid wins (choice number) refl v.0 v.1 in
-      ap (λ (o : Option Bid). option_map choice (option_map_or (λ (y : Bid). first_suiting lots form w.bid (net lots y) (left (loads lots book a) y.package)) o None)) wins
+      ap (λ (o : Option Bid). option_map choice (option_map_or (λ (y : Bid). first_suiting lots form w.bid (net lots y)
+      (left (loads lots book a) y.package)) o None)) wins
       ∙ ap (λ (o : Option ℕ). option_map choice o) (find_agree passes (λ number. does_as_well lots book a (choice number)) (other_numbers w.bid (length form))
-      (all_agree (λ number. (is_some (bid_at form number) ≡ true) × (not (number == w.bid) ≡ true)) (λ number. passes number ≡ does_as_well lots book a (choice number)) (other_numbers w.bid (length form)) (λ number e. agree number e.0)
-      (all_filter (λ number. is_some (bid_at form number) ≡ true) (λ number. not (number == w.bid)) (range_with_len 1 (length form)) (bids_stand form 0 (length form) (omega arith)))))
+      (all_agree (λ number. (is_some (bid_at form number) ≡ true) × (not (number == w.bid) ≡ true))
+      (λ number. passes number ≡ does_as_well lots book a (choice number)) (other_numbers w.bid (length form))
+      (λ number e. agree number e.0)
+      (all_filter (λ number. is_some (bid_at form number) ≡ true) (λ number. not (number == w.bid)) (range_with_len 1 (length form))
+      (bids_stand form 0 (length form) (omega arith)))))
       ∙ sym (find_mapped (does_as_well lots book a) choice (other_numbers w.bid (length form)))
 
   abbrev pub rivals_from : ℕ → Option Choice
   rivals_from k = find (does_as_well lots book a) (flat_map (other_bids book) (drop k a))
 
-  rivals_next : (w : Choice) (k : ℕ) → k < length a → get_or a k w ≡ w → rivals_from k ≡ option_or (rival_of lots book (loads lots book a) w) (rivals_from (k + 1))
+  rivals_next : (w : Choice) (k : ℕ) → k < length a → get_or a k w ≡ w
+      → rivals_from k ≡ option_or (rival_of lots book (loads lots book a) w) (rivals_from (k + 1))
   rivals_next w k l at =
       let next : k + 1 ≡ suc k = add-one k in
       ap (λ (d : List Choice). find (does_as_well lots book a) (flat_map (other_bids book) d)) (drop-cons a k w l)
       ∙ find-append (does_as_well lots book a) (other_bids book (get_or a k w)) (flat_map (other_bids book) (drop (suc k) a))
-      ∙ ap (λ (d : Choice). option_or (find (does_as_well lots book a) (other_bids book d)) (find (does_as_well lots book a) (flat_map (other_bids book) (drop (suc k) a)))) at
-      ∙ ap₂ (λ (o : Option Choice) (n : ℕ). option_or o (find (does_as_well lots book a) (flat_map (other_bids book) (drop n a)))) (sym (rival_at w k l at)) (sym next)
+      ∙ ap (λ (d : Choice). option_or (find (does_as_well lots book a) (other_bids book d))
+      (find (does_as_well lots book a) (flat_map (other_bids book) (drop (suc k) a)))) at
+      ∙ ap₂ (λ (o : Option Choice) (n : ℕ). option_or o (find (does_as_well lots book a) (flat_map (other_bids book) (drop n a))))
+      (sym (rival_at w k l at)) (sym next)
 
   -- one winner further, by what was found of it
-  pub rivals_at : (k : ℕ) (d : Choice) (taken : List ℕ) (o : Option Choice) → k < length a → taken ≡ loads lots book a → o ≡ rival_of lots book taken (get_or a k d) → rivals_from k ≡ option_or o (rivals_from (k + 1))
+  pub rivals_at : (k : ℕ) (d : Choice) (taken : List ℕ) (o : Option Choice) → k < length a → taken ≡ loads lots book a
+      → o ≡ rival_of lots book taken (get_or a k d) → rivals_from k ≡ option_or o (rivals_from (k + 1))
   rivals_at k d taken o l all e =
       let w = get_or a k d in
       rivals_next w k l (get_or_default a k w d l)
@@ -239,11 +261,15 @@ module _ (lots : Lots) (form : List Bid) (own : ℕ) (least : ℤ) (others : Lis
   abbrev pub suiting_from : ℕ → Option ℕ
   suiting_from place = find passes (filter is_another (range_with_len (place + 1) (length form - place)))
 
-  headed : (number : ℕ) (more : List ℕ) (b : Bool) → is_another number ≡ b → find passes (cond (is_another number) (number ∷ filter is_another more) (filter is_another more)) ≡ cond b (cond (passes number) (Some number) (find passes (filter is_another more))) (find passes (filter is_another more))
+  headed : (number : ℕ) (more : List ℕ) (b : Bool) → is_another number ≡ b
+      → find passes (cond (is_another number) (number ∷ filter is_another more) (filter is_another more))
+      ≡ cond b (cond (passes number) (Some number) (find passes (filter is_another more))) (find passes (filter is_another more))
   headed number more true e = ap (λ (xs : List ℕ). find passes xs) (cond-true (is_another number) (number ∷ filter is_another more) (filter is_another more) e)
-  headed number more false e = ap (λ (xs : List ℕ). find passes xs) (cond-false (is_another number) (number ∷ filter is_another more) (filter is_another more) e)
+  headed number more false e =
+      ap (λ (xs : List ℕ). find passes xs) (cond-false (is_another number) (number ∷ filter is_another more) (filter is_another more) e)
 
-  suiting_next : (place : ℕ) (b : Bool) → place < length form → is_another (place + 1) ≡ b → suiting_from place ≡ cond b (cond (passes (place + 1)) (Some (place + 1)) (suiting_from (place + 1))) (suiting_from (place + 1))
+  suiting_next : (place : ℕ) (b : Bool) → place < length form → is_another (place + 1) ≡ b
+      → suiting_from place ≡ cond b (cond (passes (place + 1)) (Some (place + 1)) (suiting_from (place + 1))) (suiting_from (place + 1))
   suiting_next place b l e =
       let count : length form - place ≡ suc (length form - (place + 1)) = omega arith in
       ap (λ (n : ℕ). find passes (filter is_another (range_with_len (place + 1) n))) count
@@ -255,12 +281,14 @@ module _ (lots : Lots) (form : List Bid) (own : ℕ) (least : ℤ) (others : Lis
       ∙ ap (λ (o : Option Bid). option_map_or (suits lots least others) o false) (slice_get_read form (length form) place x refl l e)
       ∙ sym h
 
-  pub suiting_here : (place : ℕ) (x : Bid) → place < length form → ¬ (place + 1 ≡ own) → x ≡ get_or form place x → true ≡ suits lots least others x → suiting_from place ≡ Some (place + 1)
+  pub suiting_here : (place : ℕ) (x : Bid) → place < length form → ¬ (place + 1 ≡ own) → x ≡ get_or form place x
+      → true ≡ suits lots least others x → suiting_from place ≡ Some (place + 1)
   suiting_here place x l another e h =
       suiting_next place true l (not_from_false (place + 1 == own) (ne_eqb (place + 1) own another))
       ∙ cond-true (passes (place + 1)) (Some (place + 1)) (suiting_from (place + 1)) (passes_is place x true l e h)
 
-  pub suiting_later : (place : ℕ) (x : Bid) → place < length form → ¬ (place + 1 ≡ own) → x ≡ get_or form place x → false ≡ suits lots least others x → suiting_from place ≡ suiting_from (place + 1)
+  pub suiting_later : (place : ℕ) (x : Bid) → place < length form → ¬ (place + 1 ≡ own) → x ≡ get_or form place x
+      → false ≡ suits lots least others x → suiting_from place ≡ suiting_from (place + 1)
   suiting_later place x l another e h =
       suiting_next place true l (not_from_false (place + 1 == own) (ne_eqb (place + 1) own another))
       ∙ cond-false (passes (place + 1)) (Some (place + 1)) (suiting_from (place + 1)) (passes_is place x false l e h)
@@ -281,7 +309,8 @@ pub rising_with : (c : Choice) (a : List Choice) → HasRisingBidders a → HasR
 rising_with c [] h = tt
 rising_with c (d ∷ a) h = (
   cond_both (d.bidder == c.bidder) c d (λ (e : Choice). AllByRecursion (λ later. e.bidder < later.bidder) (with_bid c a))
-      (λ t. let same = eqb-true d.bidder c.bidder t in all_agree (λ later. d.bidder < later.bidder) (λ later. c.bidder < later.bidder) (with_bid c a) (λ x m. omega arith) (above_with c d.bidder a h.0))
+      (λ t. let same = eqb-true d.bidder c.bidder t in all_agree (λ later. d.bidder < later.bidder) (λ later. c.bidder < later.bidder)
+      (with_bid c a) (λ x m. omega arith) (above_with c d.bidder a h.0))
       (λ t. above_with c d.bidder a h.0),
   rising_with c a h.1,
 )

@@ -1,5 +1,6 @@
 -- A solution that is taken against the program of some of the kept bids is taken against that of all.
-use Rattle.std.proofs.Common.{◌≡◌, ℕ, ◌+◌, Bool, true, false, not, ◌||◌, ◌==◌, List, [], ◌∷◌, ◌++◌, Option, None, Ok, length, map, refl, sym, ap, ap₂, subst, ◌∙◌, arith}
+use Rattle.std.proofs.Common.{◌≡◌, ℕ, ◌+◌, Bool, true, false, not, ◌||◌, ◌==◌, List, [], ◌∷◌, ◌++◌, Option, None, Ok}
+use Rattle.std.proofs.Common.{length, map, refl, sym, ap, ap₂, subst, ◌∙◌, arith}
 use Rattle.std.specs.Prelude.{bytes_eq, nat_lt, position}
 use Rattle.std.specs.List.{AllByRecursion, enumerate_from, list_any, position_or_len, range_with_len, zip}
 use Rattle.std.specs.Option.{option_map, option_or}
@@ -38,15 +39,20 @@ use Rattle.outcome.proofs.SaidFacts.{none_one}
 -- ---- lines without a fault, by the names of columns
 
 module _ (few all : List (List ℕ)) (among : (name : List ℕ) → list_any (bytes_eq name) few ≡ true → list_any (bytes_eq name) all ≡ true) where
-  pair_known : (before : List (List ℕ)) (place : ℕ) (name token : List ℕ) → first_failed (pair_checks few before place name token) ≡ None → list_any (bytes_eq name) few ≡ true
+  pair_known : (before : List (List ℕ)) (place : ℕ) (name token : List ℕ) → first_failed (pair_checks few before place name token) ≡ None
+      → list_any (bytes_eq name) few ≡ true
   pair_known before place name token h = true_from_ne_false (list_any (bytes_eq name) few) (λ e. let f = rw e at h in cc f)
 
-  pair_fine : (before : List (List ℕ)) (place : ℕ) (name token : List ℕ) → first_failed (pair_checks few before place name token) ≡ None → first_failed (pair_checks all before place name token) ≡ None
+  pair_fine : (before : List (List ℕ)) (place : ℕ) (name token : List ℕ) → first_failed (pair_checks few before place name token) ≡ None
+      → first_failed (pair_checks all before place name token) ≡ None
   pair_fine before place name token h =
       let known = pair_known before place name token h in
       rw (among name known) (rw known at h)
 
-  two_fields : (before : List (List ℕ)) (line : List ℕ) → first_failed ((length (fields line) == 2, fault.Fields (length before + 1)) ∷ pair_checks few before (length before + 1) (field 0 (fields line)) (field 1 (fields line))) ≡ None → ((length (fields line) == 2) ≡ true) × (first_failed (pair_checks few before (length before + 1) (field 0 (fields line)) (field 1 (fields line))) ≡ None)
+  two_fields : (before : List (List ℕ)) (line : List ℕ)
+      → first_failed ((length (fields line) == 2, fault.Fields (length before + 1)) ∷ pair_checks few before (length before + 1)
+      (field 0 (fields line)) (field 1 (fields line))) ≡ None → ((length (fields line) == 2)
+      ≡ true) × (first_failed (pair_checks few before (length before + 1) (field 0 (fields line)) (field 1 (fields line))) ≡ None)
   two_fields before line h =
       let two = true_from_ne_false (length (fields line) == 2) (λ e. let f = rw e at h in cc f) in
       (two, rw two at h)
@@ -60,7 +66,8 @@ module _ (few all : List (List ℕ)) (among : (name : List ℕ) → list_any (by
           let two = two_fields before line (rw e at h) in
           rw (e, two.0) (pair_fine before (length before + 1) (field 0 (fields line)) (field 1 (fields line)) two.1)
 
-  lines_fine : (before lines : List (List ℕ)) → first_fault (solution_line_fault few) before lines ≡ None → first_fault (solution_line_fault all) before lines ≡ None
+  lines_fine : (before lines : List (List ℕ)) → first_fault (solution_line_fault few) before lines ≡ None
+      → first_fault (solution_line_fault all) before lines ≡ None
   unfolding first_fault
   lines_fine before [] h = refl
   lines_fine before (line ∷ lines) h =
@@ -68,7 +75,8 @@ module _ (few all : List (List ℕ)) (among : (name : List ℕ) → list_any (by
       ap₂ option_or (line_fine before line both.0) (lines_fine (before ++ line ∷ []) lines both.1)
 
   -- a line without a fault names no other column
-  line_names_none : (before : List (List ℕ)) (line column : List ℕ) → solution_line_fault few before line ≡ None → list_any (bytes_eq column) few ≡ false → names_column column line ≡ false
+  line_names_none : (before : List (List ℕ)) (line column : List ℕ) → solution_line_fault few before line ≡ None
+      → list_any (bytes_eq column) few ≡ false → names_column column line ≡ false
   line_names_none before line column h other = false_from_ne_true (names_column column line) (λ names.
       let parts = and_parts (not (is_skipped line)) (bytes_eq column (field 0 (fields line))) names in
       let same : column ≡ field 0 (fields line) = (bytes_eq-Decides column (field 0 (fields line))).0 parts.1 in
@@ -77,7 +85,8 @@ module _ (few all : List (List ℕ)) (among : (name : List ℕ) → list_any (by
       let known = pair_known before (length before + 1) (field 0 (fields line)) (field 1 (fields line)) two.1 in
       both_ways (list_any (bytes_eq column) few) other (ap (λ (name : List ℕ). list_any (bytes_eq name) few) same ∙ known))
 
-  lines_name_none : (column : List ℕ) (before lines : List (List ℕ)) → list_any (bytes_eq column) few ≡ false → first_fault (solution_line_fault few) before lines ≡ None → list_any (names_column column) lines ≡ false
+  lines_name_none : (column : List ℕ) (before lines : List (List ℕ)) → list_any (bytes_eq column) few ≡ false
+      → first_fault (solution_line_fault few) before lines ≡ None → list_any (names_column column) lines ≡ false
   unfolding first_fault
   lines_name_none column before [] other h = refl
   lines_name_none column before (line ∷ lines) other h =
@@ -86,7 +95,8 @@ module _ (few all : List (List ℕ)) (among : (name : List ℕ) → list_any (by
 
 -- ---- a point has no fault
 
-each_allowed : (columns : List TableColumn) (values : List Bool) → AreAllowed columns values → AllByRecursion (λ e. allows e.0.bounds e.1 ≡ true) (zip columns values)
+each_allowed : (columns : List TableColumn) (values : List Bool) → AreAllowed columns values
+    → AllByRecursion (λ e. allows e.0.bounds e.1 ≡ true) (zip columns values)
 each_allowed [] [] h = tt
 each_allowed [] (v ∷ values) h = absurd h
 each_allowed (c ∷ columns) [] h = absurd h
@@ -116,14 +126,18 @@ values_by_name p lines = map-map (is_one lines) (λ (c : TableColumn). c.name) p
 
 -- what an accepted text describes
 taken : (p : Table) (text : List ℕ) (values : List Bool) → solution p text ≡ Ok values
-    → (nat_lt SOLUTION_LIMIT (length text) ≡ false) × (first_fault (solution_line_fault (column_names p)) [] (lines_of text) ≡ None) × (map (is_one (lines_of text)) (column_names p) ≡ values)
+    → (nat_lt SOLUTION_LIMIT (length text) ≡ false) × (first_fault (solution_line_fault (column_names p)) [] (lines_of text) ≡ None)
+    × (map (is_one (lines_of text)) (column_names p) ≡ values)
 unfolding solution
 taken p text values e =
     let short = false_from_ne_true (nat_lt SOLUTION_LIMIT (length text)) (λ t. let f = rw t at e in cc f) in
-    let parsed = parts_hold p (first_fault (solution_line_fault (column_names p)) [] (lines_of text)) (map (is_one (lines_of text)) (column_names p)) values (rw short at e) in
+    let parsed = parts_hold p (first_fault (solution_line_fault (column_names p)) [] (lines_of text))
+    (map (is_one (lines_of text)) (column_names p)) values (rw short at e) in
     (short, parsed.0, parsed.2)
 
-tells : (p : Table) (text : List ℕ) → nat_lt SOLUTION_LIMIT (length text) ≡ false → first_fault (solution_line_fault (column_names p)) [] (lines_of text) ≡ None → point_fault p (map (is_one (lines_of text)) (column_names p)) ≡ None
+tells : (p : Table) (text : List ℕ) → nat_lt SOLUTION_LIMIT (length text) ≡ false
+    → first_fault (solution_line_fault (column_names p)) [] (lines_of text) ≡ None
+    → point_fault p (map (is_one (lines_of text)) (column_names p)) ≡ None
     → solution p text ≡ Ok (map (is_one (lines_of text)) (column_names p))
 unfolding solution
 tells p text short fine point = rw (short, fine, point) refl
@@ -151,7 +165,8 @@ module _ (lots : Lots) (book : Book) (group : ℕ → Bool) (is_among : ℕ → 
   silent : AllByRecursion (IsSilent lots is_among value) kept
   silent = all_agree IsNumbered (IsSilent lots is_among value) kept (λ o mine other.
       let name = bid_name o.bidder o.number in
-      none_one (lines_of text) name (lines_name_none (column_names some) (column_names whole) (names_among lots is_among kept) name [] (lines_of text) (unnamed lots is_among kept o.bidder o.number in_range mine other) line_faults)) in_range
+      none_one (lines_of text) name (lines_name_none (column_names some) (column_names whole) (names_among lots is_among kept) name []
+      (lines_of text) (unnamed lots is_among kept o.bidder o.number in_range mine other) line_faults)) in_range
 
   values_are : values ≡ map (λ c. value c.name) some.columns
   values_are = sym (taken some text values parsed).2 ∙ values_by_name some (lines_of text)
@@ -161,7 +176,8 @@ module _ (lots : Lots) (book : Book) (group : ℕ → Bool) (is_among : ℕ → 
 
   whole_point : IsPoint whole all_values
   whole_point =
-      rw (values_by_name whole (lines_of text)) (point_of_all lots is_among value kept silent (subst (IsPoint some) values_are (solutions_are_points some text values parsed)))
+      rw (values_by_name whole (lines_of text)) (point_of_all lots is_among value kept silent
+      (subst (IsPoint some) values_are (solutions_are_points some text values parsed)))
 
   pub parsed_whole : solution whole text ≡ Ok all_values
   parsed_whole = tells whole text (taken some text values parsed).0
@@ -169,11 +185,13 @@ module _ (lots : Lots) (book : Book) (group : ℕ → Bool) (is_among : ℕ → 
       (fine_point whole all_values whole_point)
 
   pub whole_back : back whole.columns all_values ≡ back some.columns values
-  whole_back = ap (back whole.columns) (values_by_name whole (lines_of text)) ∙ same_back lots is_among value kept in_range silent ∙ ap (back some.columns) (sym values_are)
+  whole_back = ap (back whole.columns) (values_by_name whole (lines_of text)) ∙ same_back lots is_among value kept in_range silent
+      ∙ ap (back some.columns) (sym values_are)
 
 pub some_bids_suffice : SomeBidsSuffice
 some_bids_suffice lots book group is_among solved values within parsed = record {
   others = all_values lots book group is_among solved values within parsed;
   parsed = parsed_whole lots book group is_among solved values within parsed;
-  same_allocation = ap (λ (choices : List Choice). by_bidder (range_with_len 1 MOST_BIDDERS) choices) (whole_back lots book group is_among solved values within parsed);
+  same_allocation = ap (λ (choices : List Choice). by_bidder (range_with_len 1 MOST_BIDDERS) choices)
+      (whole_back lots book group is_among solved values within parsed);
 }

@@ -1,5 +1,6 @@
 -- What ties, and what an only allocation settles.
-use Rattle.std.proofs.Common.{◌≡◌, ℕ, ◌+◌, ◌<◌, ◌≤◌, Bool, true, false, ◌&&◌, ◌==◌, cond, List, [], ◌∷◌, refl, sym, ap, ap₂, ◌∙◌, arith, ⊎_elim, eqb-true, eq-eqb, pos, ◌-ℤ◌}
+use Rattle.std.proofs.Common.{◌≡◌, ℕ, ◌+◌, ◌<◌, ◌≤◌, Bool, true, false, ◌&&◌, ◌==◌, cond, List, [], ◌∷◌, refl, sym, ap, ap₂}
+use Rattle.std.proofs.Common.{◌∙◌, arith, ⊎_elim, eqb-true, eq-eqb, pos, ◌-ℤ◌}
 use Rattle.std.specs.Prelude.{IsPermutation, count_by}
 use Rattle.std.specs.List.{AllByRecursion}
 use Rattle.std.proofs.lemmas.Bool.{and_from, and_parts, both_ways, cases_Bool, cases_lt, cases_order}
@@ -44,7 +45,8 @@ module _ (lots : Lots) (book : Book) (group : List ℕ) (first : List Choice) (o
   pub same_first : (first' : List Choice) → IsGreatest lots book (λ b. false) first' → IsPermutation first first'
   same_first first' best = only.only first' best.feasible (best.greatest first only.feasible)
 
-  pub same_cost : (first' a a' : List Choice) → IsGreatest lots book (λ b. false) first' → IsGreatest lots book (has group) a → IsGreatest lots book (has group) a'
+  pub same_cost : (first' a a' : List Choice) → IsGreatest lots book (λ b. false) first' → IsGreatest lots book (has group) a
+      → IsGreatest lots book (has group) a'
       → cost lots book first group a ≡ cost lots book first' group a'
   same_cost first' a a' best without without' =
       let same = same_first first' best in
@@ -69,7 +71,8 @@ only_first_tells_costs lots book group first of_all less only reached_by_all rea
 -- ---- ties
 
 -- another of the same total
-tie : (lots : Lots) (book : Book) (group : ℕ → Bool) (a other : List Choice) → IsGreatest lots book group a → IsFeasible lots book group other → total lots book a ≤ total lots book other
+tie : (lots : Lots) (book : Book) (group : ℕ → Bool) (a other : List Choice) → IsGreatest lots book group a
+    → IsFeasible lots book group other → total lots book a ≤ total lots book other
     → ¬ IsPermutation a other → IsTie lots book group a other
 tie lots book group a other best feasible no_less differ = record {
   greatest = best;
@@ -107,14 +110,20 @@ abbrev HaveSameCounts : List Choice → List Choice → Type 0
 HaveSameCounts xs ys = (b j : ℕ) → count_by (is_choice b j) xs ≡ count_by (is_choice b j) ys
 
 -- one of the lists begins with a lower bidder
-lower : (c d : Choice) (xs ys : List Choice) → c.bidder < d.bidder → IsAbove d.bidder ys → count_by (is_choice c.bidder c.bid) (c ∷ xs) ≡ count_by (is_choice c.bidder c.bid) (d ∷ ys) → ⊥
+lower : (c d : Choice) (xs ys : List Choice) → c.bidder < d.bidder → IsAbove d.bidder ys
+    → count_by (is_choice c.bidder c.bid) (c ∷ xs) ≡ count_by (is_choice c.bidder c.bid) (d ∷ ys) → ⊥
 lower c d xs ys l above e =
     let some = count_yes (is_choice c.bidder c.bid) c xs (itself c) in
-    let none = none_above c.bidder c.bid (d ∷ ys) (l, all_agree (λ later. d.bidder < later.bidder) (λ later. c.bidder < later.bidder) ys (λ x m. omega arith) above) in
+    let none = none_above c.bidder c.bid (d ∷ ys) (
+      l,
+      all_agree (λ later. d.bidder < later.bidder) (λ later. c.bidder <
+          later.bidder) ys (λ x m. omega arith) above,
+    ) in
     omega arith
 
 -- the first choices are of the same bidder, and so the same
-same_bid : (c d : Choice) (xs ys : List Choice) → c.bidder ≡ d.bidder → IsAbove d.bidder ys → count_by (is_choice c.bidder c.bid) (c ∷ xs) ≡ count_by (is_choice c.bidder c.bid) (d ∷ ys)
+same_bid : (c d : Choice) (xs ys : List Choice) → c.bidder ≡ d.bidder → IsAbove d.bidder ys
+    → count_by (is_choice c.bidder c.bid) (c ∷ xs) ≡ count_by (is_choice c.bidder c.bid) (d ∷ ys)
     → is_choice c.bidder c.bid d ≡ true
 same_bid c d xs ys same above e = ⊎_elim
     (λ yes. yes)
@@ -134,13 +143,16 @@ rest p c d xs ys same e =
 
 same_by_counts : (xs ys : List Choice) → HasRisingBidders xs → HasRisingBidders ys → HaveSameCounts xs ys → same_choices xs ys ≡ true
 same_by_counts [] [] h k e = refl
-same_by_counts [] (d ∷ ys) h k e = let some = count_yes (is_choice d.bidder d.bid) d ys (itself d) in let none : 0 ≡ count_by (is_choice d.bidder d.bid) (d ∷ ys) = e d.bidder d.bid in absurd (omega arith)
-same_by_counts (c ∷ xs) [] h k e = let some = count_yes (is_choice c.bidder c.bid) c xs (itself c) in let none : count_by (is_choice c.bidder c.bid) (c ∷ xs) ≡ 0 = e c.bidder c.bid in absurd (omega arith)
+same_by_counts [] (d ∷ ys) h k e = let some = count_yes (is_choice d.bidder d.bid) d ys (itself d) in
+    let none : 0 ≡ count_by (is_choice d.bidder d.bid) (d ∷ ys) = e d.bidder d.bid in absurd (omega arith)
+same_by_counts (c ∷ xs) [] h k e = let some = count_yes (is_choice c.bidder c.bid) c xs (itself c) in
+    let none : count_by (is_choice c.bidder c.bid) (c ∷ xs) ≡ 0 = e c.bidder c.bid in absurd (omega arith)
 same_by_counts (c ∷ xs) (d ∷ ys) h k e = ⊎_elim
     (λ same.
     let parts = and_parts (d.bidder == c.bidder) (d.bid == c.bid) (same_bid c d xs ys same k.0 (e c.bidder c.bid)) in
     let bid = eqb-true d.bid c.bid parts.1 in
-    and_from ((c.bidder == d.bidder) && (c.bid == d.bid)) (same_choices xs ys) (and_from (c.bidder == d.bidder) (c.bid == d.bid) (eq-eqb c.bidder d.bidder same) (eq-eqb c.bid d.bid (sym bid)))
+    and_from ((c.bidder == d.bidder) && (c.bid == d.bid)) (same_choices xs ys)
+    (and_from (c.bidder == d.bidder) (c.bid == d.bid) (eq-eqb c.bidder d.bidder same) (eq-eqb c.bid d.bid (sym bid)))
     (same_by_counts xs ys h.1 k.1 (λ b j. rest (is_choice b j) c d xs ys (ap₂ (λ (m n : ℕ). (m == b) && (n == j)) same (sym bid)) (e b j))))
     (λ other. absurd (⊎_elim
     (λ l. lower c d xs ys l k.0 (e c.bidder c.bid))
@@ -150,7 +162,8 @@ same_by_counts (c ∷ xs) (d ∷ ys) h k e = ⊎_elim
 
 pub others_differ : OthersDiffer
 others_differ a other rising other_rising differ p =
-    both_ways (same_choices a other) differ (same_by_counts a other rising other_rising (λ b j. sym (sum_by-IsPermutation (λ (c : Choice). cond (is_choice b j c) 1 0) a other p)))
+    both_ways (same_choices a other) differ (same_by_counts a other rising other_rising
+    (λ b j. sym (sum_by-IsPermutation (λ (c : Choice). cond (is_choice b j c) 1 0) a other p)))
 
 pub others_tie : OthersTie
 others_tie lots book group a other best feasible no_less rising other_rising differ =

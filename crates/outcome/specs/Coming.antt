@@ -49,4 +49,5 @@ pub record WinsTheSame (one other : Table) (solved : List ℕ) (values : List Bo
 abbrev pub SomeBidsSuffice : Type 0
 SomeBidsSuffice = (lots : Lots) (book : Book) (group : ℕ → Bool) (is_among : ℕ → ℕ → Bool) (solved : List ℕ) (values : List Bool) → IsBook lots book
     → solution (program_of lots (filter (λ o. is_among o.bidder o.number) (kept_of lots book group))) solved ≡ Ok values
-    → WinsTheSame (program_of lots (filter (λ o. is_among o.bidder o.number) (kept_of lots book group))) (program_of lots (kept_of lots book group)) solved values
+    → WinsTheSame (program_of lots (filter (λ o. is_among o.bidder o.number) (kept_of lots book group)))
+    (program_of lots (kept_of lots book group)) solved values

@@ -1,5 +1,6 @@
 -- The text of a solution: lines of a column's name and a value.
-use Rattle.std.specs.Prelude.{ℕ, ◌+◌, Bool, false, true, not, ◌&&◌, ◌||◌, ◌==◌, nat_lt, List, [], ◌∷◌, length, map, if◌then◌else◌, Option, None, Result, Ok, Err, bytes_eq, position}
+use Rattle.std.specs.Prelude.{ℕ, ◌+◌, Bool, false, true, not, ◌&&◌, ◌||◌, ◌==◌, nat_lt, List, [], ◌∷◌, length, map}
+use Rattle.std.specs.Prelude.{if◌then◌else◌, Option, None, Result, Ok, Err, bytes_eq, position}
 use Rattle.std.specs.List.{list_any, zip}
 use Rattle.std.specs.Option.{option_map, option_or}
 use Rattle.auction_terms.specs.FirstFault.{first_failed, first_fault}

@@ -23,7 +23,8 @@ pub record IsTie (lots : Lots) (book : Book) (group : ℕ → Bool) (a other : L
 abbrev pub TheOnlyIsGreatest : Type 0
 TheOnlyIsGreatest = (lots : Lots) (book : Book) (group : ℕ → Bool) (a : List Choice) → IsOnly lots book group a → IsGreatest lots book group a
 
--- if the first allocation is the only one, every allocation of greatest total with nobody left out has its choices, and a group's cost doesn't depend on which allocations are taken
+-- if the first allocation is the only one, every allocation of greatest total with nobody left out has its choices, and a group's cost
+-- doesn't depend on which allocations are taken
 abbrev pub OnlyFirstSettlesCosts : Type 0
 OnlyFirstSettlesCosts = (lots : Lots) (book : Book) (group : List ℕ) (first first' a a' : List Choice)
     → IsOnly lots book (λ b. false) first → IsGreatest lots book (λ b. false) first' → IsGreatest lots book (has group) a → IsGreatest lots book (has group) a'
@@ -31,7 +32,8 @@ OnlyFirstSettlesCosts = (lots : Lots) (book : Book) (group : List ℕ) (first fi
 
 -- what the group costs, whichever allocations of greatest total are taken: it follows from the lots, the book and the group
 abbrev pub IsTheCost : Lots → Book → List ℕ → ℤ → Type 0
-IsTheCost lots book group amount = (first a : List Choice) → IsGreatest lots book (λ b. false) first → IsGreatest lots book (has group) a → cost lots book first group a ≡ amount
+IsTheCost lots book group amount = (first a : List Choice) → IsGreatest lots book (λ b. false) first → IsGreatest lots book (has group) a
+    → cost lots book first group a ≡ amount
 
 -- it follows from the two greatest totals, and the amounts of the group's own bids in the only first allocation
 abbrev pub OnlyFirstTellsCosts : Type 0

@@ -44,7 +44,8 @@ pub fn a_point_takes_what_is_named()
     ensures { TakesWhatIsNamed }
 {}
 
-/// If the allocations are of greatest total, the opportunity cost of a group is at least 0 and at most what the first allocation gives to its bidders, and the total without them isn't higher.
+/// If the allocations are of greatest total, the opportunity cost of a group is at least 0 and at most what the first allocation
+/// gives to its bidders, and the total without them isn't higher.
 pub fn a_cost_is_bounded()
     ensures { CostsAreBounded }
 {}
@@ -54,7 +55,8 @@ pub fn a_cost_covers_the_lots()
     ensures { CostsCoverLots }
 {}
 
-/// And it is the auction's own: it depends on the greatest totals with the group and without it, and on the amounts of the group's own bids in the first allocation, and not on which allocations of greatest total were found.
+/// And it is the auction's own: it depends on the greatest totals with the group and without it, and on the amounts of the
+/// group's own bids in the first allocation, and not on which allocations of greatest total were found.
 pub fn a_cost_is_the_auctions_own()
     ensures { CostsAreOwn }
 {}
@@ -64,12 +66,14 @@ pub fn the_only_is_greatest()
     ensures { TheOnlyIsGreatest }
 {}
 
-/// If one is the only one with nobody left out, all of greatest total have its choices, and costs don't depend on which allocations of greatest total are taken.
+/// If one is the only one with nobody left out, all of greatest total have its choices, and costs don't depend on which
+/// allocations of greatest total are taken.
 pub fn the_only_first_settles_costs()
     ensures { OnlyFirstSettlesCosts }
 {}
 
-/// A group's cost then follows from the lots, the book and the group: from the greatest totals with the group and without it, and the amounts of the group's own bids in the only first allocation.
+/// A group's cost then follows from the lots, the book and the group: from the greatest totals with the group and without it, and
+/// the amounts of the group's own bids in the only first allocation.
 pub fn the_only_first_tells_costs()
     ensures { OnlyFirstTellsCosts }
 {}

@@ -1,6 +1,7 @@
 //! Reading a solution: its lines, by the columns that they name, and whether what they say is a point of the program.
 
-ghost use Rattle.std.specs.Prelude.{◌≡◌, ◌<◌, ◌≤◌, [], length, map, replicate, unwrap_or, false, IfOk, OnOk, Ok, Err, None, bytes_eq, IfSome, position, ◌∷◌, ◌++◌, ◌+◌, ◌==◌, ℕ, List, slice_index, true, not};
+ghost use Rattle.std.specs.Prelude.{◌≡◌, ◌<◌, ◌≤◌, [], length, map, replicate, unwrap_or, false, IfOk, OnOk, Ok, Err, None};
+ghost use Rattle.std.specs.Prelude.{bytes_eq, IfSome, position, ◌∷◌, ◌++◌, ◌+◌, ◌==◌, ℕ, List, slice_index, true, not};
 ghost use Rattle.std.specs.List.{IsDistinct, zip};
 ghost use Rattle.auction_terms.specs.FirstFault.{first_fault, first_failed};
 ghost use Rattle.auction_terms.specs.Lines.{lines_of, bytes_of};

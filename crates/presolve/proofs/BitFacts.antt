@@ -17,7 +17,8 @@ same_above (suc low) (suc k) n above one =
     let rest = same_above low k (n / 2) (omega arith) (sym (bit_at-suc n low) ∙ one) in
     ⊎_elim
     (λ (odd : n % 2 ≡ 1). above_odd k n odd)
-    (λ (even : n % 2 ≢ 1). bit_at-suc n k ∙ rest ∙ ap (λ (m : ℕ). bit_at m k) (let half : n / 2 - 1 ≡ (n - 1) / 2 = omega arith in half) ∙ sym (bit_at-suc (n - 1) k))
+    (λ (even : n % 2 ≢ 1). bit_at-suc n k ∙ rest ∙ ap (λ (m : ℕ). bit_at m k) (let half : n / 2 - 1 ≡ (n - 1) / 2 = omega arith in half) ∙
+    sym (bit_at-suc (n - 1) k))
     (cases_eq (n % 2) 1)
 
 -- it alone is taken from a number by one less

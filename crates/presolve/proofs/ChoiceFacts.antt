@@ -1,5 +1,7 @@
 -- The kept bids that are among choices, choice by choice.
-use Rattle.std.proofs.Common.{◌≡◌, ℕ, zero, suc, ◌+◌, ◌-◌, ◌<◌, ◌≤◌, ◌⊎◌, inl, inr, ⊎_elim, Bool, true, false, not, ◌&&◌, ◌||◌, ◌==◌, cond, List, [], ◌∷◌, ◌++◌, Option, Some, None, length, take, get_or, slice_get, map, sym, refl, ap, ap₂, ◌∙◌, subst, arith, eqb-true, eq-eqb, take_all}
+use Rattle.std.proofs.Common.{◌≡◌, ℕ, zero, suc, ◌+◌, ◌-◌, ◌<◌, ◌≤◌, ◌⊎◌, inl, inr, ⊎_elim, Bool, true, false, not, ◌&&◌}
+use Rattle.std.proofs.Common.{◌||◌, ◌==◌, cond, List, [], ◌∷◌, ◌++◌, Option, Some, None, length, take, get_or, slice_get}
+use Rattle.std.proofs.Common.{map, sym, refl, ap, ap₂, ◌∙◌, subst, arith, eqb-true, eq-eqb, take_all}
 use Rattle.std.specs.Prelude.{◌↔◌, AllPairs, IsPermutation, IsTrue, filter, sum_by}
 use Rattle.std.specs.List.{AllByRecursion, list_any}
 use Rattle.std.specs.Option.{option_map_or}
@@ -51,7 +53,8 @@ module _ (lots : Lots) (q : Offer → Bool) (c : Choice) (earlier : (o : Offer) 
       by false false e f more = rw (e, f) more
       by false true e f more =
           let same = is_of c o f in
-          let none : filter q xs ≡ [] = none_left q xs (all_agree (IsBefore o) (λ p. q p ≡ false) xs (λ p behind. false_from_ne_true (q p) (λ t. let before = earlier p t in absurd (grind arith))) h.1) in
+          let none : filter q xs ≡ [] = none_left q xs (all_agree (IsBefore o) (λ p. q p ≡ false) xs
+          (λ p behind. false_from_ne_true (q p) (λ t. let before = earlier p t in absurd (grind arith))) h.1) in
           rw (e, f, none) (ap (λ (rest : List Offer). o ∷ rest) (rw none at more))
 
 -- ---------- the offer of a choice ----------
@@ -92,7 +95,8 @@ module _ (lots : Lots) (book : Book) (group : ℕ → Bool) (c : Choice) where
 
   -- a choice that isn't kept has no kept offer
   pub none_of : is_kept_choice lots book group c ≡ false → filter (is_offer_of c) kept ≡ []
-  none_of other = none_at_all (filter (is_offer_of c) kept) (all_agree IsThere (λ o. ⊥) (filter (is_offer_of c) kept) (λ o h. both_ways (is_kept_choice lots book group c) other (its_choice o h)) there)
+  none_of other = none_at_all (filter (is_offer_of c) kept) (all_agree IsThere (λ o. ⊥) (filter (is_offer_of c) kept)
+      (λ o h. both_ways (is_kept_choice lots book group c) other (its_choice o h)) there)
 
   module _ (x : Bid) (at : bid_of book c ≡ Some x) (is : is_kept_choice lots book group c ≡ true) where
     abbrev here : Offer
@@ -102,7 +106,8 @@ module _ (lots : Lots) (book : Book) (group : ℕ → Bool) (c : Choice) where
     is_here o h =
         let same = is_of c o h.1 in
         let bid : o.bid ≡ x = (let s : Some o.bid ≡ Some x = sym (its_bid o h) ∙ at in cc) in
-        let first : o ≡ record { bidder = c.bidder; number = c.bid; bid = o.bid } = ap₂ (λ (b n : ℕ). record { bidder = b; number = n; bid = o.bid }) (sym same.0) (sym same.1) in
+        let first : o ≡ record { bidder = c.bidder; number = c.bid; bid = o.bid } =
+        ap₂ (λ (b n : ℕ). record { bidder = b; number = n; bid = o.bid }) (sym same.0) (sym same.1) in
         first ∙ ap (λ (y : Bid). record { bidder = c.bidder; number = c.bid; bid = y }) bid
 
     abbrev counted : Offer → ℕ
@@ -145,7 +150,8 @@ module _ (lots : Lots) (book : Book) (group : ℕ → Bool) (within : IsBook lot
       none_kept [] = refl
       none_kept (o ∷ xs) = none_kept xs
 
-  pub at_end : (place : ℕ) (choices : List Choice) → length sorted ≤ place → IsPermutation choices sorted → among_first place ≡ kept_among lots book group choices
+  pub at_end : (place : ℕ) (choices : List Choice) → length sorted ≤ place → IsPermutation choices sorted
+      → among_first place ≡ kept_among lots book group choices
   at_end place choices past same =
       ap (kept_among lots book group) (take_all place sorted past)
       ∙ filter_agree (λ o. has_choice sorted o.bidder o.number) (λ o. has_choice choices o.bidder o.number)
@@ -153,14 +159,19 @@ module _ (lots : Lots) (book : Book) (group : ℕ → Bool) (within : IsBook lot
 
   module _ (c : Choice) where
     -- one choice more
-    has_more : (place : ℕ) → place < length sorted → slice_get sorted place ≡ Some c → (o : Offer) → has_choice (take (place + 1) sorted) o.bidder o.number ≡ (has_choice (take place sorted) o.bidder o.number || is_offer_of c o)
-    has_more place less at o = list_any_more (λ d. is_offer_of d o) sorted place c less ∙ ap (λ (d : Choice). has_choice (take place sorted) o.bidder o.number || is_offer_of d o) (get_or_from_slice_get sorted place c c at)
+    has_more : (place : ℕ) → place < length sorted → slice_get sorted place ≡ Some c → (o : Offer)
+        → has_choice (take (place + 1) sorted) o.bidder o.number ≡ (has_choice (take place sorted) o.bidder o.number || is_offer_of c o)
+    has_more place less at o = list_any_more (λ d. is_offer_of d o) sorted place c less
+        ∙ ap (λ (d : Choice). has_choice (take place sorted) o.bidder o.number || is_offer_of d o)
+        (get_or_from_slice_get sorted place c c at)
 
-    found : (o : Offer) (place : ℕ) → place ≤ length sorted → has_choice (take place sorted) o.bidder o.number ≡ true → (k : ℕ) × (k < place) × (is_offer_of (get_or sorted k c) o ≡ true)
+    found : (o : Offer) (place : ℕ) → place ≤ length sorted → has_choice (take place sorted) o.bidder o.number ≡ true
+        → (k : ℕ) × (k < place) × (is_offer_of (get_or sorted k c) o ≡ true)
     found o zero less h = absurd (both_ways false refl h)
     found o (suc place) less h =
         let next : suc place ≡ place + 1 = omega arith in
-        let more = sym (list_any_more (λ d. is_offer_of d o) sorted place c (omega arith)) ∙ ap (λ (n : ℕ). list_any (λ d. is_offer_of d o) (take n sorted)) (sym next) ∙ h in
+        let more = sym (list_any_more (λ d. is_offer_of d o) sorted place c (omega arith))
+        ∙ ap (λ (n : ℕ). list_any (λ d. is_offer_of d o) (take n sorted)) (sym next) ∙ h in
         ⊎_elim
         (λ before. let w = found o place (omega arith) before in (w.0, omega (arith, w.1), w.2))
         (λ now. (place, omega arith, now))
@@ -170,7 +181,8 @@ module _ (lots : Lots) (book : Book) (group : ℕ → Bool) (within : IsBook lot
     pub one_more : (place : ℕ) → place < length sorted → slice_get sorted place ≡ Some c → ((k : ℕ) → k < place → IsEarlier (get_or sorted k c) c)
         → among_first (place + 1) ≡ among_first place ++ filter (is_offer_of c) (kept_of lots book group)
     one_more place less at earlier =
-        filter_agree (λ o. has_choice (take (place + 1) sorted) o.bidder o.number) (λ o. has_choice (take place sorted) o.bidder o.number || is_offer_of c o) (has_more place less at) (kept_of lots book group)
+        filter_agree (λ o. has_choice (take (place + 1) sorted) o.bidder o.number)
+        (λ o. has_choice (take place sorted) o.bidder o.number || is_offer_of c o) (has_more place less at) (kept_of lots book group)
         ∙ one_behind lots (λ o. has_choice (take place sorted) o.bidder o.number) c (λ o has.
         let w = found o place (omega arith) has in
         let same = is_of (get_or sorted w.0 c) o w.2 in
@@ -182,7 +194,8 @@ module _ (lots : Lots) (book : Book) (group : ℕ → Bool) (within : IsBook lot
     again a false = or-false (a || false)
 
     -- a choice that stands before it too
-    pub one_again : (place : ℕ) → 1 ≤ place → place < length sorted → slice_get sorted place ≡ Some c → slice_get sorted (place - 1) ≡ Some c → among_first (place + 1) ≡ among_first place
+    pub one_again : (place : ℕ) → 1 ≤ place → place < length sorted → slice_get sorted place ≡ Some c
+        → slice_get sorted (place - 1) ≡ Some c → among_first (place + 1) ≡ among_first place
     one_again zero some less at before = absurd (omega arith)
     one_again (suc place) some less at before =
         filter_agree (λ o. has_choice (take (suc place + 1) sorted) o.bidder o.number) (λ o. has_choice (take (suc place) sorted) o.bidder o.number)
@@ -213,9 +226,11 @@ its_bid_at form (suc j) x some within at =
 -- a bidder with a bid is one of the book's
 pub bidder_within : (book : Book) (b : ℕ) → 0 < length (form_of book b) → (1 ≤ b) × (b ≤ length book)
 bidder_within book zero h = absurd (omega arith)
-bidder_within book (suc b) h = ⊎_elim (λ inside. (omega arith, omega arith)) (λ past. absurd (let none = ap length (get_or_past book b [] past) in omega arith)) (cases_lt b (length book))
+bidder_within book (suc b) h = ⊎_elim (λ inside. (omega arith, omega arith))
+    (λ past. absurd (let none = ap length (get_or_past book b [] past) in omega arith)) (cases_lt b (length book))
 
-pub flag_is : (lots : Lots) (form : List Bid) (flags : List Bool) (place : ℕ) (x : Bid) (flag : Bool) → flags ≡ map (is_kept lots form) form → place < length form → x ≡ get_or form place x → flag ≡ get_or flags place flag → is_kept lots form x ≡ flag
+pub flag_is : (lots : Lots) (form : List Bid) (flags : List Bool) (place : ℕ) (x : Bid) (flag : Bool) → flags ≡ map (is_kept lots form) form
+    → place < length form → x ≡ get_or form place x → flag ≡ get_or flags place flag → is_kept lots form x ≡ flag
 flag_is lots form flags place x flag are less at is =
     ap (is_kept lots form) at ∙ sym (get_or-map (is_kept lots form) form place x flag less) ∙ ap (λ (fs : List Bool). get_or fs place flag) (sym are) ∙ sym is
 
@@ -223,7 +238,8 @@ module _ (lots : Lots) (book : Book) (group : ℕ → Bool) (c : Choice) where
   stands_with : (x : Bid) → bid_of book c ≡ Some x → is_kept_choice lots book group c ≡ (not (group c.bidder) && is_kept lots (form_of book c.bidder) x)
   stands_with x at = ap (λ (y : Option Bid). not (group c.bidder) && option_map_or (λ (z : Bid). is_kept lots (form_of book c.bidder) z) y false) at
 
-  pub stays : (x : Bid) → group c.bidder ≡ false → bid_of book c ≡ Some x → is_kept lots (form_of book c.bidder) x ≡ true → is_kept_choice lots book group c ≡ true
+  pub stays : (x : Bid) → group c.bidder ≡ false → bid_of book c ≡ Some x → is_kept lots (form_of book c.bidder) x ≡ true
+      → is_kept_choice lots book group c ≡ true
   stays x outside at h = stands_with x at ∙ rw (outside, h) refl
 
   -- a choice that isn't kept adds none
@@ -255,7 +271,8 @@ strictly_behind : (a m b n c o : ℕ) → IsUpTo a m b n → (b < c) ⊎ ((b ≡
 strictly_behind a m b n c o up later = grind arith
 
 -- a choice that isn't the one before it comes after all before it
-pub behind_all : (sorted : List Choice) (place : ℕ) (c : Choice) → AllPairs IsInOrder sorted → place < length sorted → slice_get sorted place ≡ Some c → (IsRepeated sorted place → ⊥) → (k : ℕ) → k < place → IsEarlier (get_or sorted k c) c
+pub behind_all : (sorted : List Choice) (place : ℕ) (c : Choice) → AllPairs IsInOrder sorted → place < length sorted
+    → slice_get sorted place ≡ Some c → (IsRepeated sorted place → ⊥) → (k : ℕ) → k < place → IsEarlier (get_or sorted k c) c
 behind_all sorted place c rising less at new k before =
     let last = get_or sorted (place - 1) c in
     let here : get_or sorted place c ≡ c = get_or_from_slice_get sorted place c c at in
@@ -270,13 +287,15 @@ behind_all sorted place c rising less at new k before =
 
 -- ---------- what the test of a repeated choice says ----------
 
-pub not_repeated : (sorted shown : List Choice) (place : ℕ) (b : Bool) → shown ≡ sorted → IsTrue b ↔ IsRepeated shown place → b ≡ false → IsRepeated sorted place → ⊥
+pub not_repeated : (sorted shown : List Choice) (place : ℕ) (b : Bool) → shown ≡ sorted → IsTrue b ↔ IsRepeated shown place → b ≡ false
+    → IsRepeated sorted place → ⊥
 not_repeated sorted shown place b same tells other is = both_ways b other (tells.1 (rw same is))
 
 pub repeated : (sorted shown : List Choice) (place : ℕ) (b : Bool) → shown ≡ sorted → IsTrue b ↔ IsRepeated shown place → b ≡ true → IsRepeated sorted place
 repeated sorted shown place b same tells it = subst (λ (choices : List Choice). IsRepeated choices place) same (tells.0 it)
 
-pub one_again_at : (lots : Lots) (book : Book) (group : ℕ → Bool) (within : IsBook lots book) (sorted : List Choice) (place : ℕ) → place < length sorted → IsRepeated sorted place
+pub one_again_at : (lots : Lots) (book : Book) (group : ℕ → Bool) (within : IsBook lots book) (sorted : List Choice) (place : ℕ)
+    → place < length sorted → IsRepeated sorted place
     → kept_among lots book group (take (place + 1) sorted) ≡ kept_among lots book group (take place sorted)
 one_again_at lots book group within sorted place less again =
     let none : Choice = record { bidder = 0; bid = 0 } in

@@ -1,5 +1,6 @@
 -- Laws of the forms of a bidder, by their numbers.
-use Rattle.std.proofs.Common.{◌≡◌, ◌∙◌, ◌+◌, ◌<◌, ◌++◌, ◌∷◌, ◌==◌, ℕ, Bool, true, false, cond, List, [], Option, None, Some, get_or, length, length-take, map, take, arith, refl, sym, ap}
+use Rattle.std.proofs.Common.{◌≡◌, ◌∙◌, ◌+◌, ◌<◌, ◌++◌, ◌∷◌, ◌==◌, ℕ, Bool, true, false, cond, List, [], Option, None, Some}
+use Rattle.std.proofs.Common.{get_or, length, length-take, map, take, arith, refl, sym, ap}
 use Rattle.std.specs.Prelude.{filter, flat_map}
 use Rattle.std.specs.List.{enumerate_from, last_or}
 use Rattle.std.proofs.lemmas.List.{map-append, take_more}
@@ -8,7 +9,9 @@ use Rattle.presolve.specs.Lines.{forms_by}
 
 enumerate-push : (n : ℕ) (xs : List ℕ) (x : ℕ) → enumerate_from n (xs ++ x ∷ []) ≡ enumerate_from n xs ++ (n + length xs, x) ∷ []
 enumerate-push n [] x = ap (λ (k : ℕ). (k, x) ∷ []) (let e : n ≡ n + 0 = omega arith in e)
-enumerate-push n (y ∷ xs) x = ap (λ (rest : List (ℕ × ℕ)). (n, y) ∷ rest) (enumerate-push (n + 1) xs x ∙ ap (λ (k : ℕ). enumerate_from (n + 1) xs ++ (k, x) ∷ []) (let e : n + 1 + length xs ≡ n + length (y ∷ xs) = omega arith in e))
+enumerate-push n (y ∷ xs) x = ap (λ (rest : List (ℕ × ℕ)). (n, y) ∷ rest)
+    (enumerate-push (n + 1) xs x ∙ ap (λ (k : ℕ). enumerate_from (n + 1) xs ++ (k, x) ∷ [])
+    (let e : n + 1 + length xs ≡ n + length (y ∷ xs) = omega arith in e))
 
 abbrev of_bidder : ℕ → ℕ × ℕ → Bool
 of_bidder b numbered = numbered.1 == b
@@ -24,7 +27,8 @@ one-more b n x = by (x == b)
     by true = refl
     by false = refl
 
-forms-next : (b i : ℕ) (bidders : List ℕ) → i < length bidders → forms_by (take (i + 1) bidders) b ≡ forms_by (take i bidders) b ++ cond (get_or bidders i 0 == b) ((i + 1) ∷ []) []
+forms-next : (b i : ℕ) (bidders : List ℕ) → i < length bidders
+    → forms_by (take (i + 1) bidders) b ≡ forms_by (take i bidders) b ++ cond (get_or bidders i 0 == b) ((i + 1) ∷ []) []
 forms-next b i bidders within =
     let x = get_or bidders i 0 in
     let front = take i bidders in
@@ -44,18 +48,24 @@ last-none o [] = refl
 last-none o (y ∷ xs) = last-none (Some y) xs
 
 -- the last form so far, where the next one is the bidder's, and where it isn't
-pub last-own : (b i : ℕ) (bidders : List ℕ) → i < length bidders → (get_or bidders i 0 == b) ≡ true → last_or None (forms_by (take (i + 1) bidders) b) ≡ Some (i + 1)
+pub last-own : (b i : ℕ) (bidders : List ℕ) → i < length bidders → (get_or bidders i 0 == b) ≡ true
+    → last_or None (forms_by (take (i + 1) bidders) b) ≡ Some (i + 1)
 last-own b i bidders within own =
-    ap (last_or None) (forms-next b i bidders within ∙ ap (λ (yes : Bool). forms_by (take i bidders) b ++ cond yes ((i + 1) ∷ []) []) own) ∙ last-push None (forms_by (take i bidders) b) (i + 1)
+    ap (last_or None) (forms-next b i bidders within ∙ ap (λ (yes : Bool). forms_by (take i bidders) b ++ cond yes ((i + 1) ∷ []) []) own)
+    ∙ last-push None (forms_by (take i bidders) b) (i + 1)
 
-pub last-other : (b i : ℕ) (bidders : List ℕ) → i < length bidders → (get_or bidders i 0 == b) ≡ false → last_or None (forms_by (take (i + 1) bidders) b) ≡ last_or None (forms_by (take i bidders) b)
+pub last-other : (b i : ℕ) (bidders : List ℕ) → i < length bidders → (get_or bidders i 0 == b) ≡ false
+    → last_or None (forms_by (take (i + 1) bidders) b) ≡ last_or None (forms_by (take i bidders) b)
 last-other b i bidders within other =
-    ap (last_or None) (forms-next b i bidders within ∙ ap (λ (yes : Bool). forms_by (take i bidders) b ++ cond yes ((i + 1) ∷ []) []) other) ∙ last-none None (forms_by (take i bidders) b)
+    ap (last_or None) (forms-next b i bidders within ∙ ap (λ (yes : Bool). forms_by (take i bidders) b ++ cond yes ((i + 1) ∷ []) []) other)
+    ∙ last-none None (forms_by (take i bidders) b)
 
 -- lines of a bidder's forms, as a walk over all forms finds them
-pub own-lines : (line : ℕ → List ℕ) (b : ℕ) (forms : List (ℕ × ℕ)) → flat_map (λ (numbered : ℕ × ℕ). cond (numbered.1 == b) (line numbered.0) []) forms ≡ flat_map line (numbers_of b forms)
+pub own-lines : (line : ℕ → List ℕ) (b : ℕ) (forms : List (ℕ × ℕ))
+    → flat_map (λ (numbered : ℕ × ℕ). cond (numbered.1 == b) (line numbered.0) []) forms ≡ flat_map line (numbers_of b forms)
 own-lines line b [] = refl
-own-lines line b (form ∷ forms) = by (form.1 == b) ∙ ap (λ (rest : List ℕ). flat_map line (cond (form.1 == b) (form.0 ∷ []) []) ++ rest) (own-lines line b forms) ∙ sym (joined (form.1 == b))
+own-lines line b (form ∷ forms) = by (form.1 == b) ∙ ap (λ (rest : List ℕ). flat_map line (cond (form.1 == b) (form.0 ∷ []) []) ++ rest)
+    (own-lines line b forms) ∙ sym (joined (form.1 == b))
   where
     rest : List ℕ
     rest = flat_map (λ (numbered : ℕ × ℕ). cond (numbered.1 == b) (line numbered.0) []) forms
@@ -68,7 +78,9 @@ own-lines line b (form ∷ forms) = by (form.1 == b) ∙ ap (λ (rest : List ℕ
         none (x ∷ xs) = ap (λ (ys : List ℕ). x ∷ ys) (none xs)
     by false = refl
 
-    joined : (own : Bool) → flat_map line (map (λ (numbered : ℕ × ℕ). numbered.0) (cond own (form ∷ filter (of_bidder b) forms) (filter (of_bidder b) forms))) ≡ flat_map line (cond own (form.0 ∷ []) []) ++ flat_map line (numbers_of b forms)
+    joined : (own : Bool) → flat_map line (map (λ (numbered : ℕ × ℕ). numbered.0)
+        (cond own (form ∷ filter (of_bidder b) forms) (filter (of_bidder b) forms))) ≡ flat_map line (cond own (form.0 ∷ []) []) ++ flat_map
+        line (numbers_of b forms)
     joined true = ap (λ (xs : List ℕ). xs ++ flat_map line (numbers_of b forms)) (sym (none (line form.0)))
       where
         none : (xs : List ℕ) → xs ++ [] ≡ xs

@@ -14,9 +14,11 @@ numbered-next {X} line xs i d small =
     let within : i < length (enumerate_from 1 xs) = omega (arith, count, small) in
     let number : i + 1 ≡ 1 + i = omega arith in
     ap (λ (n : ℕ). flat_map line (take i (enumerate_from 1 xs)) ++ line (n, get_or xs i d)) number
-    ∙ ap (λ (y : ℕ × X). flat_map line (take i (enumerate_from 1 xs)) ++ line y) (sym (get_or-enumerate_from 1 xs i (0, d) small)) ∙ flat_map-next_or line (enumerate_from 1 xs) i (0, d) within
+    ∙ ap (λ (y : ℕ × X). flat_map line (take i (enumerate_from 1 xs)) ++ line y) (sym (get_or-enumerate_from 1 xs i (0, d) small))
+    ∙ flat_map-next_or line (enumerate_from 1 xs) i (0, d) within
 
 -- all of them
-pub numbered-all : {X : Type 0} (line : ℕ × X → List ℕ) (xs : List X) (i : ℕ) → length xs ≤ i → flat_map line (take i (enumerate_from 1 xs)) ≡ flat_map line (enumerate_from 1 xs)
+pub numbered-all : {X : Type 0} (line : ℕ × X → List ℕ) (xs : List X) (i : ℕ) → length xs ≤ i
+    → flat_map line (take i (enumerate_from 1 xs)) ≡ flat_map line (enumerate_from 1 xs)
 numbered-all {X} line xs i over =
     ap (λ (ys : List (ℕ × X)). flat_map line ys) (take_all i (enumerate_from 1 xs) (let count = length-enumerate_from 1 xs in omega (arith, count, over)))

@@ -1,5 +1,7 @@
 -- Laws of flags that are set by the numbers of the bids that fit.
-use Rattle.std.proofs.Common.{◌≡◌, ◌≢◌, ◌+◌, ◌-◌, ◌<◌, ◌≤◌, ◌==◌, ◌&&◌, ◌||◌, ℕ, zero, suc, Bool, true, false, List, [], ◌∷◌, drop, get_or, length, map, slice_get, slice_index_or, slice_set, arith, refl, sym, ap, subst, ◌∙◌}
+use Rattle.std.proofs.Common.{◌≡◌, ◌≢◌, ◌+◌, ◌-◌, ◌<◌, ◌≤◌, ◌==◌, ◌&&◌, ◌||◌, ℕ, zero, suc, Bool, true, false, List, []}
+use Rattle.std.proofs.Common.{◌∷◌, drop, get_or, length, map, slice_get, slice_index_or, slice_set, arith, refl, sym, ap}
+use Rattle.std.proofs.Common.{subst, ◌∙◌}
 use Rattle.std.specs.Prelude.{Option, Some, None, cond, filter}
 use Rattle.std.specs.List.{list_any}
 use Rattle.std.specs.Option.{option_map_or}
@@ -23,31 +25,42 @@ abbrev passes_sized : (Bid → Bool) → ℕ → Sized → Bool
 passes_sized test k s = (s.number == k) && test s.bid
 
 -- the bid with a number passes where it fits and passes
-any_at : (lots : Lots) (test : Bid → Bool) (i : ℕ) (form : List Bid) → list_any (passes_sized test (1 + i)) (fitting_from lots 1 form) ≡ option_map_or (λ (x : Bid). fits lots x.package && test x) (slice_get form i) false
+any_at : (lots : Lots) (test : Bid → Bool) (i : ℕ) (form : List Bid)
+    → list_any (passes_sized test (1 + i)) (fitting_from lots 1 form)
+    ≡ option_map_or (λ (x : Bid). fits lots x.package && test x) (slice_get form i) false
 any_at lots test i form =
     any_filter (fitting_from lots 1 form) ∙ ap (list_any (λ (s : Sized). test s.bid)) (at_number lots (1 + i) 1 i form refl) ∙ by (slice_get form i)
   where
-    any_filter : (rs : List Sized) → list_any (passes_sized test (1 + i)) rs ≡ list_any (λ (s : Sized). test s.bid) (filter (λ (s : Sized). s.number == 1 + i) rs)
+    any_filter : (rs : List Sized) → list_any (passes_sized test (1 + i)) rs
+        ≡ list_any (λ (s : Sized). test s.bid) (filter (λ (s : Sized). s.number == 1 + i) rs)
     any_filter [] = refl
     any_filter (r ∷ rs) =
         let p : Sized → Bool = λ (s : Sized). s.number == 1 + i in
-        cond_both (p r) (r ∷ filter p rs) (filter p rs) (λ (xs : List Sized). (passes_sized test (1 + i) r || list_any (passes_sized test (1 + i)) rs) ≡ list_any (λ (s : Sized). test s.bid) xs)
+        cond_both (p r) (r ∷ filter p rs) (filter p rs) (λ (xs : List Sized).
+        (passes_sized test (1 + i) r || list_any (passes_sized test (1 + i)) rs) ≡ list_any (λ (s : Sized). test s.bid) xs)
         (λ is. rw is (ap (λ (b : Bool). test r.bid || b) (any_filter rs)))
         (λ other. rw other (any_filter rs))
 
-    by : (o : Option Bid) → list_any (λ (s : Sized). test s.bid) (option_map_or (λ (x : Bid). cond (fits lots x.package) (sized (1 + i) x ∷ []) []) o []) ≡ option_map_or (λ (x : Bid). fits lots x.package && test x) o false
+    by : (o : Option Bid) → list_any (λ (s : Sized). test s.bid) (option_map_or
+        (λ (x : Bid). cond (fits lots x.package) (sized (1 + i) x ∷ []) []) o []) ≡ option_map_or
+        (λ (x : Bid). fits lots x.package && test x) o false
     by None = refl
-    by (Some x) = cond_both (fits lots x.package) (sized (1 + i) x ∷ []) [] (λ (rs : List Sized). list_any (λ (s : Sized). test s.bid) rs ≡ (fits lots x.package && test x)) (λ fit. rw fit (or-false (test x))) (λ unfit. rw unfit refl)
+    by (Some x) = cond_both (fits lots x.package) (sized (1 + i) x ∷ []) []
+        (λ (rs : List Sized). list_any (λ (s : Sized). test s.bid) rs ≡ (fits lots x.package && test x)) (λ fit. rw fit (or-false (test x)))
+        (λ unfit. rw unfit refl)
 
 -- the number of an ordered bid is that of a bid of the form
-pub is_numbered : (lots : Lots) (form : List Bid) (bids : List SizedBid) → IsOrdered lots form bids → (k : ℕ) (x : SizedBid) → k < length bids → x ≡ slice_index_or bids k x → (1 ≤ x.number) × (x.number < 1 + length form)
+pub is_numbered : (lots : Lots) (form : List Bid) (bids : List SizedBid) → IsOrdered lots form bids → (k : ℕ) (x : SizedBid)
+    → k < length bids → x ≡ slice_index_or bids k x → (1 ≤ x.number) × (x.number < 1 + length form)
 is_numbered lots form bids o k x within is =
     subst (λ (s : SizedBid). (1 ≤ s.number) × (s.number < 1 + length form)) (sym is)
     (all_ordered (λ (s : Sized). (1 ≤ s.number) × (s.number < 1 + length form)) lots form bids o (λ i d small fit. (omega arith, omega arith)) k x within)
 
 -- a flag that is set for each bid that passes, by its number, says of each bid of the form whether it fits and passes
-pub flags_by_number : (lots : Lots) (test : Bid → Bool) (form : List Bid) (bids : List SizedBid) (flags : List Bool) → IsOrdered lots form bids → length flags ≡ length form
-    → ((i : ℕ) → i < length form → slice_index_or flags i false ≡ list_any (passes test (1 + i)) bids) → flags ≡ map (λ (x : Bid). fits lots x.package && test x) form
+pub flags_by_number : (lots : Lots) (test : Bid → Bool) (form : List Bid) (bids : List SizedBid) (flags : List Bool)
+    → IsOrdered lots form bids → length flags ≡ length form
+    → ((i : ℕ) → i < length form → slice_index_or flags i false ≡ list_any (passes test (1 + i)) bids)
+    → flags ≡ map (λ (x : Bid). fits lots x.package && test x) form
 flags_by_number lots test form bids flags o count each =
     ext_get_or false flags (map (λ (x : Bid). fits lots x.package && test x) form) (count ∙ sym (length-map form (λ (x : Bid). fits lots x.package && test x)))
     (λ i small.
@@ -65,18 +78,22 @@ flags_by_number lots test form bids flags o count each =
     at_place f (x ∷ xs) (suc i) small = at_place f xs i (omega arith)
 
 -- the bids that are left, from the next one on
-next_passes : (test : Bid → Bool) (k : ℕ) (items : List SizedBid) (at : ℕ) (r : SizedBid) → at < length items → r ≡ get_or items at r → list_any (passes test k) (drop at items) ≡ (passes test k r || list_any (passes test k) (drop (at + 1) items))
+next_passes : (test : Bid → Bool) (k : ℕ) (items : List SizedBid) (at : ℕ) (r : SizedBid) → at < length items → r ≡ get_or items at r
+    → list_any (passes test k) (drop at items) ≡ (passes test k r || list_any (passes test k) (drop (at + 1) items))
 next_passes test k items at r small is =
-    at_drop_more (list_any (passes test k)) items at r small ∙ ap (λ (b : Bool). b || list_any (passes test k) (drop (at + 1) items)) (ap (passes test k) (sym is))
+    at_drop_more (list_any (passes test k)) items at r small
+    ∙ ap (λ (b : Bool). b || list_any (passes test k) (drop (at + 1) items)) (ap (passes test k) (sym is))
 
 -- after a bid that doesn't pass
-pub after_failing : (test : Bid → Bool) (k : ℕ) (items : List SizedBid) (at : ℕ) (r : SizedBid) (flag all : Bool) → at < length items → r ≡ get_or items at r → test r.bid.now ≡ false
+pub after_failing : (test : Bid → Bool) (k : ℕ) (items : List SizedBid) (at : ℕ) (r : SizedBid) (flag all : Bool) → at < length items
+    → r ≡ get_or items at r → test r.bid.now ≡ false
     → (flag || list_any (passes test k) (drop at items)) ≡ all → (flag || list_any (passes test k) (drop (at + 1) items)) ≡ all
 after_failing test k items at r flag all small is fails h =
     rw (next_passes test k items at r small is, fails, and-false (r.number == k)) at h
 
 -- after one that passes, whose flag is set then
-pub after_passing : (test : Bid → Bool) (i : ℕ) (items : List SizedBid) (at : ℕ) (r : SizedBid) (flags : List Bool) (all : Bool) → at < length items → r ≡ get_or items at r → test r.bid.now ≡ true
+pub after_passing : (test : Bid → Bool) (i : ℕ) (items : List SizedBid) (at : ℕ) (r : SizedBid) (flags : List Bool) (all : Bool)
+    → at < length items → r ≡ get_or items at r → test r.bid.now ≡ true
     → 1 ≤ r.number → r.number < 1 + length flags → (get_or flags i false || list_any (passes test (1 + i)) (drop at items)) ≡ all
     → (get_or (slice_set flags (r.number - 1) true) i false || list_any (passes test (1 + i)) (drop (at + 1) items)) ≡ all
 after_passing test i items at r flags all small is passed some within h = by (r.number == 1 + i) refl
@@ -98,5 +115,7 @@ after_passing test i items at r flags all small is passed some within h = by (r.
         ap (λ (b : Bool). b || rest) (get_or-set_other flags (r.number - 1) i true false other) ∙ (rw e at reported)
 
 -- where none is left
-pub none_left_over : (test : Bid → Bool) (k : ℕ) (items : List SizedBid) (at : ℕ) (flag all : Bool) → length items ≤ at → (flag || list_any (passes test k) (drop at items)) ≡ all → flag ≡ all
-none_left_over test k items at flag all end h = sym (ap (λ (rs : List SizedBid). flag || list_any (passes test k) rs) (drop_of_length-le items end) ∙ or-false flag) ∙ h
+pub none_left_over : (test : Bid → Bool) (k : ℕ) (items : List SizedBid) (at : ℕ) (flag all : Bool) → length items ≤ at
+    → (flag || list_any (passes test k) (drop at items)) ≡ all → flag ≡ all
+none_left_over test k items at flag all end h =
+    sym (ap (λ (rs : List SizedBid). flag || list_any (passes test k) rs) (drop_of_length-le items end) ∙ or-false flag) ∙ h

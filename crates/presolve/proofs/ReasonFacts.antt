@@ -33,26 +33,32 @@ none-above [] q k asked there p_is q_is = refl
 none-above (x ∷ p) [] k asked there p_is q_is =
     let start : k ≡ k + 0 = omega arith in
     let next : (i : ℕ) → k + 1 + i ≡ k + suc i = λ i. omega arith in
-    none-if (nat_lt (there k) (asked k)) k _ ∙ ap₂ (λ (b c : Bool). b && c) (ap₂ (λ (m y : ℕ). not (nat_lt m y)) (ap there start ∙ q_is 0) (ap asked start ∙ p_is 0) ∙ not-above x 0)
+    none-if (nat_lt (there k) (asked k)) k _ ∙ ap₂ (λ (b c : Bool). b && c)
+    (ap₂ (λ (m y : ℕ). not (nat_lt m y)) (ap there start ∙ q_is 0) (ap asked start ∙ p_is 0) ∙ not-above x 0)
     (none-above p [] (k + 1) asked there (λ i. ap asked (next i) ∙ p_is (suc i)) (λ i. ap there (next i) ∙ q_is (suc i)))
 none-above (x ∷ p) (n ∷ q) k asked there p_is q_is =
     let start : k ≡ k + 0 = omega arith in
     let next : (i : ℕ) → k + 1 + i ≡ k + suc i = λ i. omega arith in
-    none-if (nat_lt (there k) (asked k)) k _ ∙ ap₂ (λ (b c : Bool). b && c) (ap₂ (λ (m y : ℕ). not (nat_lt m y)) (ap there start ∙ q_is 0) (ap asked start ∙ p_is 0) ∙ not-above x n)
+    none-if (nat_lt (there k) (asked k)) k _ ∙ ap₂ (λ (b c : Bool). b && c)
+    (ap₂ (λ (m y : ℕ). not (nat_lt m y)) (ap there start ∙ q_is 0) (ap asked start ∙ p_is 0) ∙ not-above x n)
     (none-above p q (k + 1) asked there (λ i. ap asked (next i) ∙ p_is (suc i)) (λ i. ap there (next i) ∙ q_is (suc i)))
 
 supply-none : (lots : Lots) (quantities : List ℕ) → is_none (over_supply lots quantities) ≡ is_within quantities lots.supply
 supply-none lots quantities =
     let start : (i : ℕ) → 0 + i ≡ i = λ i. omega arith in
-    none-mapped _ _ ∙ none-above quantities lots.supply 0 (slice_index quantities) (slice_index lots.supply) (λ i. ap (slice_index quantities) (start i)) (λ i. ap (slice_index lots.supply) (start i))
+    none-mapped _ _ ∙ none-above quantities lots.supply 0 (slice_index quantities) (slice_index lots.supply)
+    (λ i. ap (slice_index quantities) (start i)) (λ i. ap (slice_index lots.supply) (start i))
 
 none-over : (quantities : List ℕ) (n : ℕ) (pools : List WeightedCap)
-    → is_none (position_from (λ (pool : WeightedCap). nat_lt pool.cap (weighed pool.weights quantities)) n pools) ≡ list_all (λ (pool : WeightedCap). nat_le (weighed pool.weights quantities) pool.cap) pools
+    → is_none (position_from (λ (pool : WeightedCap). nat_lt pool.cap (weighed pool.weights quantities)) n pools)
+    ≡ list_all (λ (pool : WeightedCap). nat_le (weighed pool.weights quantities) pool.cap) pools
 none-over quantities n [] = refl
 none-over quantities n (pool ∷ pools) =
-    none-if (nat_lt pool.cap (weighed pool.weights quantities)) n _ ∙ ap₂ (λ (b c : Bool). b && c) (not-above (weighed pool.weights quantities) pool.cap) (none-over quantities (n + 1) pools)
+    none-if (nat_lt pool.cap (weighed pool.weights quantities)) n _
+    ∙ ap₂ (λ (b c : Bool). b && c) (not-above (weighed pool.weights quantities) pool.cap) (none-over quantities (n + 1) pools)
 
-cap-none : (lots : Lots) (quantities : List ℕ) → is_none (over_cap lots quantities) ≡ list_all (λ (pool : WeightedCap). nat_le (weighed pool.weights quantities) pool.cap) lots.pools
+cap-none : (lots : Lots) (quantities : List ℕ)
+    → is_none (over_cap lots quantities) ≡ list_all (λ (pool : WeightedCap). nat_le (weighed pool.weights quantities) pool.cap) lots.pools
 cap-none lots quantities = none-mapped _ _ ∙ none-over quantities 0 lots.pools
 
 worth-none : (lots : Lots) (x : Bid) → is_none (below_worth lots x) ≡ int_le (pos 0) (net lots x)
@@ -86,5 +92,7 @@ kept-without lots form x =
     let other = dominated lots form x in
     none-or supply (option_or cap (option_or worth other))
     ∙ ap₂ (λ (b c : Bool). b && c) (supply-none lots x.package)
-    (none-or cap (option_or worth other) ∙ ap₂ (λ (b c : Bool). b && c) (cap-none lots x.package) (none-or worth other ∙ ap₂ (λ (b c : Bool). b && c) (worth-none lots x) (dominated-none lots form x)))
-    ∙ regroup (is_within x.package lots.supply) (list_all (λ (pool : WeightedCap). nat_le (weighed pool.weights x.package) pool.cap) lots.pools) (int_le (pos 0) (net lots x)) (not (list_any (λ y. dominates lots y x) form))
+    (none-or cap (option_or worth other) ∙ ap₂ (λ (b c : Bool). b && c) (cap-none lots x.package)
+    (none-or worth other ∙ ap₂ (λ (b c : Bool). b && c) (worth-none lots x) (dominated-none lots form x)))
+    ∙ regroup (is_within x.package lots.supply) (list_all (λ (pool : WeightedCap). nat_le (weighed pool.weights x.package) pool.cap)
+    lots.pools) (int_le (pos 0) (net lots x)) (not (list_any (λ y. dominates lots y x) form))

@@ -1,6 +1,7 @@
 //! Which bids of a closed book are kept. It doesn't depend on who is left out, so one `Flags` serves every group.
 
-ghost use Rattle.std.specs.Prelude.{◌≡◌, ◌≤◌, ◌-◌, IfOk, map, ◌<◌, ◌↔◌, AllPairs, IsPermutation, IsTrue, length, ◌+◌, ◌&&◌, pos, not, int_le, slice_index_or, All};
+ghost use Rattle.std.specs.Prelude.{◌≡◌, ◌≤◌, ◌-◌, IfOk, map, ◌<◌, ◌↔◌, AllPairs, IsPermutation, IsTrue, length, ◌+◌, ◌&&◌};
+ghost use Rattle.std.specs.Prelude.{pos, not, int_le, slice_index_or, All};
 ghost use Rattle.std.specs.List.{range_with_len, list_any};
 ghost use Rattle.auction_terms.specs.Allocations.{form_of};
 ghost use Rattle.auction_terms.specs.Terms.{lots_in};

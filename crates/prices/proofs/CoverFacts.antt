@@ -1,5 +1,6 @@
 -- Prices that no feasible allocation blocks cover every group.
-use Rattle.std.proofs.Common.{◌≡◌, ℕ, ◌+◌, ◌≤◌, Bool, true, false, not, ◌==◌, cond, List, [], ◌∷◌, is_some, refl, sym, ap, ◌∙◌, arith, le_refl, ⊎_elim, eqb-true, eq-eqb, pos, ◌-ℤ◌, ◌≤ℤ◌}
+use Rattle.std.proofs.Common.{◌≡◌, ℕ, ◌+◌, ◌≤◌, Bool, true, false, not, ◌==◌, cond, List, [], ◌∷◌, is_some, refl, sym, ap}
+use Rattle.std.proofs.Common.{◌∙◌, arith, le_refl, ⊎_elim, eqb-true, eq-eqb, pos, ◌-ℤ◌, ◌≤ℤ◌}
 use Rattle.std.specs.Prelude.{sum_by, count_by, filter}
 use Rattle.std.specs.List.{AllByRecursion}
 use Rattle.std.proofs.lemmas.Bool.{and_parts, cases_Bool, cond-true, cond-false, false_from_ne_true, both_ways, not-true}
@@ -26,8 +27,10 @@ use Rattle.prices.specs.Prices.{ArePrices, KeptBidsSuffice, UnblockedCovers, Unb
 none_of : (a : List Choice) (b n : ℕ) → count_by (λ c. c.bidder == b) a ≡ 0 → sum_by (λ c. cond (b == c.bidder) n 0) a ≡ 0
 none_of [] b n h = refl
 none_of (c ∷ a) b n h =
-    let s : count_by (λ c. c.bidder == b) (c ∷ a) ≡ cond (c.bidder == b) 1 0 + count_by (λ c. c.bidder == b) a = sum_by-cons (λ (x : Choice). cond (x.bidder == b) 1 0) c a in
-    let t : sum_by (λ c. cond (b == c.bidder) n 0) (c ∷ a) ≡ cond (b == c.bidder) n 0 + sum_by (λ c. cond (b == c.bidder) n 0) a = sum_by-cons (λ (x : Choice). cond (b == x.bidder) n 0) c a in
+    let s : count_by (λ c. c.bidder == b) (c ∷ a) ≡ cond (c.bidder == b) 1 0 + count_by (λ c. c.bidder == b) a =
+    sum_by-cons (λ (x : Choice). cond (x.bidder == b) 1 0) c a in
+    let t : sum_by (λ c. cond (b == c.bidder) n 0) (c ∷ a) ≡ cond (b == c.bidder) n 0 + sum_by (λ c. cond (b == c.bidder) n 0) a =
+    sum_by-cons (λ (x : Choice). cond (b == x.bidder) n 0) c a in
     let m : ℕ = cond (c.bidder == b) 1 0 in
     let differs : (b == c.bidder) ≡ false = false_from_ne_true (b == c.bidder) (λ e.
     let one : m ≡ 1 = cond-true (c.bidder == b) 1 0 (eq-eqb c.bidder b (sym (eqb-true b c.bidder e))) in
@@ -40,8 +43,10 @@ none_of (c ∷ a) b n h =
 once_of : (a : List Choice) (b n : ℕ) → count_by (λ c. c.bidder == b) a ≤ 1 → sum_by (λ c. cond (b == c.bidder) n 0) a ≤ n
 once_of [] b n h = omega arith
 once_of (c ∷ a) b n h =
-    let s : count_by (λ c. c.bidder == b) (c ∷ a) ≡ cond (c.bidder == b) 1 0 + count_by (λ c. c.bidder == b) a = sum_by-cons (λ (x : Choice). cond (x.bidder == b) 1 0) c a in
-    let t : sum_by (λ c. cond (b == c.bidder) n 0) (c ∷ a) ≡ cond (b == c.bidder) n 0 + sum_by (λ c. cond (b == c.bidder) n 0) a = sum_by-cons (λ (x : Choice). cond (b == x.bidder) n 0) c a in
+    let s : count_by (λ c. c.bidder == b) (c ∷ a) ≡ cond (c.bidder == b) 1 0 + count_by (λ c. c.bidder == b) a =
+    sum_by-cons (λ (x : Choice). cond (x.bidder == b) 1 0) c a in
+    let t : sum_by (λ c. cond (b == c.bidder) n 0) (c ∷ a) ≡ cond (b == c.bidder) n 0 + sum_by (λ c. cond (b == c.bidder) n 0) a =
+    sum_by-cons (λ (x : Choice). cond (b == x.bidder) n 0) c a in
     let m : ℕ = cond (c.bidder == b) 1 0 in
     ⊎_elim
     (λ e.
@@ -56,12 +61,15 @@ once_of (c ∷ a) b n h =
     (cases_Bool (b == c.bidder))
 
 -- a bidder of the group isn't in a list of others
-avoids : (group : List ℕ) (a : List Choice) (b : ℕ) → AllByRecursion (λ c. has group c.bidder ≡ false) a → has group b ≡ true → count_by (λ c. c.bidder == b) a ≡ 0
+avoids : (group : List ℕ) (a : List Choice) (b : ℕ) → AllByRecursion (λ c. has group c.bidder ≡ false) a → has group b ≡ true
+    → count_by (λ c. c.bidder == b) a ≡ 0
 avoids group [] b h e = refl
 avoids group (c ∷ a) b h e =
-    let s : count_by (λ c. c.bidder == b) (c ∷ a) ≡ cond (c.bidder == b) 1 0 + count_by (λ c. c.bidder == b) a = sum_by-cons (λ (x : Choice). cond (x.bidder == b) 1 0) c a in
+    let s : count_by (λ c. c.bidder == b) (c ∷ a) ≡ cond (c.bidder == b) 1 0 + count_by (λ c. c.bidder == b) a =
+    sum_by-cons (λ (x : Choice). cond (x.bidder == b) 1 0) c a in
     let m : ℕ = cond (c.bidder == b) 1 0 in
-    let differs : (c.bidder == b) ≡ false = false_from_ne_true (c.bidder == b) (λ t. both_ways (has group c.bidder) h.0 (ap (has group) (eqb-true c.bidder b t) ∙ e)) in
+    let differs : (c.bidder == b) ≡ false =
+    false_from_ne_true (c.bidder == b) (λ t. both_ways (has group c.bidder) h.0 (ap (has group) (eqb-true c.bidder b t) ∙ e)) in
     let none : m ≡ 0 = cond-false (c.bidder == b) 1 0 differs in
     let later = avoids group a b h.1 e in
     omega arith
@@ -73,7 +81,8 @@ added f first c = sum_by (λ d. cond (d.bidder == c.bidder) (f d) 0) first
 added_nothing : (f : Choice → ℕ) (c : Choice) → added f [] c ≡ 0
 added_nothing f c = refl
 
-module _ (group : List ℕ) (a : List Choice) (one : (b : ℕ) → count_by (λ c. c.bidder == b) a ≤ 1) (avoid : AllByRecursion (λ c. has group c.bidder ≡ false) a) (f : Choice → ℕ) where
+module _ (group : List ℕ) (a : List Choice) (one : (b : ℕ) → count_by (λ c. c.bidder == b) a ≤ 1)
+    (avoid : AllByRecursion (λ c. has group c.bidder ≡ false) a) (f : Choice → ℕ) where
   abbrev outer : Choice → ℕ
   outer d = cond (not (has group d.bidder)) (f d) 0
 
@@ -92,7 +101,8 @@ module _ (group : List ℕ) (a : List Choice) (one : (b : ℕ) → count_by (λ 
   pub exchange : (first : List Choice) → sum_by (added f first) a ≤ sum_by outer first
   exchange [] = let z = sum_zero (added f []) a (added_nothing f) in omega arith
   exchange (d ∷ first) =
-      let s = sum_plus (added f (d ∷ first)) (λ c. cond (d.bidder == c.bidder) (f d) 0) (added f first) a (λ c. sum_by-cons (λ (x : Choice). cond (x.bidder == c.bidder) (f x) 0) d first) in
+      let s = sum_plus (added f (d ∷ first)) (λ c. cond (d.bidder == c.bidder) (f d) 0) (added f first) a
+      (λ c. sum_by-cons (λ (x : Choice). cond (x.bidder == c.bidder) (f x) 0) d first) in
       let t : sum_by outer (d ∷ first) ≡ outer d + sum_by outer first = sum_by-cons outer d first in
       let here = here_once d in
       let later = exchange first in
@@ -100,7 +110,8 @@ module _ (group : List ℕ) (a : List Choice) (one : (b : ℕ) → count_by (λ 
 
 -- ---------- amounts, prices and surpluses ----------
 
-pub amounts_are : (book : Book) (price : ℕ → ℕ) (a : List Choice) → AllByRecursion (λ c. price c.bidder ≤ amount_of book c) a → sum_by (amount_of book) a ≡ paid price a + sum_by (gain book price) a
+pub amounts_are : (book : Book) (price : ℕ → ℕ) (a : List Choice) → AllByRecursion (λ c. price c.bidder ≤ amount_of book c) a
+    → sum_by (amount_of book) a ≡ paid price a + sum_by (gain book price) a
 amounts_are book price [] h = refl
 amounts_are book price (c ∷ a) h =
     let s = sum_by-cons (amount_of book) c a in
@@ -110,28 +121,36 @@ amounts_are book price (c ∷ a) h =
     let later = amounts_are book price a h.1 in
     omega arith
 
-pub surplus_is : (book : Book) (first : List Choice) (price : ℕ → ℕ) (a : List Choice) → surplus_of book first price a ≡ sum_by (added (gain book price) first) a
-surplus_is book first price a = sum_agree (λ c. surplus book first price c.bidder) (added (gain book price) first) a (each _ a (λ c. sum_filter (gain book price) (λ d. d.bidder == c.bidder) first))
+pub surplus_is : (book : Book) (first : List Choice) (price : ℕ → ℕ) (a : List Choice)
+    → surplus_of book first price a ≡ sum_by (added (gain book price) first) a
+surplus_is book first price a = sum_agree (λ c. surplus book first price c.bidder) (added (gain book price) first) a
+    (each _ a (λ c. sum_filter (gain book price) (λ d. d.bidder == c.bidder) first))
 
 -- ---------- the law ----------
 
-parted : (group : List ℕ) (f : Choice → ℕ) (a : List Choice) → sum_by f (filter (λ c. has group c.bidder) a) + sum_by f (filter (λ c. not (has group c.bidder)) a) ≡ sum_by f a
+parted : (group : List ℕ) (f : Choice → ℕ) (a : List Choice)
+    → sum_by f (filter (λ c. has group c.bidder) a) + sum_by f (filter (λ c. not (has group c.bidder)) a) ≡ sum_by f a
 parted group f a = sum_by-filter_both (λ c. has group c.bidder) (λ c. not (has group c.bidder)) (λ x. refl) f a
 
 -- leaving nobody out allows at least as much
 allowed : (lots : Lots) (book : Book) (group : List ℕ) (a : List Choice) → IsFeasible lots book (has group) a → IsFeasible lots book (λ b. false) a
 allowed lots book group a f = record {
   one_bid_each = f.one_bid_each;
-  eligible = All-from_recursion _ _ (all_agree (λ c. is_eligible book (has group) c ≡ true) (λ c. is_eligible book (λ b. false) c ≡ true) a (λ c e. (and_parts (not (has group c.bidder)) (is_some (bid_of book c)) e).1) (recursion_from_All _ a f.eligible));
+  eligible = All-from_recursion _ _ (all_agree (λ c. is_eligible book (has group) c ≡ true) (λ c. is_eligible book (λ b. false) c ≡ true) a
+      (λ c e. (and_parts (not (has group c.bidder)) (is_some (bid_of book c)) e).1) (recursion_from_All _ a f.eligible));
   fit = f.fit;
 }
 
-outside : (lots : Lots) (book : Book) (group : List ℕ) (a : List Choice) → IsFeasible lots book (has group) a → AllByRecursion (λ c. has group c.bidder ≡ false) a
-outside lots book group a f = all_agree (λ c. is_eligible book (has group) c ≡ true) (λ c. has group c.bidder ≡ false) a (λ c e. not-true (has group c.bidder) (and_parts (not (has group c.bidder)) (is_some (bid_of book c)) e).0) (recursion_from_All _ a f.eligible)
+outside : (lots : Lots) (book : Book) (group : List ℕ) (a : List Choice) → IsFeasible lots book (has group) a
+    → AllByRecursion (λ c. has group c.bidder ≡ false) a
+outside lots book group a f = all_agree (λ c. is_eligible book (has group) c ≡ true) (λ c. has group c.bidder ≡ false) a
+    (λ c e. not-true (has group c.bidder) (and_parts (not (has group c.bidder)) (is_some (bid_of book c)) e).0)
+    (recursion_from_All _ a f.eligible)
 
 module _ (lots : Lots) (book : Book) (first : List Choice) (price : ℕ → ℕ) (prices : ArePrices book first price) where
   -- what a group's winners pay, and the amounts and surpluses of the others
-  pub parts : (group : List ℕ) → paid price first + sum_by (λ c. cond (not (has group c.bidder)) (gain book price c) 0) first + amounts_of_group book group first ≡ paid_by_group price group first + sum_by (amount_of book) first
+  pub parts : (group : List ℕ) → paid price first + sum_by (λ c. cond (not (has group c.bidder)) (gain book price c) 0) first +
+      amounts_of_group book group first ≡ paid_by_group price group first + sum_by (amount_of book) first
   parts group =
       let outer : Choice → Bool = λ c. not (has group c.bidder) in
       let amounts = parted group (amount_of book) first in
@@ -140,11 +159,15 @@ module _ (lots : Lots) (book : Book) (first : List Choice) (price : ℕ → ℕ)
       let all = recursion_from_All (λ c. price c.bidder ≤ amount_of book c) first prices in
       let whole = amounts_are book price first all in
       let others = sum_filter (gain book price) outer first in
-      let inner = amounts_are book price (filter (λ c. has group c.bidder) first) (all_agree (λ c. (price c.bidder ≤ amount_of book c) × (has group c.bidder ≡ true)) (λ c. price c.bidder ≤ amount_of book c) (filter (λ c. has group c.bidder) first) (λ c e. e.0) (all_filter (λ c. price c.bidder ≤ amount_of book c) (λ c. has group c.bidder) first all)) in
+      let inner = amounts_are book price (filter (λ c. has group c.bidder) first)
+      (all_agree (λ c. (price c.bidder ≤ amount_of book c) × (has group c.bidder ≡ true)) (λ c. price c.bidder ≤ amount_of book c)
+      (filter (λ c. has group c.bidder) first) (λ c e. e.0) (all_filter (λ c. price c.bidder ≤ amount_of book c)
+      (λ c. has group c.bidder) first all)) in
       omega arith
 
   -- of the surplus of an allocation without a group
-  pub surplus_outside : (group : List ℕ) (a : List Choice) → IsFeasible lots book (has group) a → surplus_of book first price a ≤ sum_by (λ c. cond (not (has group c.bidder)) (gain book price c) 0) first
+  pub surplus_outside : (group : List ℕ) (a : List Choice) → IsFeasible lots book (has group) a
+      → surplus_of book first price a ≤ sum_by (λ c. cond (not (has group c.bidder)) (gain book price c) 0) first
   surplus_outside group a f =
       let e = surplus_is book first price a in
       let l = exchange group a f.one_bid_each (outside lots book group a f) (gain book price) first in
@@ -164,7 +187,8 @@ unblocked_covers lots book first price feasible prices none group without best =
     let within = surplus_outside lots book first price prices group without best.feasible in
     let sums = parts lots book first price prices group in
     let unsold : ℕ = worth lots (left lots.supply (loads lots book first)) in
-    covers_by (total lots book without) (total lots book first) (amounts_of_group book group first) (paid_by_group price group first) (revenue lots book first price) (surplus_of book first price without)
+    covers_by (total lots book without) (total lots book first) (amounts_of_group book group first) (paid_by_group price group first)
+    (revenue lots book first price) (surplus_of book first price without)
     (sum_by (λ c. cond (not (has group c.bidder)) (gain book price c) 0) first) 0 most within (omega arith)
 
 pub unblocked_is_greatest : UnblockedIsGreatest
@@ -207,10 +231,17 @@ module _ (lots : Lots) (book : Book) (s : ℕ → ℕ) where
       let t : sum_by (λ c. s c.bidder) (c ∷ a) ≡ s c.bidder + sum_by (λ c. s c.bidder) a = sum_by-cons (λ (x : Choice). s x.bidder) c a in
       let less = r.no_more in
       ⊎_elim
-      (λ low. record { choices = r.choices; kept = r.kept; stand_in = stand_in_without lots book (λ b. false) c a r.choices g low r.stand_in; no_more = omega arith })
+      (λ low. record {
+        choices = r.choices;
+        kept = r.kept;
+        stand_in = stand_in_without lots book (λ b. false) c a r.choices g low
+            r.stand_in;
+        no_more = omega arith;
+      })
       (λ k.
       let d : Choice = record { bidder = c.bidder; bid = k.number } in
-      let u : sum_by (λ c. s c.bidder) (d ∷ r.choices) ≡ s c.bidder + sum_by (λ c. s c.bidder) r.choices = sum_by-cons (λ (x : Choice). s x.bidder) d r.choices in
+      let u : sum_by (λ c. s c.bidder) (d ∷ r.choices) ≡ s c.bidder + sum_by (λ c. s c.bidder) r.choices =
+      sum_by-cons (λ (x : Choice). s x.bidder) d r.choices in
       record {
         choices = d ∷ r.choices;
         kept = (stand_in_kept lots book (λ b. false) c g k, r.kept);

@@ -1,8 +1,11 @@
 -- There is an allocation of greatest total without any group, and so no allocation blocks prices that cover every group.
-use Rattle.std.proofs.Common.{◌≡◌, ℕ, zero, suc, ◌+◌, ◌≤◌, Bool, true, false, not, ◌&&◌, ◌||◌, ◌==◌, cond, List, [], ◌∷◌, is_some, length, refl, sym, ap, ◌∙◌, arith, ⊎_elim, inl, inr, le_refl, eqb-true, eq-eqb, ℤ, pos, ◌-ℤ◌, ◌≤ℤ◌}
+use Rattle.std.proofs.Common.{◌≡◌, ℕ, zero, suc, ◌+◌, ◌≤◌, Bool, true, false, not, ◌&&◌, ◌||◌, ◌==◌, cond, List, [], ◌∷◌}
+use Rattle.std.proofs.Common.{is_some, length, refl, sym, ap, ◌∙◌, arith, ⊎_elim, inl, inr, le_refl, eqb-true, eq-eqb, ℤ}
+use Rattle.std.proofs.Common.{pos, ◌-ℤ◌, ◌≤ℤ◌}
 use Rattle.std.specs.Prelude.{sum_by, ◌⊎◌}
 use Rattle.std.specs.List.{AllByRecursion, enumerate_from, list_all, list_any}
-use Rattle.std.proofs.lemmas.Bool.{and_from, and_parts, both_ways, cases_Bool, cond-true, cond-false, cond_both, false_from_ne_true, not_from_false, or_from, or_left, or_right}
+use Rattle.std.proofs.lemmas.Bool.{and_from, and_parts, both_ways, cases_Bool, cond-true, cond-false, cond_both}
+use Rattle.std.proofs.lemmas.Bool.{false_from_ne_true, not_from_false, or_from, or_left, or_right}
 use Rattle.std.proofs.lemmas.Int.{ints, by_lt_z}
 use Rattle.std.proofs.lemmas.List.Sums.{sum_by-cons}
 use Rattle.std.proofs.lemmas.List.Elements.{recursion_from_All, All-from_recursion, All-nil}
@@ -38,7 +41,8 @@ NonePasses n test = (values : List Bool) → length values ≡ n → test values
 
 -- no list, or the least one, of those with this first value, and with the other
 module _ (n : ℕ) (test : List Bool → Bool) (cost : List Bool → ℤ) where
-  first_value : (values : List Bool) → length values ≡ suc n → (P : List Bool → Type 0) → ((more : List Bool) → length more ≡ n → P (true ∷ more)) → ((more : List Bool) → length more ≡ n → P (false ∷ more)) → P values
+  first_value : (values : List Bool) → length values ≡ suc n → (P : List Bool → Type 0)
+      → ((more : List Bool) → length more ≡ n → P (true ∷ more)) → ((more : List Bool) → length more ≡ n → P (false ∷ more)) → P values
   first_value [] e P f g = absurd (omega arith)
   first_value (true ∷ more) e P f g = f more (omega arith)
   first_value (false ∷ more) e P f g = g more (omega arith)
@@ -46,19 +50,24 @@ module _ (n : ℕ) (test : List Bool → Bool) (cost : List Bool → ℤ) where
   neither : NonePasses n (λ v. test (true ∷ v)) → NonePasses n (λ v. test (false ∷ v)) → NonePasses (suc n) test
   neither a b values e = first_value values e (λ v. test v ≡ false) a b
 
-  one_side : (b : Bool) (l : Least n (λ v. test (b ∷ v)) (λ v. cost (b ∷ v))) → ((others : List Bool) → length others ≡ suc n → test others ≡ true → cost (b ∷ l.values) ≤ℤ cost others) → Least (suc n) test cost
+  one_side : (b : Bool) (l : Least n (λ v. test (b ∷ v)) (λ v. cost (b ∷ v)))
+      → ((others : List Bool) → length others ≡ suc n → test others ≡ true → cost (b ∷ l.values) ≤ℤ cost others) → Least (suc n) test cost
   one_side b l h = record { values = b ∷ l.values; sized = ap suc l.sized; passes = l.passes; least = h }
 
   only_true : Least n (λ v. test (true ∷ v)) (λ v. cost (true ∷ v)) → NonePasses n (λ v. test (false ∷ v)) → Least (suc n) test cost
-  only_true l none = one_side true l (λ others e. first_value others e (λ v. test v ≡ true → cost (true ∷ l.values) ≤ℤ cost v) l.least (λ more m p. absurd (both_ways (test (false ∷ more)) (none more m) p)))
+  only_true l none = one_side true l (λ others e. first_value others e (λ v. test v ≡ true → cost (true ∷ l.values) ≤ℤ cost v) l.least
+      (λ more m p. absurd (both_ways (test (false ∷ more)) (none more m) p)))
 
   only_false : NonePasses n (λ v. test (true ∷ v)) → Least n (λ v. test (false ∷ v)) (λ v. cost (false ∷ v)) → Least (suc n) test cost
-  only_false none l = one_side false l (λ others e. first_value others e (λ v. test v ≡ true → cost (false ∷ l.values) ≤ℤ cost v) (λ more m p. absurd (both_ways (test (true ∷ more)) (none more m) p)) l.least)
+  only_false none l = one_side false l (λ others e. first_value others e (λ v. test v ≡ true → cost (false ∷ l.values) ≤ℤ cost v)
+      (λ more m p. absurd (both_ways (test (true ∷ more)) (none more m) p)) l.least)
 
   both_sides : Least n (λ v. test (true ∷ v)) (λ v. cost (true ∷ v)) → Least n (λ v. test (false ∷ v)) (λ v. cost (false ∷ v)) → Least (suc n) test cost
   both_sides l r = by_lt_z (cost (true ∷ l.values)) (cost (false ∷ r.values))
-      (λ less. one_side true l (λ others e. first_value others e (λ v. test v ≡ true → cost (true ∷ l.values) ≤ℤ cost v) l.least (λ more m p. let h = r.least more m p in omega (arith, ints))))
-      (λ more_or_same. one_side false r (λ others e. first_value others e (λ v. test v ≡ true → cost (false ∷ r.values) ≤ℤ cost v) (λ more m p. let h = l.least more m p in omega (arith, ints)) r.least))
+      (λ less. one_side true l (λ others e. first_value others e (λ v. test v ≡ true → cost (true ∷ l.values) ≤ℤ cost v) l.least
+      (λ more m p. let h = r.least more m p in omega (arith, ints))))
+      (λ more_or_same. one_side false r (λ others e. first_value others e (λ v. test v ≡ true → cost (false ∷ r.values) ≤ℤ cost v)
+      (λ more m p. let h = l.least more m p in omega (arith, ints)) r.least))
 
 no_other : (test : List Bool → Bool) (others : List Bool) → length others ≡ zero → test [] ≡ false → test others ≡ false
 no_other test [] e h = h
@@ -74,8 +83,10 @@ least_of zero test cost = ⊎_elim
     (λ fails. inl (λ others s. no_other test others s fails))
     (cases_Bool (test []))
 least_of (suc n) test cost = ⊎_elim
-    (λ none. ⊎_elim (λ none'. inl (neither n test cost none none')) (λ l. inr (only_false n test cost none l)) (least_of n (λ v. test (false ∷ v)) (λ v. cost (false ∷ v))))
-    (λ l. ⊎_elim (λ none. inr (only_true n test cost l none)) (λ r. inr (both_sides n test cost l r)) (least_of n (λ v. test (false ∷ v)) (λ v. cost (false ∷ v))))
+    (λ none. ⊎_elim (λ none'. inl (neither n test cost none none')) (λ l. inr (only_false n test cost none l))
+    (least_of n (λ v. test (false ∷ v)) (λ v. cost (false ∷ v))))
+    (λ l. ⊎_elim (λ none. inr (only_true n test cost l none)) (λ r. inr (both_sides n test cost l r))
+    (least_of n (λ v. test (false ∷ v)) (λ v. cost (false ∷ v))))
     (least_of n (λ v. test (true ∷ v)) (λ v. cost (true ∷ v)))
 
 -- ---------- points, as a test ----------
@@ -112,7 +123,8 @@ test_all f [] h = tt
 test_all f (x ∷ xs) h = let e = and_parts (f x) (list_all f xs) h in (e.0, test_all f xs e.1)
 
 point_passes : (p : Table) (vs : List Bool) → IsPoint p vs → is_point p vs ≡ true
-point_passes p vs h = and_from (is_allowed p.columns vs) (list_all (is_met p vs) (enumerate_from 0 p.rows)) (allowed_test p.columns vs h.allowed) (all_test (is_met p vs) (enumerate_from 0 p.rows) h.met)
+point_passes p vs h = and_from (is_allowed p.columns vs) (list_all (is_met p vs) (enumerate_from 0 p.rows))
+    (allowed_test p.columns vs h.allowed) (all_test (is_met p vs) (enumerate_from 0 p.rows) h.met)
 
 passes_point : (p : Table) (vs : List Bool) → is_point p vs ≡ true → IsPoint p vs
 passes_point p vs h =
@@ -121,14 +133,20 @@ passes_point p vs h =
 
 -- ---------- an allocation of greatest total ----------
 
-pub there_is_a_greatest : (lots : Lots) (book : Book) (group : ℕ → Bool) → IsBook lots book → (a : List Choice) → IsFeasible lots book group a → (w : List Choice) × IsGreatest lots book group w
+pub there_is_a_greatest : (lots : Lots) (book : Book) (group : ℕ → Bool) → IsBook lots book → (a : List Choice)
+    → IsFeasible lots book group a → (w : List Choice) × IsGreatest lots book group w
 there_is_a_greatest lots book group within a f =
     let p = program_of lots (kept_of lots book group) in
     let faithful = presolved_is_faithful lots book group within in
     let m = faithful.is_matched a f in
     ⊎_elim
-    (λ none. absurd (both_ways (is_point p m.values) (none m.values (allowed-length p.columns m.values m.is_point.allowed)) (point_passes p m.values m.is_point)))
-    (λ l. (back p.columns l.values, least_is_greatest lots book group p faithful l.values (passes_point p l.values l.passes) (λ others there. l.least others (allowed-length p.columns others there.allowed) (point_passes p others there))))
+    (λ none. absurd (both_ways (is_point p m.values) (none m.values (allowed-length p.columns m.values m.is_point.allowed))
+    (point_passes p m.values m.is_point)))
+    (λ l. (
+      back p.columns l.values,
+      least_is_greatest lots book group p faithful l.values (passes_point p l.values
+          l.passes) (λ others there. l.least others (allowed-length p.columns others there.allowed) (point_passes p others there)),
+    ))
     (least_of (length p.columns) (is_point p) (objective p))
 
 -- nobody wins anything
@@ -158,17 +176,22 @@ not_missing a (d ∷ first) b h =
     let later = not_missing a first b h in
     cond_both (occurs a d.bidder) (missing a first) (d.bidder ∷ missing a first) (λ g. has g b ≡ false)
     (λ e. later)
-    (λ e. or_from (d.bidder == b) (has (missing a first) b) (false_from_ne_true (d.bidder == b) (λ t. both_ways (occurs a d.bidder) e (ap (occurs a) (eqb-true d.bidder b t) ∙ h))) later)
+    (λ e. or_from (d.bidder == b) (has (missing a first) b) (false_from_ne_true (d.bidder == b)
+    (λ t. both_ways (occurs a d.bidder) e (ap (occurs a) (eqb-true d.bidder b t) ∙ h))) later)
 
 still_missing : (a : List Choice) (d : Choice) (first : List Choice) (b : ℕ) → has (missing a first) b ≡ true → has (missing a (d ∷ first)) b ≡ true
-still_missing a d first b h = cond_both (occurs a d.bidder) (missing a first) (d.bidder ∷ missing a first) (λ g. has g b ≡ true) (λ e. h) (λ e. or_right (d.bidder == b) (has (missing a first) b) h)
+still_missing a d first b h = cond_both (occurs a d.bidder) (missing a first) (d.bidder ∷ missing a first) (λ g. has g b ≡ true) (λ e. h)
+    (λ e. or_right (d.bidder == b) (has (missing a first) b) h)
 
 -- who is of the first choices, and not in the allocation, is missing
 are_missing : (a first : List Choice) → AllByRecursion (λ d. occurs a d.bidder ≡ false → has (missing a first) d.bidder ≡ true) first
 are_missing a [] = tt
 are_missing a (d ∷ first) = (
-  λ e. ap (λ (g : List ℕ). has g d.bidder) (cond-false (occurs a d.bidder) (missing a first) (d.bidder ∷ missing a first) e) ∙ or_left (d.bidder == d.bidder) (has (missing a first) d.bidder) (eq-eqb d.bidder d.bidder refl),
-  all_agree (λ x. occurs a x.bidder ≡ false → has (missing a first) x.bidder ≡ true) (λ x. occurs a x.bidder ≡ false → has (missing a (d ∷ first)) x.bidder ≡ true) first (λ x h e. still_missing a d first x.bidder (h e)) (are_missing a first),
+  λ e. ap (λ (g : List ℕ). has g d.bidder) (cond-false (occurs a d.bidder) (missing a first) (d.bidder ∷ missing a first) e)
+      ∙ or_left (d.bidder == d.bidder) (has (missing a first) d.bidder) (eq-eqb d.bidder d.bidder refl),
+  all_agree (λ x. occurs a x.bidder ≡ false → has (missing a first) x.bidder ≡ true)
+      (λ x. occurs a x.bidder ≡ false → has (missing a (d ∷ first)) x.bidder ≡ true) first (λ x h e. still_missing a d first x.bidder (h e))
+      (are_missing a first),
 )
 
 occur : (a : List Choice) → AllByRecursion (λ c. occurs a c.bidder ≡ true) a
@@ -182,7 +205,8 @@ occur (c ∷ a) = (
 found : (a : List Choice) (b n : ℕ) → cond (occurs a b) n 0 ≤ sum_by (λ c. cond (b == c.bidder) n 0) a
 found [] b n = omega arith
 found (c ∷ a) b n =
-    let t : sum_by (λ c. cond (b == c.bidder) n 0) (c ∷ a) ≡ cond (b == c.bidder) n 0 + sum_by (λ c. cond (b == c.bidder) n 0) a = sum_by-cons (λ (x : Choice). cond (b == x.bidder) n 0) c a in
+    let t : sum_by (λ c. cond (b == c.bidder) n 0) (c ∷ a) ≡ cond (b == c.bidder) n 0 + sum_by (λ c. cond (b == c.bidder) n 0) a =
+    sum_by-cons (λ (x : Choice). cond (b == x.bidder) n 0) c a in
     let later = found a b n in
     ⊎_elim
     (λ e.
@@ -197,8 +221,11 @@ found (c ∷ a) b n =
 exchange_back : (a : List Choice) (f : Choice → ℕ) (first : List Choice) → sum_by (λ d. cond (occurs a d.bidder) (f d) 0) first ≤ sum_by (added f first) a
 exchange_back a f [] = omega arith
 exchange_back a f (d ∷ first) =
-    let s = sum_plus (added f (d ∷ first)) (λ c. cond (d.bidder == c.bidder) (f d) 0) (added f first) a (λ c. sum_by-cons (λ (x : Choice). cond (x.bidder == c.bidder) (f x) 0) d first) in
-    let t : sum_by (λ d. cond (occurs a d.bidder) (f d) 0) (d ∷ first) ≡ cond (occurs a d.bidder) (f d) 0 + sum_by (λ d. cond (occurs a d.bidder) (f d) 0) first = sum_by-cons (λ (x : Choice). cond (occurs a x.bidder) (f x) 0) d first in
+    let s = sum_plus (added f (d ∷ first)) (λ c. cond (d.bidder == c.bidder) (f d) 0) (added f first) a
+    (λ c. sum_by-cons (λ (x : Choice). cond (x.bidder == c.bidder) (f x) 0) d first) in
+    let t : sum_by (λ d. cond (occurs a d.bidder) (f d) 0) (d ∷ first)
+    ≡ cond (occurs a d.bidder) (f d) 0 + sum_by (λ d. cond (occurs a d.bidder) (f d) 0) first = sum_by-cons
+    (λ (x : Choice). cond (occurs a x.bidder) (f x) 0) d first in
     let here = found a d.bidder (f d) in
     let later = exchange_back a f first in
     omega arith
@@ -212,11 +239,13 @@ sums_at_most f g (x ∷ xs) h =
     let later = sums_at_most f g xs h.1 in
     omega arith
 
-outer_is : (a : List Choice) (group : List ℕ) (f : Choice → ℕ) (d : Choice) → (occurs a d.bidder ≡ false → has group d.bidder ≡ true) → cond (not (has group d.bidder)) (f d) 0 ≤ cond (occurs a d.bidder) (f d) 0
+outer_is : (a : List Choice) (group : List ℕ) (f : Choice → ℕ) (d : Choice) → (occurs a d.bidder ≡ false → has group d.bidder ≡ true)
+    → cond (not (has group d.bidder)) (f d) 0 ≤ cond (occurs a d.bidder) (f d) 0
 outer_is a group f d h = ⊎_elim
     (λ e.
     let is : cond (occurs a d.bidder) (f d) 0 ≡ f d = cond-true (occurs a d.bidder) (f d) 0 e in
-    let low : cond (not (has group d.bidder)) (f d) 0 ≤ f d = cond_both (not (has group d.bidder)) (f d) 0 (λ n. n ≤ f d) (λ _. le_refl (f d)) (λ _. omega arith) in
+    let low : cond (not (has group d.bidder)) (f d) 0 ≤ f d =
+    cond_both (not (has group d.bidder)) (f d) 0 (λ n. n ≤ f d) (λ _. le_refl (f d)) (λ _. omega arith) in
     omega arith)
     (λ e.
     let is : cond (not (has group d.bidder)) (f d) 0 ≡ 0 = ap (λ (t : Bool). cond (not t) (f d) 0) (h e) in
@@ -232,8 +261,10 @@ all_both (x ∷ xs) P Q R f p q = (f x p.0 q.0, all_both xs P Q R f p.1 q.1)
 without_missing : (lots : Lots) (book : Book) (first a : List Choice) → IsFeasible lots book (λ b. false) a → IsFeasible lots book (has (missing a first)) a
 without_missing lots book first a f = record {
   one_bid_each = f.one_bid_each;
-  eligible = All-from_recursion _ a (all_both a (λ c. occurs a c.bidder ≡ true) (λ c. is_eligible book (λ b. false) c ≡ true) (λ c. is_eligible book (has (missing a first)) c ≡ true)
-      (λ c here e. and_from (not (has (missing a first) c.bidder)) (is_some (bid_of book c)) (not_from_false (has (missing a first) c.bidder) (not_missing a first c.bidder here)) e)
+  eligible = All-from_recursion _ a (all_both a (λ c. occurs a c.bidder ≡ true) (λ c. is_eligible book (λ b. false) c ≡ true)
+      (λ c. is_eligible book (has (missing a first)) c ≡ true)
+      (λ c here e. and_from (not (has (missing a first) c.bidder)) (is_some (bid_of book c))
+      (not_from_false (has (missing a first) c.bidder) (not_missing a first c.bidder here)) e)
       (occur a) (recursion_from_All _ a f.eligible));
   fit = f.fit;
 }
@@ -241,7 +272,8 @@ without_missing lots book first a f = record {
 blocked_by : (t w f g p r n m : ℕ) → t ≤ w → (pos w -ℤ (pos f -ℤ pos g)) ≤ℤ pos p → r + n + g ≡ p + f → n ≤ m → t ≤ r + m
 blocked_by t w f g p r n m low cost sums more = omega (arith, ints)
 
-pub covers_leaves_none : (lots : Lots) (book : Book) (first : List Choice) (price : ℕ → ℕ) → IsBook lots book → ArePrices book first price → CoversEveryGroup lots book first price → NoneBlocks lots book first price
+pub covers_leaves_none : (lots : Lots) (book : Book) (first : List Choice) (price : ℕ → ℕ) → IsBook lots book → ArePrices book first price
+    → CoversEveryGroup lots book first price → NoneBlocks lots book first price
 covers_leaves_none lots book first price within prices covers a f =
     let group = missing a first in
     let outer : Choice → ℕ = λ d. cond (not (has group d.bidder)) (gain book price d) 0 in
@@ -250,11 +282,16 @@ covers_leaves_none lots book first price within prices covers a f =
     let low = best.1.greatest a here in
     let costs = covers group best.0 best.1 in
     let sums = parts lots book first price prices group in
-    let small = sums_at_most outer (λ d. cond (occurs a d.bidder) (gain book price d) 0) first (all_agree (λ d. occurs a d.bidder ≡ false → has group d.bidder ≡ true) (λ d. outer d ≤ cond (occurs a d.bidder) (gain book price d) 0) first (λ d h. outer_is a group (gain book price) d h) (are_missing a first)) in
+    let small = sums_at_most outer (λ d. cond (occurs a d.bidder) (gain book price d) 0) first
+    (all_agree (λ d. occurs a d.bidder ≡ false → has group d.bidder ≡ true)
+    (λ d. outer d ≤ cond (occurs a d.bidder) (gain book price d) 0) first (λ d h. outer_is a group (gain book price) d h)
+    (are_missing a first)) in
     let back = exchange_back a (gain book price) first in
     let e = surplus_is book first price a in
-    blocked_by (total lots book a) (total lots book best.0) (total lots book first) (amounts_of_group book group first) (paid_by_group price group first) (revenue lots book first price) (sum_by outer first) (surplus_of book first price a)
+    blocked_by (total lots book a) (total lots book best.0) (total lots book first) (amounts_of_group book group first)
+    (paid_by_group price group first) (revenue lots book first price) (sum_by outer first) (surplus_of book first price a)
     low costs (omega arith) (omega arith)
 
 pub covers_iff_none_blocks : CoversIffNoneBlocks
-covers_iff_none_blocks lots book first price within feasible prices = (covers_leaves_none lots book first price within prices, unblocked_covers lots book first price feasible prices)
+covers_iff_none_blocks lots book first price within feasible prices =
+    (covers_leaves_none lots book first price within prices, unblocked_covers lots book first price feasible prices)

@@ -1,5 +1,6 @@
 -- What a bound on the raised program says of allocations.
-use Rattle.std.proofs.Common.{◌≡◌, ℕ, ◌+◌, ◌≤◌, Bool, true, false, List, [], ◌∷◌, ◌++◌, Option, Some, None, map, refl, sym, subst, ap, ◌∙◌, arith, ℤ, pos, neg_ℤ, ◌+ℤ◌}
+use Rattle.std.proofs.Common.{◌≡◌, ℕ, ◌+◌, ◌≤◌, Bool, true, false, List, [], ◌∷◌, ◌++◌, Option, Some, None, map, refl, sym}
+use Rattle.std.proofs.Common.{subst, ap, ◌∙◌, arith, ℤ, pos, neg_ℤ, ◌+ℤ◌}
 use Rattle.std.specs.Prelude.{sum_by, All}
 use Rattle.std.specs.Option.{option_to_list}
 use Rattle.std.specs.List.{AllByRecursion, enumerate_from}
@@ -36,12 +37,15 @@ one_raise : (raise : ℕ → ℕ) (o : Option Choice) → raises raise (option_t
 one_raise raise None = refl
 one_raise raise (Some bid) = sum_by-cons (λ (c : Choice). raise c.bidder) bid [] ∙ (let e : raise bid.bidder + 0 ≡ raise bid.bidder = omega arith in e)
 
-raised_sum : (raise : ℕ → ℕ) (cs : List TableColumn) (vs : List Bool) → sum_at_one (λ c. c.cost) (map (raised_column raise) cs) vs ≡ sum_at_one (λ c. c.cost) cs vs +ℤ pos (raises raise (back cs vs))
+raised_sum : (raise : ℕ → ℕ) (cs : List TableColumn) (vs : List Bool)
+    → sum_at_one (λ c. c.cost) (map (raised_column raise) cs) vs ≡ sum_at_one (λ c. c.cost) cs vs +ℤ pos (raises raise (back cs vs))
 raised_sum raise [] [] = refl
 raised_sum raise [] (v ∷ vs) = refl
 raised_sum raise (c ∷ cs) [] = refl
 raised_sum raise (c ∷ cs) (true ∷ vs) =
-    let s : raises raise (option_to_list (column_bid c.name) ++ back cs vs) ≡ raises raise (option_to_list (column_bid c.name)) + raises raise (back cs vs) = sum_by-append (λ (c : Choice). raise c.bidder) (option_to_list (column_bid c.name)) (back cs vs) in
+    let s : raises raise (option_to_list (column_bid c.name) ++ back cs vs)
+    ≡ raises raise (option_to_list (column_bid c.name)) + raises raise (back cs vs) = sum_by-append (λ (c : Choice). raise c.bidder)
+    (option_to_list (column_bid c.name)) (back cs vs) in
     let o : raises raise (option_to_list (column_bid c.name)) ≡ raise_by raise (column_bid c.name) = one_raise raise (column_bid c.name) in
     let r = raised_sum raise cs vs in
     omega (arith, ints)
@@ -50,7 +54,8 @@ raised_sum raise (c ∷ cs) (false ∷ vs) = raised_sum raise cs vs
 pub raised_objective : (raise : ℕ → ℕ) (p : Table) (vs : List Bool) → objective (raised raise p) vs ≡ objective p vs +ℤ pos (raises raise (back p.columns vs))
 raised_objective raise p vs = raised_sum raise p.columns vs
 
-same_row : (raise : ℕ → ℕ) (row : ℕ) (cs : List TableColumn) (vs : List Bool) → sum_at_one (coefficient_at row) (map (raised_column raise) cs) vs ≡ sum_at_one (coefficient_at row) cs vs
+same_row : (raise : ℕ → ℕ) (row : ℕ) (cs : List TableColumn) (vs : List Bool)
+    → sum_at_one (coefficient_at row) (map (raised_column raise) cs) vs ≡ sum_at_one (coefficient_at row) cs vs
 same_row raise row [] [] = refl
 same_row raise row [] (v ∷ vs) = refl
 same_row raise row (c ∷ cs) [] = refl
@@ -70,13 +75,17 @@ allowed_down raise _ _ h = absurd h
 pub point_up : (raise : ℕ → ℕ) (p : Table) (vs : List Bool) → IsPoint p vs → IsPoint (raised raise p) vs
 point_up raise p vs h = record {
   allowed = allowed_up raise p.columns vs h.allowed;
-  met = all_agree (λ r. meets r.1.kind (row_sum p vs r.0) r.1.right_side ≡ true) (λ r. meets r.1.kind (row_sum (raised raise p) vs r.0) r.1.right_side ≡ true) (enumerate_from 0 p.rows) (λ r e. ap (λ (n : ℤ). meets r.1.kind n r.1.right_side) (same_row raise r.0 p.columns vs) ∙ e) h.met;
+  met = all_agree (λ r. meets r.1.kind (row_sum p vs r.0) r.1.right_side ≡ true)
+      (λ r. meets r.1.kind (row_sum (raised raise p) vs r.0) r.1.right_side ≡ true) (enumerate_from 0 p.rows)
+      (λ r e. ap (λ (n : ℤ). meets r.1.kind n r.1.right_side) (same_row raise r.0 p.columns vs) ∙ e) h.met;
 }
 
 pub point_down : (raise : ℕ → ℕ) (p : Table) (vs : List Bool) → IsPoint (raised raise p) vs → IsPoint p vs
 point_down raise p vs h = record {
   allowed = allowed_down raise p.columns vs h.allowed;
-  met = all_agree (λ r. meets r.1.kind (row_sum (raised raise p) vs r.0) r.1.right_side ≡ true) (λ r. meets r.1.kind (row_sum p vs r.0) r.1.right_side ≡ true) (enumerate_from 0 p.rows) (λ r e. ap (λ (n : ℤ). meets r.1.kind n r.1.right_side) (sym (same_row raise r.0 p.columns vs)) ∙ e) h.met;
+  met = all_agree (λ r. meets r.1.kind (row_sum (raised raise p) vs r.0) r.1.right_side ≡ true)
+      (λ r. meets r.1.kind (row_sum p vs r.0) r.1.right_side ≡ true) (enumerate_from 0 p.rows)
+      (λ r e. ap (λ (n : ℤ). meets r.1.kind n r.1.right_side) (sym (same_row raise r.0 p.columns vs)) ∙ e) h.met;
 }
 
 -- ---------- the law ----------
@@ -98,7 +107,8 @@ module _ (lots : Lots) (book : Book) (raise : ℕ → ℕ) (within : IsBook lots
       ∙ counted_members lots book (λ b. false) (sized lots book within) (λ c. raise c.bidder) a k f.one_bid_each
 
   -- a bound on the raised program is a bound on the totals
-  pub bound_of_totals : (r : ℕ) → IsBound (raised raise program) (neg_ℤ (pos r)) → (a : List Choice) → IsFeasible lots book (λ b. false) a → All (λ c. is_kept_choice lots book (λ b. false) c ≡ true) a
+  pub bound_of_totals : (r : ℕ) → IsBound (raised raise program) (neg_ℤ (pos r)) → (a : List Choice) → IsFeasible lots book (λ b. false) a
+      → All (λ c. is_kept_choice lots book (λ b. false) c ≡ true) a
       → total lots book a ≤ r + raises raise a
   bound_of_totals r bound a f kept =
       let k = recursion_from_All (λ c. is_kept_choice lots book (λ b. false) c ≡ true) a kept in
@@ -110,7 +120,8 @@ module _ (lots : Lots) (book : Book) (raise : ℕ → ℕ) (within : IsBook lots
       let parsed = exact.1 in
       omega (arith, ints)
 
-  pub totals_bound : (r : ℕ) → ((a : List Choice) → IsFeasible lots book (λ b. false) a → total lots book a ≤ r + raises raise a) → IsBound (raised raise program) (neg_ℤ (pos r))
+  pub totals_bound : (r : ℕ) → ((a : List Choice) → IsFeasible lots book (λ b. false) a → total lots book a ≤ r + raises raise a)
+      → IsBound (raised raise program) (neg_ℤ (pos r))
   totals_bound r h v is_point =
       let m = (presolved_is_faithful lots book (λ b. false) within).maps_back v (point_down raise program v is_point) in
       let most = h (back program.columns v) m.feasible in
@@ -120,16 +131,19 @@ module _ (lots : Lots) (book : Book) (raise : ℕ → ℕ) (within : IsBook lots
 
 pub raised_bound_excludes : RaisedBoundExcludesBlocking
 raised_bound_excludes lots book first price within = (
-  λ bound. kept_bids_suffice lots book first price (sized lots book within) (bound_of_totals lots book (surplus book first price) within (revenue lots book first price) bound),
+  λ bound. kept_bids_suffice lots book first price (sized lots book within)
+      (bound_of_totals lots book (surplus book first price) within (revenue lots book first price) bound),
   λ none. totals_bound lots book (surplus book first price) within (revenue lots book first price) none,
 )
 
 pub shown_covers : ShownCovers
 shown_covers lots book first price certificate within feasible prices shows =
-    unblocked_covers lots book first price feasible prices ((raised_bound_excludes lots book first price within).0 (shown-is-bound (raised_program lots book first price) (neg_ℤ (pos (revenue lots book first price))) certificate shows))
+    unblocked_covers lots book first price feasible prices ((raised_bound_excludes lots book first price within).0
+    (shown-is-bound (raised_program lots book first price) (neg_ℤ (pos (revenue lots book first price))) certificate shows))
 
 -- the same of a bound that is equal to it
-pub bound_covers : (lots : Lots) (book : Book) (first : List Choice) (price : ℕ → ℕ) (p : Table) (least : ℤ) → IsBook lots book → IsFeasible lots book (λ b. false) first → ArePrices book first price
+pub bound_covers : (lots : Lots) (book : Book) (first : List Choice) (price : ℕ → ℕ) (p : Table) (least : ℤ) → IsBook lots book
+    → IsFeasible lots book (λ b. false) first → ArePrices book first price
     → p ≡ raised_program lots book first price → least ≡ neg_ℤ (pos (revenue lots book first price)) → IsBound p least → CoversEveryGroup lots book first price
 bound_covers lots book first price p least within feasible prices e f bound =
     let here = subst (λ (q : Table). IsBound q (neg_ℤ (pos (revenue lots book first price)))) e (subst (λ (z : ℤ). IsBound p z) f bound) in

@@ -21,7 +21,8 @@ ArePrices book first price = All (λ c. price c.bidder ≤ amount_of book c) fir
 
 -- for every group of bidders, and an allocation of greatest total without it: the group's winners pay together at least its opportunity cost
 abbrev pub CoversEveryGroup : Lots → Book → List Choice → (ℕ → ℕ) → Type 0
-CoversEveryGroup lots book first price = (group : List ℕ) (without : List Choice) → IsGreatest lots book (has group) without → cost lots book first group without ≤ℤ pos (paid_by_group price group first)
+CoversEveryGroup lots book first price = (group : List ℕ) (without : List Choice) → IsGreatest lots book (has group) without
+    → cost lots book first group without ≤ℤ pos (paid_by_group price group first)
 
 -- the reserve of a lot of each category
 abbrev pub reserves_in : Terms → List ℕ
@@ -33,7 +34,8 @@ MeetReserves reserves book first price = All (λ c. weighed_choice reserves book
 
 -- no whole prices that cover every group and meet the reserves have a lower sum
 abbrev pub IsLeastSum : List ℕ → Lots → Book → List Choice → (ℕ → ℕ) → Type 0
-IsLeastSum reserves lots book first price = (other : ℕ → ℕ) → CoversEveryGroup lots book first other → MeetReserves reserves book first other → paid price first ≤ paid other first
+IsLeastSum reserves lots book first price =
+    (other : ℕ → ℕ) → CoversEveryGroup lots book first other → MeetReserves reserves book first other → paid price first ≤ paid other first
 
 -- ---------- surplus and revenue ----------
 
@@ -55,7 +57,8 @@ revenue lots book first price = paid price first + worth lots (left lots.supply 
 
 -- no feasible allocation blocks: none has a total above the revenue and its bidders' surplus
 abbrev pub NoneBlocks : Lots → Book → List Choice → (ℕ → ℕ) → Type 0
-NoneBlocks lots book first price = (a : List Choice) → IsFeasible lots book (λ b. false) a → total lots book a ≤ revenue lots book first price + surplus_of book first price a
+NoneBlocks lots book first price = (a : List Choice) → IsFeasible lots book (λ b. false) a
+    → total lots book a ≤ revenue lots book first price + surplus_of book first price a
 
 -- ---------- laws ----------
 
@@ -72,12 +75,14 @@ UnblockedIsGreatest = (lots : Lots) (book : Book) (first : List Choice) (price :
 -- no allocation blocks if none of kept bids does
 abbrev pub KeptBidsSuffice : Type 0
 KeptBidsSuffice = (lots : Lots) (book : Book) (first : List Choice) (price : ℕ → ℕ) → IsSized lots book
-    → ((a : List Choice) → IsFeasible lots book (λ b. false) a → All (λ c. is_kept_choice lots book (λ b. false) c ≡ true) a → total lots book a ≤ revenue lots book first price + surplus_of book first price a)
+    → ((a : List Choice) → IsFeasible lots book (λ b. false) a → All (λ c. is_kept_choice lots book (λ b. false) c ≡ true) a → total lots
+    book a ≤ revenue lots book first price + surplus_of book first price a)
     → NoneBlocks lots book first price
 
 -- prices cover every group if and only if no feasible allocation blocks
 abbrev pub CoversIffNoneBlocks : Type 0
-CoversIffNoneBlocks = (lots : Lots) (book : Book) (first : List Choice) (price : ℕ → ℕ) → IsBook lots book → IsFeasible lots book (λ b. false) first → ArePrices book first price
+CoversIffNoneBlocks = (lots : Lots) (book : Book) (first : List Choice) (price : ℕ → ℕ) → IsBook lots book
+    → IsFeasible lots book (λ b. false) first → ArePrices book first price
     → CoversEveryGroup lots book first price ↔ NoneBlocks lots book first price
 
 -- without any group there is an allocation of greatest total, so that the group has a cost

@@ -39,5 +39,6 @@ RaisedBoundExcludesBlocking = (lots : Lots) (book : Book) (first : List Choice) 
 
 -- so a certificate of that bound shows that the prices cover every group
 abbrev pub ShownCovers : Type 0
-ShownCovers = (lots : Lots) (book : Book) (first : List Choice) (price : ℕ → ℕ) (certificate : Certificate) → IsBook lots book → IsFeasible lots book (λ b. false) first → ArePrices book first price
+ShownCovers = (lots : Lots) (book : Book) (first : List Choice) (price : ℕ → ℕ) (certificate : Certificate) → IsBook lots book
+    → IsFeasible lots book (λ b. false) first → ArePrices book first price
     → Shows (raised_program lots book first price) (neg_ℤ (pos (revenue lots book first price))) certificate → CoversEveryGroup lots book first price

@@ -33,7 +33,8 @@ weighted_reserves reserves book first own = sum_by (λ c. own c.bidder * weighed
 abbrev pub scaled_below : ℕ → ℕ → ℤ
 scaled_below scale sum = pos scale *ℤ (pos sum -ℤ pos 1)
 
--- the weights on each winner, its own among them, are at most the scale, and the weighted costs and reserves come to more than the scale times one less than the sum that is paid
+-- the weights on each winner, its own among them, are at most the scale, and the weighted costs and reserves come to more than the scale
+-- times one less than the sum that is paid
 abbrev pub shows_least_sum : List ℕ → Lots → Book → List Choice → (ℕ → ℕ) → ℕ → List Weighted → (ℕ → ℕ) → Bool
 shows_least_sum reserves lots book first price scale weights own =
     list_all (λ c. nat_le (weight_on weights c.bidder + own c.bidder) scale) first
@@ -42,4 +43,5 @@ shows_least_sum reserves lots book first price scale weights own =
 -- such weights, on groups with an allocation of greatest total without each, show that no prices that cover every group and meet the reserves have a lower sum
 abbrev pub ShownIsLeastSum : Type 0
 ShownIsLeastSum = (reserves : List ℕ) (lots : Lots) (book : Book) (first : List Choice) (price : ℕ → ℕ) (scale : ℕ) (weights : List Weighted) (own : ℕ → ℕ)
-    → All (λ w. IsGreatest lots book (has w.group) w.without) weights → shows_least_sum reserves lots book first price scale weights own ≡ true → IsLeastSum reserves lots book first price
+    → All (λ w. IsGreatest lots book (has w.group) w.without) weights
+    → shows_least_sum reserves lots book first price scale weights own ≡ true → IsLeastSum reserves lots book first price

@@ -12,11 +12,13 @@ use Rattle.program_rows.proofs.EachFacts.{at_place}
 use Rattle.program_rows.proofs.NamedItemFacts.{bytes_flip}
 
 -- a name isn't among those before it
-fresh : (names : List (List ℕ)) (i : ℕ) (name : List ℕ) → IsDistinct bytes_eq names → slice_get names i ≡ Some name → list_any (bytes_eq name) (take i names) ≡ false
+fresh : (names : List (List ℕ)) (i : ℕ) (name : List ℕ) → IsDistinct bytes_eq names → slice_get names i ≡ Some name
+    → list_any (bytes_eq name) (take i names) ≡ false
 fresh [] i name d e = cc e
 fresh (c ∷ names) zero name d e = refl
 fresh (c ∷ names) (suc i) name d e =
-    ap₂ (λ a b. a || b) (bytes_flip c name (at_place (λ y. bytes_eq c y ≡ false) names i name (IsDistinct-head bytes_eq c names d) e)) (fresh names i name (IsDistinct-tail bytes_eq c names d) e)
+    ap₂ (λ a b. a || b) (bytes_flip c name (at_place (λ y. bytes_eq c y ≡ false) names i name (IsDistinct-head bytes_eq c names d) e))
+    (fresh names i name (IsDistinct-tail bytes_eq c names d) e)
 
 among_bytes : (name : List ℕ) (keys : List (Bor (List ℕ))) → list_any (λ k. bytes_eq name k.now) keys ≡ list_any (bytes_eq name) (bytes_of keys)
 among_bytes name [] = refl
@@ -30,6 +32,14 @@ pub one_more : (names : List (List ℕ)) (keys new : List (Bor (List ℕ))) (nam
     → bytes_of keys ≡ take i names → slice_get names i ≡ Some name.now → new ≡ insert_key same_bytes keys name
     → bytes_of new ≡ take (i + 1) names
 one_more names keys new name i distinct so_far at is =
-    let absent : list_any (same_bytes name) keys ≡ false = among_bytes name.now keys ∙ ap (list_any (bytes_eq name.now)) so_far ∙ fresh names i name.now distinct at in
+    let absent : list_any (same_bytes name) keys ≡ false =
+    among_bytes name.now keys ∙ ap (list_any (bytes_eq name.now)) so_far ∙ fresh names i name.now distinct at in
     let pushed : new ≡ keys ++ name ∷ [] = is ∙ rw absent refl in
-    rw (pushed, map-append (λ (k : Bor (List ℕ)). k.now) keys (name ∷ []), so_far, take_more names i name.now (slice_get_within names i name.now at), get_or_from_slice_get names i name.now name.now at) refl
+    rw (
+      pushed,
+      map-append (λ (k : Bor (List ℕ)). k.now) keys (name ∷ []),
+      so_far,
+      take_more names i name.now (slice_get_within names i
+          name.now at),
+      get_or_from_slice_get names i name.now name.now at,
+    ) refl

@@ -1,5 +1,7 @@
 -- What is built is the program of the offers.
-use Rattle.std.proofs.Common.{◌≡◌, ℕ, zero, suc, ◌+◌, ◌<◌, ◌≤◌, Bool, true, false, ◌==◌, nat_eq, cond, List, [], ◌∷◌, ◌++◌, Some, map, drop, length, slice_get, sym, refl, ap, ap₂, ◌∙◌, subst, arith, append_assoc, eqb-true, eq-eqb, ne_eqb, ℤ, pos}
+use Rattle.std.proofs.Common.{◌≡◌, ℕ, zero, suc, ◌+◌, ◌<◌, ◌≤◌, Bool, true, false, ◌==◌, nat_eq, cond, List, [], ◌∷◌, ◌++◌}
+use Rattle.std.proofs.Common.{Some, map, drop, length, slice_get, sym, refl, ap, ap₂, ◌∙◌, subst, arith, append_assoc}
+use Rattle.std.proofs.Common.{eqb-true, eq-eqb, ne_eqb, ℤ, pos}
 use Rattle.std.specs.Prelude.{⊤, All, codes, slice_index_or}
 use Rattle.std.specs.List.{AllByRecursion, range_with_len, dedup, dedup_from}
 use Rattle.std.proofs.lemmas.Bool.{cond-true, cond-false}
@@ -51,36 +53,47 @@ bidders_are [] h = refl
 bidders_are (k ∷ ks) h =
     let some = (h.each zero k (omega arith)).some_bidder in
     ap (λ (bs : List ℕ). map Bidder bs)
-    (cond-false (k.bidder == 0) (next_bidders 0 (offers ks)) (k.bidder ∷ next_bidders k.bidder (offers ks)) (ne_eqb k.bidder 0 (λ e. omega arith)) ∙ sym (from_last k.bidder (offers ks)))
+    (cond-false (k.bidder == 0) (next_bidders 0 (offers ks)) (k.bidder ∷ next_bidders k.bidder (offers ks))
+    (ne_eqb k.bidder 0 (λ e. omega arith)) ∙ sym (from_last k.bidder (offers ks)))
 
-pub bidders_end : (ss whole : List Subject) (last i : ℕ) (kept : List KeptBid) → length kept ≤ i → ss ++ map Bidder (next_bidders last (offers (drop i kept))) ≡ whole → ss ≡ whole
-bidders_end ss whole last i kept l h = sym (append-nil ss) ∙ sym (ap (λ (ks : List KeptBid). ss ++ map Bidder (next_bidders last (offers ks))) (drop_all i kept l)) ∙ h
+pub bidders_end : (ss whole : List Subject) (last i : ℕ) (kept : List KeptBid) → length kept ≤ i
+    → ss ++ map Bidder (next_bidders last (offers (drop i kept))) ≡ whole → ss ≡ whole
+bidders_end ss whole last i kept l h =
+    sym (append-nil ss) ∙ sym (ap (λ (ks : List KeptBid). ss ++ map Bidder (next_bidders last (offers ks))) (drop_all i kept l)) ∙ h
 
 -- ---------- the entries ----------
 
 weightless : (lots : Lots) (b : ℕ) (o : Offer) → (o.bidder == b) ≡ false → (weight lots (Bidder b) o == 0) ≡ true
 weightless lots b o e = ap (λ (n : ℕ). n == 0) (cond-false (o.bidder == b) 1 0 e)
 
-none_there : (lots : Lots) (r n : ℕ) (bs : List ℕ) (rest : List Subject) (o : Offer) → n ≡ r + length bs → AllByRecursion (λ b. o.bidder < b) bs → entries_from lots r (map Bidder bs ++ rest) o ≡ entries_from lots n rest o
+none_there : (lots : Lots) (r n : ℕ) (bs : List ℕ) (rest : List Subject) (o : Offer) → n ≡ r + length bs
+    → AllByRecursion (λ b. o.bidder < b) bs → entries_from lots r (map Bidder bs ++ rest) o ≡ entries_from lots n rest o
 none_there lots r n [] rest o e h = ap (λ (m : ℕ). entries_from lots m rest o) (let t : r ≡ n = omega arith in t)
 none_there lots r n (b ∷ bs) rest o e h =
     let less = h.0 in
-    cond-true (weight lots (Bidder b) o == 0) (entries_from lots (r + 1) (map Bidder bs ++ rest) o) ((r, pos (weight lots (Bidder b) o)) ∷ entries_from lots (r + 1) (map Bidder bs ++ rest) o) (weightless lots b o (ne_eqb o.bidder b (λ t. omega arith)))
+    cond-true (weight lots (Bidder b) o == 0) (entries_from lots (r + 1) (map Bidder bs ++ rest) o)
+    ((r, pos (weight lots (Bidder b) o)) ∷ entries_from lots (r + 1) (map Bidder bs ++ rest) o)
+    (weightless lots b o (ne_eqb o.bidder b (λ t. omega arith)))
     ∙ none_there lots (r + 1) n bs rest o (omega arith) h.1
 
-one_there : (lots : Lots) (r p n k : ℕ) (bs : List ℕ) (rest : List Subject) (o : Offer) → p ≡ r + k → n ≡ r + length bs → Rises bs → slice_get bs k ≡ Some o.bidder → entries_from lots r (map Bidder bs ++ rest) o ≡ (p, pos 1) ∷ entries_from lots n rest o
+one_there : (lots : Lots) (r p n k : ℕ) (bs : List ℕ) (rest : List Subject) (o : Offer) → p ≡ r + k → n ≡ r + length bs → Rises bs
+    → slice_get bs k ≡ Some o.bidder → entries_from lots r (map Bidder bs ++ rest) o ≡ (p, pos 1) ∷ entries_from lots n rest o
 one_there lots r p n k [] rest o place e h at = cc
 one_there lots r p n zero (b ∷ bs) rest o place e h at =
     let same : b ≡ o.bidder = cc in
     let one : weight lots (Bidder b) o ≡ 1 = cond-true (o.bidder == b) 1 0 (eq-eqb o.bidder b (sym same)) in
     let here : r ≡ p = omega arith in
-    cond-false (weight lots (Bidder b) o == 0) (entries_from lots (r + 1) (map Bidder bs ++ rest) o) ((r, pos (weight lots (Bidder b) o)) ∷ entries_from lots (r + 1) (map Bidder bs ++ rest) o) (ap (λ (m : ℕ). m == 0) one)
+    cond-false (weight lots (Bidder b) o == 0) (entries_from lots (r + 1) (map Bidder bs ++ rest) o)
+    ((r, pos (weight lots (Bidder b) o)) ∷ entries_from lots (r + 1) (map Bidder bs ++ rest) o) (ap (λ (m : ℕ). m == 0) one)
     ∙ ap (λ (m : ℕ). (r, pos m) ∷ entries_from lots (r + 1) (map Bidder bs ++ rest) o) one
     ∙ ap (λ (m : ℕ). (m, pos 1) ∷ entries_from lots (r + 1) (map Bidder bs ++ rest) o) here
-    ∙ ap (λ (es : List (ℕ × ℤ)). (p, pos 1) ∷ es) (none_there lots (r + 1) n bs rest o (omega arith) (subst (λ (m : ℕ). AllByRecursion (λ c. m < c) bs) same h.0))
+    ∙ ap (λ (es : List (ℕ × ℤ)). (p, pos 1) ∷ es) (none_there lots (r + 1) n bs rest o (omega arith)
+    (subst (λ (m : ℕ). AllByRecursion (λ c. m < c) bs) same h.0))
 one_there lots r p n (suc k) (b ∷ bs) rest o place e h at =
     let less : b < o.bidder = at_place (λ c. b < c) bs k o.bidder h.0 at in
-    cond-true (weight lots (Bidder b) o == 0) (entries_from lots (r + 1) (map Bidder bs ++ rest) o) ((r, pos (weight lots (Bidder b) o)) ∷ entries_from lots (r + 1) (map Bidder bs ++ rest) o) (weightless lots b o (ne_eqb o.bidder b (λ t. omega arith)))
+    cond-true (weight lots (Bidder b) o == 0) (entries_from lots (r + 1) (map Bidder bs ++ rest) o)
+    ((r, pos (weight lots (Bidder b) o)) ∷ entries_from lots (r + 1) (map Bidder bs ++ rest) o)
+    (weightless lots b o (ne_eqb o.bidder b (λ t. omega arith)))
     ∙ one_there lots (r + 1) p n k bs rest o (omega arith) (omega arith) h.1 at
 
 -- ---------- the columns ----------
@@ -100,14 +113,19 @@ Stands bs place (o ∷ offers) = (last : ℕ) × (drop place bs ≡ last ∷ nex
 
 pub stands_first : (offers : List Offer) → Stands (dedup nat_eq (bidders offers)) 0 offers
 stands_first [] = tt
-stands_first (o ∷ offers) =
-    (o.bidder, from_last o.bidder offers ∙ sym (ap (λ (bs : List ℕ). o.bidder ∷ bs) (cond-true (o.bidder == o.bidder) (next_bidders o.bidder offers) (o.bidder ∷ next_bidders o.bidder offers) (eq-eqb o.bidder o.bidder refl))))
+stands_first (o ∷ offers) = (
+  o.bidder,
+  from_last o.bidder offers ∙ sym (ap (λ (bs : List ℕ). o.bidder ∷ bs)
+      (cond-true (o.bidder == o.bidder) (next_bidders o.bidder offers) (o.bidder ∷ next_bidders o.bidder offers)
+      (eq-eqb o.bidder o.bidder refl))),
+)
 
 pub stands_next : (bs : List ℕ) (place b : ℕ) (offers : List Offer) → drop place bs ≡ b ∷ next_bidders b offers → Stands bs place offers
 stands_next bs place b [] h = tt
 stands_next bs place b (o ∷ offers) h = (b, h)
 
-found : (bs : List ℕ) (place next last : ℕ) (o : Offer) (offers : List Offer) (b : Bool) → (o.bidder == last) ≡ b → drop place bs ≡ last ∷ cond b (next_bidders last offers) (o.bidder ∷ next_bidders o.bidder offers)
+found : (bs : List ℕ) (place next last : ℕ) (o : Offer) (offers : List Offer) (b : Bool) → (o.bidder == last) ≡ b
+    → drop place bs ≡ last ∷ cond b (next_bidders last offers) (o.bidder ∷ next_bidders o.bidder offers)
     → next ≡ cond (cond b 1 0 == 0) (place + 1) place → drop next bs ≡ o.bidder ∷ next_bidders o.bidder offers
 found bs place next last o offers true e at n =
     let same : o.bidder ≡ last = eqb-true o.bidder last e in
@@ -115,7 +133,8 @@ found bs place next last o offers true e at n =
 found bs place next last o offers false e at n =
     ap (λ (p : ℕ). drop p bs) n ∙ (get_dropped bs place last (o.bidder ∷ next_bidders o.bidder offers) at).1
 
-last_there : (bs : List ℕ) (rest : List Subject) (place last : ℕ) (others : List ℕ) → drop place bs ≡ last ∷ others → (place < length (map Bidder bs ++ rest)) × (slice_get (map Bidder bs ++ rest) place ≡ Some (Bidder last))
+last_there : (bs : List ℕ) (rest : List Subject) (place last : ℕ) (others : List ℕ) → drop place bs ≡ last ∷ others
+    → (place < length (map Bidder bs ++ rest)) × (slice_get (map Bidder bs ++ rest) place ≡ Some (Bidder last))
 last_there [] rest zero last others e = cc
 last_there [] rest (suc place) last others e = cc
 last_there (b ∷ bs) rest zero last others e = let same : b ≡ last = cc in (omega arith, ap (λ (n : ℕ). Some (Bidder n)) same)
@@ -132,7 +151,8 @@ module _ (lots : Lots) (kept : List KeptBid) (ss : List Subject) (all : ss ≡ s
   bs = dedup nat_eq (bidders (offers kept))
 
   -- the bidder whose row is the last one before the next bid
-  last_bidder : (place i : ℕ) → i < length kept → Stands bs place (offers (drop i kept)) → (last : ℕ) × (place < length ss) × (slice_get ss place ≡ Some (Bidder last))
+  last_bidder : (place i : ℕ) → i < length kept → Stands bs place (offers (drop i kept))
+      → (last : ℕ) × (place < length ss) × (slice_get ss place ≡ Some (Bidder last))
   last_bidder place i l stands =
       let front = item_at kept i l in
       let s : Stands bs place (offer_of front.0 ∷ offers (drop (i + 1) kept)) = subst (λ (ks : List KeptBid). Stands bs place (offers ks)) front.2 stands in
@@ -142,21 +162,26 @@ module _ (lots : Lots) (kept : List KeptBid) (ss : List Subject) (all : ss ≡ s
   pub last_within : (place i : ℕ) → i < length kept → Stands bs place (offers (drop i kept)) → place < length ss
   last_within place i l stands = (last_bidder place i l stands).1
 
-  pub last_is_there : (place i : ℕ) (last : Subject) → i < length kept → Stands bs place (offers (drop i kept)) → slice_get ss place ≡ Some last → IsThere lots last
+  pub last_is_there : (place i : ℕ) (last : Subject) → i < length kept → Stands bs place (offers (drop i kept))
+      → slice_get ss place ≡ Some last → IsThere lots last
   last_is_there place i last l stands at =
       let b = last_bidder place i l stands in
       subst (λ (s : Subject). IsThere lots s) (same_Some (Bidder b.0) last (sym b.2 ∙ at)) tt
 
-  pub place_found : (place next i : ℕ) (k : KeptBid) (last : Subject) → i < length kept → k ≡ slice_index_or kept i k → Stands bs place (offers (drop i kept)) → slice_get ss place ≡ Some last
+  pub place_found : (place next i : ℕ) (k : KeptBid) (last : Subject) → i < length kept → k ≡ slice_index_or kept i k
+      → Stands bs place (offers (drop i kept)) → slice_get ss place ≡ Some last
       → next ≡ cond (weight lots last (offer_of k) == 0) (place + 1) place → drop next bs ≡ k.bidder ∷ next_bidders k.bidder (offers (drop (i + 1) kept))
   place_found place next i k last l is stands at n =
       let front : drop i kept ≡ k ∷ drop (i + 1) kept = drop_more kept i k l ∙ ap (λ (x : KeptBid). x ∷ drop (i + 1) kept) (sym is) in
       let s : Stands bs place (offer_of k ∷ offers (drop (i + 1) kept)) = subst (λ (ks : List KeptBid). Stands bs place (offers ks)) front stands in
       let t = last_there bs (subjects lots []) place s.0 (next_bidders s.0 (offer_of k ∷ offers (drop (i + 1) kept))) s.1 in
       let same : last ≡ Bidder s.0 = same_Some last (Bidder s.0) (sym at ∙ ap (λ (xs : List Subject). slice_get xs place) all ∙ t.1) in
-      found bs place next s.0 (offer_of k) (offers (drop (i + 1) kept)) (k.bidder == s.0) refl s.1 (n ∙ ap (λ (t : Subject). cond (weight lots t (offer_of k) == 0) (place + 1) place) same)
+      found bs place next s.0 (offer_of k) (offers (drop (i + 1) kept)) (k.bidder == s.0) refl s.1
+      (n ∙ ap (λ (t : Subject). cond (weight lots t (offer_of k) == 0) (place + 1) place) same)
 
-  pub column_is : (next first : ℕ) (o : Offer) (others : List ℕ) → AreOffers lots (offers kept) → first ≡ length (bidder_subjects (offers kept)) → drop next bs ≡ o.bidder ∷ others → built_column lots first next o ≡ column_of lots ss o
+  pub column_is : (next first : ℕ) (o : Offer) (others : List ℕ) → AreOffers lots (offers kept)
+      → first ≡ length (bidder_subjects (offers kept)) → drop next bs ≡ o.bidder ∷ others
+      → built_column lots first next o ≡ column_of lots ss o
   column_is next first o others h count at =
       let rises = dedup_rises (bidders (offers kept)) (bidders_never_fall lots (offers kept) h) in
       let n : first ≡ length bs = count ∙ length-map bs Bidder in
@@ -167,8 +192,11 @@ module _ (lots : Lots) (kept : List KeptBid) (ss : List Subject) (all : ss ≡ s
       ∙ sym (ap (λ (xs : List Subject). entries_from lots 0 xs o) all) in
       ap (λ (es : List (ℕ × ℤ)). record (column_of lots [] o) { entries = es }) entries
 
-  pub column_step : (columns more whole : List TableColumn) (i next first : ℕ) (k : KeptBid) (others : List ℕ) → AreOffers lots (offers kept) → first ≡ length (bidder_subjects (offers kept)) → i < length kept → k ≡ slice_index_or kept i k
-      → drop next bs ≡ k.bidder ∷ others → columns ++ map (column_of lots ss) (offers (drop i kept)) ≡ whole → more ≡ columns ++ built_column lots first next (offer_of k) ∷ [] → more ++ map (column_of lots ss) (offers (drop (i + 1) kept)) ≡ whole
+  pub column_step : (columns more whole : List TableColumn) (i next first : ℕ) (k : KeptBid) (others : List ℕ)
+      → AreOffers lots (offers kept) → first ≡ length (bidder_subjects (offers kept)) → i < length kept → k ≡ slice_index_or kept i k
+      → drop next bs ≡ k.bidder ∷ others → columns ++ map (column_of lots ss) (offers (drop i kept)) ≡ whole
+      → more ≡ columns ++ built_column lots first next (offer_of k) ∷ []
+      → more ++ map (column_of lots ss) (offers (drop (i + 1) kept)) ≡ whole
   column_step columns more whole i next first k others h count l is at so e =
       let front : drop i kept ≡ k ∷ drop (i + 1) kept = drop_more kept i k l ∙ ap (λ (x : KeptBid). x ∷ drop (i + 1) kept) (sym is) in
       let rest : List TableColumn = map (column_of lots ss) (offers (drop (i + 1) kept)) in
@@ -180,7 +208,8 @@ module _ (lots : Lots) (kept : List KeptBid) (ss : List Subject) (all : ss ≡ s
 -- ---------- the whole ----------
 
 -- the bidders, the categories and the pools
-pub listed : (t : Terms) (offers : List Offer) (first more all : List Subject) (n m : ℕ) → first ≡ bidder_subjects offers → more ≡ first ++ map Category (range_with_len 0 n) → all ≡ more ++ map Pool (range_with_len 0 m)
+pub listed : (t : Terms) (offers : List Offer) (first more all : List Subject) (n m : ℕ) → first ≡ bidder_subjects offers
+    → more ≡ first ++ map Category (range_with_len 0 n) → all ≡ more ++ map Pool (range_with_len 0 m)
     → n ≡ length t.categories → m ≡ length t.pools → all ≡ subjects (lots_in t) offers
 listed t offers first more all n m f c p categories pools =
     let count : n ≡ length (lots_in t).supply = categories ∙ sym (length-map t.categories (λ (category : declared.Category). category.supply)) in
@@ -191,7 +220,8 @@ listed t offers first more all n m f c p categories pools =
     ∙ ap₂ (λ (k l : ℕ). bidder_subjects offers ++ (map Category (range_with_len 0 k) ++ map Pool (range_with_len 0 l))) count caps
 
 -- few bidders
-few_behind : (low : ℕ) (bs : List ℕ) → low ≤ MOST_BIDDERS → AllByRecursion (λ b. low < b) bs → AllByRecursion (λ b. b ≤ MOST_BIDDERS) bs → Rises bs → length bs + low ≤ MOST_BIDDERS
+few_behind : (low : ℕ) (bs : List ℕ) → low ≤ MOST_BIDDERS → AllByRecursion (λ b. low < b) bs → AllByRecursion (λ b. b ≤ MOST_BIDDERS) bs
+    → Rises bs → length bs + low ≤ MOST_BIDDERS
 few_behind low [] l a h r = omega arith
 few_behind low (b ∷ bs) l a h r = let rest = few_behind b bs h.0 r.0 h.1 r.1 in let first = a.0 in omega arith
 
@@ -202,14 +232,18 @@ few (b ∷ bs) h r = let rest = few_behind b bs h.0 r.0 h.1 r.1 in omega arith
 pub few_bidders : (lots : Lots) (offers : List Offer) → AreOffers lots offers → length (bidder_subjects offers) ≤ MOST_BIDDERS + 1
 few_bidders lots offers h =
     let same = length-map (dedup nat_eq (bidders offers)) Bidder in
-    let l = few (dedup nat_eq (bidders offers)) (all_dedup (λ b. b ≤ MOST_BIDDERS) (bidders offers) (bidders_few lots offers h)) (dedup_rises (bidders offers) (bidders_never_fall lots offers h)) in
+    let l = few (dedup nat_eq (bidders offers)) (all_dedup (λ b. b ≤ MOST_BIDDERS) (bidders offers) (bidders_few lots offers h))
+    (dedup_rises (bidders offers) (bidders_never_fall lots offers h)) in
     omega arith
 
 pub each_there : (lots : Lots) (offers : List Offer) (all : List Subject) → all ≡ subjects lots offers → All (IsThere lots) all
-each_there lots offers all e = subst (λ (ss : List Subject). All (IsThere lots) ss) (sym e) (All-from_recursion (IsThere lots) (subjects lots offers) (all_there lots offers))
+each_there lots offers all e = subst (λ (ss : List Subject). All (IsThere lots) ss) (sym e)
+    (All-from_recursion (IsThere lots) (subjects lots offers) (all_there lots offers))
 
-pub is_built : (lots : Lots) (offers : List Offer) (objective : List ℕ) (ss : List Subject) (rows : List TableRow) (columns : List TableColumn) → objective ≡ codes "OBJ" → ss ≡ subjects lots offers
-    → rows ≡ map (row_of lots) ss → columns ≡ map (column_of lots ss) offers ++ worth_column lots → record { objective = objective; rows = rows; columns = columns } ≡ program_of lots offers
+pub is_built : (lots : Lots) (offers : List Offer) (objective : List ℕ) (ss : List Subject) (rows : List TableRow)
+    (columns : List TableColumn) → objective ≡ codes "OBJ" → ss ≡ subjects lots offers
+    → rows ≡ map (row_of lots) ss → columns ≡ map (column_of lots ss) offers ++ worth_column lots
+    → record { objective = objective; rows = rows; columns = columns } ≡ program_of lots offers
 is_built lots offers objective ss rows columns o s r c =
     ap (λ (name : List ℕ). record { objective = name; rows = rows; columns = columns }) o
     ∙ ap₂ (λ (rs : List TableRow) (cs : List TableColumn). record { objective = codes "OBJ"; rows = rs; columns = cs })

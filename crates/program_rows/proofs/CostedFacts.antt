@@ -11,7 +11,8 @@ same_names [] (v ∷ vs) e = absurd (omega arith)
 same_names (c ∷ cs) [] e = absurd (omega arith)
 same_names (c ∷ cs) (v ∷ vs) e = ap (λ (ns : List (List ℕ)). c.name ∷ ns) (same_names cs vs (omega arith))
 
-same_entries : (rows : ℕ) (cs : List TableColumn) (vs : List ℤ) → AllByRecursion (λ c. AreEntries rows c.entries) cs → AllByRecursion (λ c. AreEntries rows c.entries) (costed cs vs)
+same_entries : (rows : ℕ) (cs : List TableColumn) (vs : List ℤ) → AllByRecursion (λ c. AreEntries rows c.entries) cs
+    → AllByRecursion (λ c. AreEntries rows c.entries) (costed cs vs)
 same_entries rows [] vs h = tt
 same_entries rows (c ∷ cs) [] h = tt
 same_entries rows (c ∷ cs) (v ∷ vs) h = (h.0, same_entries rows cs vs h.1)

@@ -26,7 +26,8 @@ is_offer lots k sized h = record {
   bid = record { sized = sized; quantities = recursion_from_All _ _ h.quantities.each; amount = h.amounts };
 }
 
-offers_from : (lots : Lots) (ks : List KeptBid) → AllByRecursion (IsSized lots) ks → AllByRecursion IsKeptBid ks → AllPairs Precedes ks → AreOffers lots (offers ks)
+offers_from : (lots : Lots) (ks : List KeptBid) → AllByRecursion (IsSized lots) ks → AllByRecursion IsKeptBid ks → AllPairs Precedes ks
+    → AreOffers lots (offers ks)
 offers_from lots [] sized each rising = tt
 offers_from lots (k ∷ ks) sized each rising = (
   is_offer lots k sized.0 each.0,
@@ -34,6 +35,10 @@ offers_from lots (k ∷ ks) sized each rising = (
   offers_from lots ks sized.1 each.1 (λ i j d l m. rising (suc i) (suc j) d (omega arith) (omega arith)),
 )
 
-pub are_offers : (t : Terms) (ks : List KeptBid) → All (λ k. length k.offer.now.package ≡ length t.categories) ks → AreKept ks → AreOffers (lots_in t) (offers ks)
+pub are_offers : (t : Terms) (ks : List KeptBid) → All (λ k. length k.offer.now.package ≡ length t.categories) ks → AreKept ks
+    → AreOffers (lots_in t) (offers ks)
 are_offers t ks sized h =
-    offers_from (lots_in t) ks (all_agree _ (IsSized (lots_in t)) ks (λ k e. e ∙ sym (length-map t.categories (λ (category : Category). category.supply))) (recursion_from_All (λ k. length k.offer.now.package ≡ length t.categories) ks sized)) (recursion_from_All IsKeptBid ks h.each) h.rising
+    offers_from (lots_in t) ks (all_agree _ (IsSized (lots_in t)) ks
+    (λ k e. e ∙ sym (length-map t.categories (λ (category : Category). category.supply)))
+    (recursion_from_All (λ k. length k.offer.now.package ≡ length t.categories) ks sized)) (recursion_from_All IsKeptBid ks h.each)
+    h.rising

@@ -1,5 +1,7 @@
 -- A program that is built is legal: names that differ and can be printed, entries in row order, small numbers.
-use Rattle.std.proofs.Common.{◌≡◌, ◌≢◌, ℕ, zero, suc, ◌+◌, ◌^◌, ◌<◌, ◌≤◌, Bool, true, false, ◌==◌, nat_eq, cond, List, [], ◌∷◌, ◌++◌, slice_index, length, map, refl, ap, subst, arith, ⊎_elim, eq-eqb, le_refl, ◌*◌, slice_index_or, ℤ, pos, negsuc, neg_ℤ, ◌-ℤ◌, ◌≤ℤ◌, nat_abs}
+use Rattle.std.proofs.Common.{◌≡◌, ◌≢◌, ℕ, zero, suc, ◌+◌, ◌^◌, ◌<◌, ◌≤◌, Bool, true, false, ◌==◌, nat_eq, cond, List, []}
+use Rattle.std.proofs.Common.{◌∷◌, ◌++◌, slice_index, length, map, refl, ap, subst, arith, ⊎_elim, eq-eqb, le_refl, ◌*◌}
+use Rattle.std.proofs.Common.{slice_index_or, ℤ, pos, negsuc, neg_ℤ, ◌-ℤ◌, ◌≤ℤ◌, nat_abs}
 use Rattle.std.specs.Prelude.{bytes_eq, codes, decimal}
 use Rattle.std.specs.List.{AllByRecursion, IsDistinct, range_with_len, dedup, dedup_from}
 use Rattle.std.specs.Str.Parse.{AllDigits}
@@ -13,7 +15,8 @@ use Rattle.std.proofs.lemmas.Fmt.{decimal_is_IsNumeral, decimal_injective}
 use Rattle.std.proofs.lemmas.Int.{ints}
 use Rattle.std.proofs.Math.Nat.{mul-suc}
 use Rattle.std.proofs.lemmas.Nat.{mul-le}
-use Rattle.auction_terms.specs.declared.limits.TheConstants.{GREATEST_AMOUNT, GREATEST_QUANTITY, GREATEST_VALUE, GREATEST_WEIGHT, MOST_BIDDERS, MOST_CATEGORIES, MOST_POOLS}
+use Rattle.auction_terms.specs.declared.limits.TheConstants.{GREATEST_AMOUNT, GREATEST_QUANTITY, GREATEST_VALUE}
+use Rattle.auction_terms.specs.declared.limits.TheConstants.{GREATEST_WEIGHT, MOST_BIDDERS, MOST_CATEGORIES, MOST_POOLS}
 use Rattle.auction_terms.specs.Packages.{Lots, WeightedCap, pool_at, weighed, worth, worth_of_all}
 use Rattle.auction_terms.specs.Domination.{net}
 use Rattle.auction_terms.specs.Keeping.{Offer}
@@ -32,7 +35,8 @@ use Rattle.program_rows.proofs.SpellingFacts.{bid_name-injective}
 use Rattle.program_rows.specs.declared.bounds.Bounds.TheVariants.{One}
 
 -- what holds of the bidders, of each category and of each pool holds of each subject
-pub each_subject : (P : Subject → Type 0) (lots : Lots) (bs : List ℕ) → AllByRecursion (λ b. P (Bidder b)) bs → ((c : ℕ) → c < length lots.supply → P (Category c)) → ((p : ℕ) → p < length lots.pools → P (Pool p))
+pub each_subject : (P : Subject → Type 0) (lots : Lots) (bs : List ℕ) → AllByRecursion (λ b. P (Bidder b)) bs
+    → ((c : ℕ) → c < length lots.supply → P (Category c)) → ((p : ℕ) → p < length lots.pools → P (Pool p))
     → AllByRecursion P (map Bidder bs ++ subjects lots [])
 each_subject P lots bs b c p =
     all_append P (map Bidder bs) (subjects lots []) (each_map P Bidder bs b)
@@ -107,7 +111,8 @@ module _ (lots : Lots) where
   plain_name (Category c) = (refl, refl)
   plain_name (Pool p) = (refl, refl)
 
-  others_differ : (s : Subject) (ss : List Subject) → IsNamable s → AllByRecursion IsNamable ss → AllByRecursion (IsEarlier s) ss → AllByRecursion (λ name. bytes_eq (row_of lots s).name name ≡ false) (row_names ss)
+  others_differ : (s : Subject) (ss : List Subject) → IsNamable s → AllByRecursion IsNamable ss → AllByRecursion (IsEarlier s) ss
+      → AllByRecursion (λ name. bytes_eq (row_of lots s).name name ≡ false) (row_names ss)
   others_differ s [] h k l = tt
   others_differ s (t ∷ ss) h k l = (subjects_differ lots s t h k.0 l.0, others_differ s ss h k.1 l.1)
 
@@ -144,7 +149,8 @@ next_number k x xs ys false e l h g =
 
 dedup_from_rises : (k : ℕ) (xs : List ℕ) → AllByRecursion (λ y. k ≤ y) xs → NeverFalls xs → RisesFrom k (dedup_from nat_eq k xs)
 dedup_from_rises k [] a h = ((tt, tt), (le_refl k, tt))
-dedup_from_rises k (x ∷ xs) a h = next_number k x (dedup_from nat_eq k xs) (dedup_from nat_eq x xs) (x == k) refl a.0 (dedup_from_rises k xs a.1 h.1) (dedup_from_rises x xs h.0 h.1)
+dedup_from_rises k (x ∷ xs) a h = next_number k x (dedup_from nat_eq k xs) (dedup_from nat_eq x xs) (x == k) refl a.0
+    (dedup_from_rises k xs a.1 h.1) (dedup_from_rises x xs h.0 h.1)
 
 pub dedup_rises : (xs : List ℕ) → NeverFalls xs → Rises (dedup nat_eq xs)
 dedup_rises [] h = tt
@@ -154,10 +160,14 @@ pub all_dedup : (P : ℕ → Type 0) (xs : List ℕ) → AllByRecursion P xs →
 all_dedup P xs h = recursion_from_All P (dedup nat_eq xs) (All-dedup nat_eq P xs (All-from_recursion P xs h))
 
 -- subjects of one kind, in the order of their numbers, and others after them
-rising_earlier : (kind : ℕ → Subject) (xs : List ℕ) (rest : List Subject) → ((i j : ℕ) → i < j → IsEarlier (kind i) (kind j)) → ((i : ℕ) → AllByRecursion (IsEarlier (kind i)) rest) → Rises xs → AreEarlier rest → AreEarlier (map kind xs ++ rest)
+rising_earlier : (kind : ℕ → Subject) (xs : List ℕ) (rest : List Subject) → ((i j : ℕ) → i < j → IsEarlier (kind i) (kind j))
+    → ((i : ℕ) → AllByRecursion (IsEarlier (kind i)) rest) → Rises xs → AreEarlier rest → AreEarlier (map kind xs ++ rest)
 rising_earlier kind [] rest h k rises r = r
-rising_earlier kind (x ∷ xs) rest h k rises r =
-    (all_append (IsEarlier (kind x)) (map kind xs) rest (each_map (IsEarlier (kind x)) kind xs (all_agree (λ y. x < y) (λ y. IsEarlier (kind x) (kind y)) xs (h x) rises.0)) (k x), rising_earlier kind xs rest h k rises.1 r)
+rising_earlier kind (x ∷ xs) rest h k rises r = (
+  all_append (IsEarlier (kind x)) (map kind xs) rest (each_map (IsEarlier (kind x)) kind xs
+      (all_agree (λ y. x < y) (λ y. IsEarlier (kind x) (kind y)) xs (h x) rises.0)) (k x),
+  rising_earlier kind xs rest h k rises.1 r,
+)
 
 range_rises : (a n : ℕ) → Rises (range_with_len a n)
 range_rises a zero = tt
@@ -167,7 +177,9 @@ module _ (lots : Lots) where
   pub bidders_never_fall : (offers : List Offer) → AreOffers lots offers → NeverFalls (map (λ (o : Offer). o.bidder) offers)
   bidders_never_fall [] h = tt
   bidders_never_fall (o ∷ offers) h = (
-    each_map (λ y. o.bidder ≤ y) (λ (later : Offer). later.bidder) offers (all_agree (IsBefore o) (λ (later : Offer). o.bidder ≤ later.bidder) offers (λ later before. ⊎_elim (λ l. omega arith) (λ s. let e = s.0 in omega arith) before) h.1),
+    each_map (λ y. o.bidder ≤ y) (λ (later : Offer). later.bidder) offers
+        (all_agree (IsBefore o) (λ (later : Offer). o.bidder ≤ later.bidder) offers
+        (λ later before. ⊎_elim (λ l. omega arith) (λ s. let e = s.0 in omega arith) before) h.1),
     bidders_never_fall offers h.2,
   )
 
@@ -176,15 +188,18 @@ module _ (lots : Lots) where
   bidders_few (o ∷ offers) h = (h.0.bidder_to, bidders_few offers h.2)
 
   all_namable : (offers : List Offer) → IsLots lots → AreOffers lots offers → AllByRecursion IsNamable (subjects lots offers)
-  all_namable offers l h = each_subject IsNamable lots (dedup nat_eq (map (λ (o : Offer). o.bidder) offers)) (all_dedup (λ b. b ≤ MOST_BIDDERS) (map (λ (o : Offer). o.bidder) offers) (bidders_few offers h))
+  all_namable offers l h = each_subject IsNamable lots (dedup nat_eq (map (λ (o : Offer). o.bidder) offers))
+      (all_dedup (λ b. b ≤ MOST_BIDDERS) (map (λ (o : Offer). o.bidder) offers) (bidders_few offers h))
       (λ c m. let few = l.categories in omega arith) (λ p m. let few = l.few_pools in omega arith)
 
   all_earlier : (offers : List Offer) → AreOffers lots offers → AreEarlier (subjects lots offers)
   all_earlier offers h =
       let pools = range_with_len 0 (length lots.pools) in
-      rising_earlier Bidder (dedup nat_eq (map (λ (o : Offer). o.bidder) offers)) (subjects lots []) (λ i j l. l) (λ b. each_subject (IsEarlier (Bidder b)) lots [] tt (λ c l. tt) (λ p l. tt))
+      rising_earlier Bidder (dedup nat_eq (map (λ (o : Offer). o.bidder) offers)) (subjects lots []) (λ i j l. l)
+      (λ b. each_subject (IsEarlier (Bidder b)) lots [] tt (λ c l. tt) (λ p l. tt))
       (dedup_rises (map (λ (o : Offer). o.bidder) offers) (bidders_never_fall offers h))
-      (rising_earlier Category (range_with_len 0 (length lots.supply)) (map Pool pools) (λ i j l. l) (λ c. each_map (IsEarlier (Category c)) Pool pools (each _ pools (λ p. tt))) (range_rises 0 (length lots.supply))
+      (rising_earlier Category (range_with_len 0 (length lots.supply)) (map Pool pools) (λ i j l. l)
+      (λ c. each_map (IsEarlier (Category c)) Pool pools (each _ pools (λ p. tt))) (range_rises 0 (length lots.supply))
       (subst AreEarlier (append-nil (map Pool pools)) (rising_earlier Pool pools [] (λ i j l. l) (λ p. tt) (range_rises 0 (length lots.pools)) tt)))
 
 -- each subject is about a category or pool that there is
@@ -194,14 +209,23 @@ all_there lots offers = each_subject (IsThere lots) lots (dedup nat_eq (map (λ 
 -- ---------- the columns ----------
 
 bid_named : (b j : ℕ) → b < 2 ^ 64 → j < 2 ^ 64 → IsName (bid_name b j)
-bid_named b j hb hj = (omega arith, ((omega arith, omega arith), all_append IsPrintable (decimal b) (95 ∷ decimal j) (printable b hb) ((omega arith, omega arith), printable j hj)))
+bid_named b j hb hj = (
+  omega arith,
+  (
+    (omega arith, omega arith),
+    all_append IsPrintable (decimal b) (95 ∷ decimal j) (printable b
+        hb) ((omega arith, omega arith), printable j hj),
+  ),
+)
 
 -- the column of what all lots are worth
 abbrev pub last_column : Lots → TableColumn
 last_column lots = record { name = codes "K"; bounds = One; cost = neg_ℤ (pos (worth_of_all lots)); entries = [] }
 
 module _ (lots : Lots) (rows : List Subject) where
-  each_column : (P : TableColumn → Type 0) (offers : List Offer) → AreOffers lots offers → ((o : Offer) → IsOffer lots o → P (column_of lots rows o)) → P (last_column lots) → AllByRecursion P (map (column_of lots rows) offers ++ worth_column lots)
+  each_column : (P : TableColumn → Type 0) (offers : List Offer) → AreOffers lots offers
+      → ((o : Offer) → IsOffer lots o → P (column_of lots rows o)) → P (last_column lots)
+      → AllByRecursion P (map (column_of lots rows) offers ++ worth_column lots)
   each_column P [] h f l = cond_both (worth_of_all lots == 0) [] (last_column lots ∷ []) (AllByRecursion P) (λ e. tt) (λ e. (l, tt))
   each_column P (o ∷ offers) h f l = (f o h.0, each_column P offers h.2 f l)
 
@@ -216,7 +240,8 @@ module _ (lots : Lots) (rows : List Subject) where
 
   columns_named : (offers : List Offer) → AreOffers lots offers → AllByRecursion IsName (column_names offers)
   columns_named offers h = each_map IsName (λ (c : TableColumn). c.name) (map (column_of lots rows) offers ++ worth_column lots)
-      (each_column (λ c. IsName c.name) offers h (λ o k. bid_named o.bidder o.number (small_bidder o k) (small_number o k)) (omega arith, ((omega arith, omega arith), tt)))
+      (each_column (λ c. IsName c.name) offers h (λ o k. bid_named o.bidder o.number (small_bidder o k) (small_number o k))
+      (omega arith, ((omega arith, omega arith), tt)))
 
   offers_differ : (o p : Offer) → IsOffer lots o → IsOffer lots p → IsBefore o p → bytes_eq (bid_name o.bidder o.number) (bid_name p.bidder p.number) ≡ false
   offers_differ o p h k before = differ (bid_name o.bidder o.number) (bid_name p.bidder p.number) (λ e.
@@ -225,13 +250,16 @@ module _ (lots : Lots) (rows : List Subject) where
       let j = same.1 in
       ⊎_elim (λ l. omega arith) (λ s. let l = s.1 in omega arith) before)
 
-  later_differ : (o : Offer) (offers : List Offer) → IsOffer lots o → AreOffers lots offers → AllByRecursion (IsBefore o) offers → AllByRecursion (λ name. bytes_eq (bid_name o.bidder o.number) name ≡ false) (column_names offers)
-  later_differ o [] h k before = cond_both (worth_of_all lots == 0) [] (last_column lots ∷ []) (λ cs. AllByRecursion (λ name. bytes_eq (bid_name o.bidder o.number) name ≡ false) (map (λ c. c.name) cs)) (λ e. tt) (λ e. (refl, tt))
+  later_differ : (o : Offer) (offers : List Offer) → IsOffer lots o → AreOffers lots offers → AllByRecursion (IsBefore o) offers
+      → AllByRecursion (λ name. bytes_eq (bid_name o.bidder o.number) name ≡ false) (column_names offers)
+  later_differ o [] h k before = cond_both (worth_of_all lots == 0) [] (last_column lots ∷ [])
+      (λ cs. AllByRecursion (λ name. bytes_eq (bid_name o.bidder o.number) name ≡ false) (map (λ c. c.name) cs)) (λ e. tt) (λ e. (refl, tt))
   later_differ o (p ∷ offers) h k before = (offers_differ o p h k.0 before.0, later_differ o offers h k.2 before.1)
 
   columns_differ : (offers : List Offer) → AreOffers lots offers → IsDistinct bytes_eq (column_names offers)
   unfolding IsDistinct
-  columns_differ [] h = cond_both (worth_of_all lots == 0) [] (last_column lots ∷ []) (λ cs. IsDistinct bytes_eq (map (λ c. c.name) cs)) (λ e. tt) (λ e. (tt, tt))
+  columns_differ [] h = cond_both (worth_of_all lots == 0) [] (last_column lots ∷ []) (λ cs. IsDistinct bytes_eq (map (λ c. c.name) cs))
+      (λ e. tt) (λ e. (tt, tt))
   columns_differ (o ∷ offers) h = (later_differ o offers h.0 h.2 h.1, columns_differ offers h.2)
 
 -- ---------- the entries ----------
@@ -251,7 +279,8 @@ next_entry n r w es false e l h = (
 
 entries_are : (lots : Lots) (n r : ℕ) (ss : List Subject) (o : Offer) → r + length ss ≤ n → AreEntriesFrom n r (entries_from lots r ss o)
 entries_are lots n r [] o l = (tt, tt)
-entries_are lots n r (s ∷ ss) o l = next_entry n r (weight lots s o) (entries_from lots (r + 1) ss o) (weight lots s o == 0) refl (omega arith) (entries_are lots n (r + 1) ss o (omega arith))
+entries_are lots n r (s ∷ ss) o l = next_entry n r (weight lots s o) (entries_from lots (r + 1) ss o) (weight lots s o == 0) refl
+    (omega arith) (entries_are lots n (r + 1) ss o (omega arith))
 
 -- ---------- the numbers ----------
 
@@ -270,7 +299,8 @@ pool_small (pool ∷ pools) zero h = h.0
 pool_small (pool ∷ pools) (suc p) h = pool_small pools p h.1
 
 -- quantities of at most 10,000, each weighed by at most so much
-weighed_small : (most : ℕ) (w q : List ℕ) → AllByRecursion (λ n. n ≤ most) w → AllByRecursion (λ n. n ≤ GREATEST_QUANTITY) q → weighed w q ≤ (most * 10000) * length q
+weighed_small : (most : ℕ) (w q : List ℕ) → AllByRecursion (λ n. n ≤ most) w → AllByRecursion (λ n. n ≤ GREATEST_QUANTITY) q
+    → weighed w q ≤ (most * 10000) * length q
 weighed_small most [] q h k = omega arith
 weighed_small most (n ∷ w) [] h k = omega arith
 weighed_small most (n ∷ w) (x ∷ q) h k =
@@ -301,11 +331,13 @@ module _ (lots : Lots) where
       let m = weighed_small GREATEST_WEIGHT (pool_at lots p).weights o.bid.package (pool_small lots.pools p l.pools).weights h.bid.quantities in
       omega arith
 
-  small_entries : (r : ℕ) (ss : List Subject) (o : Offer) → IsLots lots → IsOffer lots o → AllByRecursion (λ (e : ℕ × ℤ). IsSmall e.1) (entries_from lots r ss o)
+  small_entries : (r : ℕ) (ss : List Subject) (o : Offer) → IsLots lots → IsOffer lots o
+      → AllByRecursion (λ (e : ℕ × ℤ). IsSmall e.1) (entries_from lots r ss o)
   small_entries r [] o l h = tt
   small_entries r (s ∷ ss) o l h =
       let rest = small_entries (r + 1) ss o l h in
-      cond_both (weight lots s o == 0) (entries_from lots (r + 1) ss o) ((r, pos (weight lots s o)) ∷ entries_from lots (r + 1) ss o) (AllByRecursion (λ (e : ℕ × ℤ). IsSmall e.1)) (λ e. rest) (λ e. (small_weight s o l h, rest))
+      cond_both (weight lots s o == 0) (entries_from lots (r + 1) ss o) ((r, pos (weight lots s o)) ∷ entries_from lots (r + 1) ss o)
+      (AllByRecursion (λ (e : ℕ × ℤ). IsSmall e.1)) (λ e. rest) (λ e. (small_weight s o l h, rest))
 
   -- no cost is below -10^18
   small_cost : (o : Offer) → IsLots lots → IsOffer lots o → IsSmall (neg_ℤ (net lots o.bid))
@@ -322,15 +354,21 @@ built_is_legal lots offers l h =
     let few = all_namable lots offers l h in
     let order = all_earlier lots offers h in record {
       program = record {
-        row_names = ((omega arith, ((omega arith, omega arith), ((omega arith, omega arith), ((omega arith, omega arith), tt)))), each_name lots IsName ss (all_agree IsNamable (λ s. IsName (row_of lots s).name) ss (subject_named lots) few));
+        row_names = (
+          (omega arith, ((omega arith, omega arith), ((omega arith, omega arith), ((omega arith, omega arith), tt)))),
+          each_name
+              lots IsName ss (all_agree IsNamable (λ s. IsName (row_of lots s).name) ss (subject_named lots) few),
+        );
         rows_differ = all_differ lots ss few order;
         column_names = columns_named lots ss offers h;
         columns_differ = columns_differ lots ss offers h;
-        entries = each_column lots ss (λ c. AreEntries (length (map (row_of lots) ss)) c.entries) offers h (λ o k. (entries_are lots (length (map (row_of lots) ss)) 0 ss o (let e = length-map ss (row_of lots) in omega arith)).0) tt;
+        entries = each_column lots ss (λ c. AreEntries (length (map (row_of lots) ss)) c.entries) offers h
+            (λ o k. (entries_are lots (length (map (row_of lots) ss)) 0 ss o (let e = length-map ss (row_of lots) in omega arith)).0) tt;
       };
       writable = record {
         right_sides = each_map (λ (r : TableRow). IsSmall r.right_side) (row_of lots) ss (each _ ss (λ s. small_most lots s l));
-        numbers = each_column lots ss IsSmallColumn offers h (λ o k. (small_cost lots o l k, small_entries lots 0 ss o l k)) (small_negated (worth_of_all lots) (let m = worth_limit lots l in omega arith), tt);
+        numbers = each_column lots ss IsSmallColumn offers h (λ o k. (small_cost lots o l k, small_entries lots 0 ss o l k))
+            (small_negated (worth_of_all lots) (let m = worth_limit lots l in omega arith), tt);
         no_marker = (refl, each_name lots (λ name. bytes_eq name (codes "'MARKER'") ≡ false) ss (each _ ss (λ s. (plain_name lots s).1)));
       };
     }

@@ -1,5 +1,6 @@
 -- Searching a list by name, and testing it item by item.
-use Rattle.std.proofs.Common.{nat_lt, lt-ltb, ℤ, pos, ◌≡◌, ℕ, zero, suc, ◌+◌, ◌<◌, ◌≤◌, Bool, true, false, List, [], ◌∷◌, Some, None, drop, length, map, slice_get, refl, sym, ap, ◌∙◌, arith}
+use Rattle.std.proofs.Common.{nat_lt, lt-ltb, ℤ, pos, ◌≡◌, ℕ, zero, suc, ◌+◌, ◌<◌, ◌≤◌, Bool, true, false, List, [], ◌∷◌}
+use Rattle.std.proofs.Common.{Some, None, drop, length, map, slice_get, refl, sym, ap, ◌∙◌, arith}
 use Rattle.std.specs.Prelude.{bytes_eq, find, position}
 use Rattle.std.specs.Option.{option_map, option_map_or}
 use Rattle.std.specs.List.{list_all, position_or_len, IsDistinct}
@@ -17,7 +18,8 @@ module _ {X : Type 0} (name_of : X → List ℕ) (name : List ℕ) where
   left xs = position_or_len test xs
 
   -- an item that isn't named so is passed over
-  pub pass : (xs : List X) (i : ℕ) (n : List ℕ) → option_map name_of (slice_get xs i) ≡ Some n → bytes_eq name n ≡ false → left (drop i xs) ≡ suc (left (drop (suc i) xs))
+  pub pass : (xs : List X) (i : ℕ) (n : List ℕ) → option_map name_of (slice_get xs i) ≡ Some n → bytes_eq name n ≡ false
+      → left (drop i xs) ≡ suc (left (drop (suc i) xs))
   pass [] i n e f = cc
   pass (x ∷ xs) zero n e f = let same : name_of x ≡ n = cc in let no : bytes_eq name (name_of x) ≡ false = ap (bytes_eq name) same ∙ f in rw no (omega arith)
   pass (x ∷ xs) (suc i) n e f = pass xs i n e f
@@ -27,17 +29,20 @@ module _ {X : Type 0} (name_of : X → List ℕ) (name : List ℕ) where
   hit (x ∷ xs) zero n e f = let same : name_of x ≡ n = cc in let yes_here : bytes_eq name (name_of x) ≡ true = ap (bytes_eq name) same ∙ f in rw yes_here refl
   hit (x ∷ xs) (suc i) n e f = hit xs i n e f
 
-  pub step : (xs : List X) (i : ℕ) (n : List ℕ) → option_map name_of (slice_get xs i) ≡ Some n → bytes_eq name n ≡ false → left xs ≡ i + left (drop i xs) → left xs ≡ i + 1 + left (drop (i + 1) xs)
+  pub step : (xs : List X) (i : ℕ) (n : List ℕ) → option_map name_of (slice_get xs i) ≡ Some n → bytes_eq name n ≡ false
+      → left xs ≡ i + left (drop i xs) → left xs ≡ i + 1 + left (drop (i + 1) xs)
   step xs i n e f h = let p = pass xs i n e f in let after : suc i ≡ i + 1 = omega arith in let same = ap (λ (k : ℕ). left (drop k xs)) after in omega arith
 
-  pub found_here : (xs : List X) (i : ℕ) (n : List ℕ) → option_map name_of (slice_get xs i) ≡ Some n → bytes_eq name n ≡ true → left xs ≡ i + left (drop i xs) → i ≡ left xs
+  pub found_here : (xs : List X) (i : ℕ) (n : List ℕ) → option_map name_of (slice_get xs i) ≡ Some n → bytes_eq name n ≡ true
+      → left xs ≡ i + left (drop i xs) → i ≡ left xs
   found_here xs i n e f h = let p = hit xs i n e f in omega arith
 
   pub found_none : (xs : List X) (i n : ℕ) → length xs ≤ i → i ≤ n → n ≡ length xs → left xs ≡ i + left (drop i xs) → n ≡ left xs
   found_none xs i n l m e h = let p = at_drop_all left xs i l in omega arith
 
   -- if names differ, the one item of this name is the first
-  earlier_differ : (y : X) (xs : List X) (i : ℕ) (n : List ℕ) → IsDistinct bytes_eq (map name_of (y ∷ xs)) → option_map name_of (slice_get xs i) ≡ Some n → bytes_eq name n ≡ true → bytes_eq name (name_of y) ≡ false
+  earlier_differ : (y : X) (xs : List X) (i : ℕ) (n : List ℕ) → IsDistinct bytes_eq (map name_of (y ∷ xs))
+      → option_map name_of (slice_get xs i) ≡ Some n → bytes_eq name n ≡ true → bytes_eq name (name_of y) ≡ false
   unfolding IsDistinct
   earlier_differ y [] i n d e f = cc
   earlier_differ y (x ∷ xs) zero n d e f =
@@ -51,7 +56,8 @@ module _ {X : Type 0} (name_of : X → List ℕ) (name : List ℕ) where
       cc)
   earlier_differ y (x ∷ xs) (suc i) n d e f = earlier_differ y xs i n (d.0.1, d.1.1) e f
 
-  pub guessed : (xs : List X) (i : ℕ) (n : List ℕ) → IsDistinct bytes_eq (map name_of xs) → option_map name_of (slice_get xs i) ≡ Some n → bytes_eq name n ≡ true → i ≡ left xs
+  pub guessed : (xs : List X) (i : ℕ) (n : List ℕ) → IsDistinct bytes_eq (map name_of xs) → option_map name_of (slice_get xs i) ≡ Some n
+      → bytes_eq name n ≡ true → i ≡ left xs
   unfolding IsDistinct
   guessed [] i n d e f = cc
   guessed (x ∷ xs) zero n d e f = let h = hit (x ∷ xs) zero n e f in sym h
@@ -74,18 +80,22 @@ module _ {X : Type 0} (test : X → Bool) where
 
 -- ---------- what is found ----------
 
-pub stand_found : {X : Type 0} (p : X → Bool) (f : X → Bool) (xs : List X) (n : ℕ) (x : X) → n ≡ position_or_len p xs → slice_get xs n ≡ Some x → f x ≡ option_map_or f (find p xs) false
+pub stand_found : {X : Type 0} (p : X → Bool) (f : X → Bool) (xs : List X) (n : ℕ) (x : X) → n ≡ position_or_len p xs
+    → slice_get xs n ≡ Some x → f x ≡ option_map_or f (find p xs) false
 stand_found p f xs n x e g = sym (ap (λ o. option_map_or f o false) (find_at p xs ∙ ap (slice_get xs) (sym e) ∙ g))
 
-pub stand_none : {X : Type 0} (p : X → Bool) (f : X → Bool) (xs : List X) (n : ℕ) → n ≡ position_or_len p xs → length xs ≤ n → false ≡ option_map_or f (find p xs) false
+pub stand_none : {X : Type 0} (p : X → Bool) (f : X → Bool) (xs : List X) (n : ℕ) → n ≡ position_or_len p xs → length xs ≤ n
+    → false ≡ option_map_or f (find p xs) false
 stand_none p f xs n e l = sym (ap (λ o. option_map_or f o false) (find_at p xs ∙ ap (slice_get xs) (sym e) ∙ slice_get_past xs n l))
 
-pub place_found : {X : Type 0} (p : X → Bool) (f : ℕ → ℤ) (xs : List X) (n : ℕ) → n ≡ position_or_len p xs → n < length xs → f n ≡ option_map_or f (position p xs) (pos 0)
+pub place_found : {X : Type 0} (p : X → Bool) (f : ℕ → ℤ) (xs : List X) (n : ℕ) → n ≡ position_or_len p xs → n < length xs
+    → f n ≡ option_map_or f (position p xs) (pos 0)
 place_found p f xs n e l =
     let within : nat_lt (position_or_len p xs) (length xs) ≡ true = lt-ltb (position_or_len p xs) (length xs) (omega arith) in
     sym (ap (λ o. option_map_or f o (pos 0)) (cond-true (nat_lt (position_or_len p xs) (length xs)) (Some (position_or_len p xs)) None within) ∙ ap f (sym e))
 
-pub place_none : {X : Type 0} (p : X → Bool) (f : ℕ → ℤ) (xs : List X) (n : ℕ) → n ≡ position_or_len p xs → length xs ≤ n → pos 0 ≡ option_map_or f (position p xs) (pos 0)
+pub place_none : {X : Type 0} (p : X → Bool) (f : ℕ → ℤ) (xs : List X) (n : ℕ) → n ≡ position_or_len p xs → length xs ≤ n
+    → pos 0 ≡ option_map_or f (position p xs) (pos 0)
 place_none p f xs n e l =
     let beyond : nat_lt (position_or_len p xs) (length xs) ≡ false = le-ltb (position_or_len p xs) (length xs) (omega arith) in
     sym (ap (λ o. option_map_or f o (pos 0)) (cond-false (nat_lt (position_or_len p xs) (length xs)) (Some (position_or_len p xs)) None beyond))

@@ -1,5 +1,6 @@
 -- A name at a guessed place.
-use Rattle.std.proofs.Common.{nat_lt, lt-ltb, ◌≡◌, ℕ, ◌+◌, ◌<◌, Bool, true, false, List, [], ◌∷◌, Option, Some, None, drop, fold, length, map, slice_get, sym, ap, ◌∙◌, arith}
+use Rattle.std.proofs.Common.{nat_lt, lt-ltb, ◌≡◌, ℕ, ◌+◌, ◌<◌, Bool, true, false, List, [], ◌∷◌, Option, Some, None, drop}
+use Rattle.std.proofs.Common.{fold, length, map, slice_get, sym, ap, ◌∙◌, arith}
 use Rattle.std.specs.Prelude.{bytes_eq, position}
 use Rattle.std.specs.Option.{option_map, option_map_or}
 use Rattle.std.specs.List.{list_any, position_or_len, IsDistinct}
@@ -25,10 +26,12 @@ module _ (name : List ℕ) where
   IsAt ks i = option_map_or is (slice_get ks i) false ≡ true
 
   -- if names differ, a place that has the name is its place
-  pub is_place : (ks : List (Bor (List ℕ))) (i : ℕ) → IsDistinct (λ a b. bytes_eq a.now b.now) ks → IsAt ks i → (Some i ≡ position is ks) × (true ≡ list_any is ks) × (i < length ks)
+  pub is_place : (ks : List (Bor (List ℕ))) (i : ℕ) → IsDistinct (λ a b. bytes_eq a.now b.now) ks → IsAt ks i
+      → (Some i ≡ position is ks) × (true ≡ list_any is ks) × (i < length ks)
   is_place ks i d h =
       let s = stands is (slice_get ks i) h in
-      let here = guessed (λ (k : Bor (List ℕ)). k.now) name ks i s.0.now (distinct_bytes ks d) (ap (λ (o : Option (Bor (List ℕ))). option_map (λ k. k.now) o) s.1) s.2 in
+      let here = guessed (λ (k : Bor (List ℕ)). k.now) name ks i s.0.now (distinct_bytes ks d)
+      (ap (λ (o : Option (Bor (List ℕ))). option_map (λ k. k.now) o) s.1) s.2 in
       let inside = slice_get_within ks i s.0 s.1 in
       let less : nat_lt (position_or_len is ks) (length ks) ≡ true = lt-ltb (position_or_len is ks) (length ks) (omega arith) in (
         ap (λ (n : ℕ). Some n) here ∙ sym (cond-true (nat_lt (position_or_len is ks) (length ks)) (Some (position_or_len is ks)) None less),
@@ -37,6 +40,8 @@ module _ (name : List ℕ) where
       )
 
 -- one item more is folded
-pub folds_on : {A : Type 0} (f : A → List ℕ → A) (a : A) (names : List (List ℕ)) (i : ℕ) (name : List ℕ) → slice_get names i ≡ Some name → fold f a (drop i names) ≡ fold f (f a name) (drop (i + 1) names)
+pub folds_on : {A : Type 0} (f : A → List ℕ → A) (a : A) (names : List (List ℕ)) (i : ℕ) (name : List ℕ) → slice_get names i ≡ Some name
+    → fold f a (drop i names) ≡ fold f (f a name) (drop (i + 1) names)
 folds_on f a names i name e =
-    at_drop_more (fold f a) names i name (slice_get_within names i name e) ∙ ap (λ (n : List ℕ). fold f (f a n) (drop (i + 1) names)) (get_or_from_slice_get names i name name e)
+    at_drop_more (fold f a) names i name (slice_get_within names i name e)
+    ∙ ap (λ (n : List ℕ). fold f (f a n) (drop (i + 1) names)) (get_or_from_slice_get names i name name e)

@@ -1,5 +1,6 @@
 -- Items of a list that are found by their names, and tests of all items.
-use Rattle.std.proofs.Common.{◌≡◌, ℕ, zero, suc, ◌≤◌, Bool, true, false, nat_lt, lt-ltb, List, [], ◌∷◌, Option, Some, None, length, map, slice_get, refl, sym, ap, ◌∙◌, arith, pos}
+use Rattle.std.proofs.Common.{◌≡◌, ℕ, zero, suc, ◌≤◌, Bool, true, false, nat_lt, lt-ltb, List, [], ◌∷◌, Option, Some, None}
+use Rattle.std.proofs.Common.{length, map, slice_get, refl, sym, ap, ◌∙◌, arith, pos}
 use Rattle.std.specs.Prelude.{bytes_eq, find, position}
 use Rattle.std.specs.Option.{option_map_or}
 use Rattle.std.specs.List.{AllByRecursion, IsDistinct, list_all, position_or_len}
@@ -74,7 +75,8 @@ rows_equal r s name kind side = λ i. record { name = name i; kind = kind i; rig
 
 -- an item is found by its own name if names differ
 module _ {X : Type 0} (name_of : X → List ℕ) where
-  pub behind : (x : X) (xs ys : List X) → AllByRecursion (λ n. bytes_eq (name_of x) n ≡ false) (map name_of ys) → AllByRecursion (λ y. find (λ z. bytes_eq (name_of y) (name_of z)) xs ≡ Some y) ys
+  pub behind : (x : X) (xs ys : List X) → AllByRecursion (λ n. bytes_eq (name_of x) n ≡ false) (map name_of ys)
+      → AllByRecursion (λ y. find (λ z. bytes_eq (name_of y) (name_of z)) xs ≡ Some y) ys
       → AllByRecursion (λ y. find (λ z. bytes_eq (name_of y) (name_of z)) (x ∷ xs) ≡ Some y) ys
   behind x xs [] d h = tt
   behind x xs (y ∷ ys) d h =
@@ -122,7 +124,8 @@ name_there rows name place r h =
     let same : name ≡ r.name = (bytes_eq-Decides name r.name).0 (found_passes (is_row name) rows r h.found) in
     ap (λ (o : Option TableRow). option_map_or (λ r. r.name) o []) h.there ∙ sym same
 
-pub in_row : (rows : List TableRow) (name : List ℕ) (place : ℕ) (r : TableRow) (c : TableColumn) → Place rows name place r → coefficient_in rows c name ≡ coefficient_at place c
+pub in_row : (rows : List TableRow) (name : List ℕ) (place : ℕ) (r : TableRow) (c : TableColumn) → Place rows name place r
+    → coefficient_in rows c name ≡ coefficient_at place c
 in_row rows name place r c h = ap (λ (o : Option ℕ). option_map_or (λ (k : ℕ). coefficient_at k c) o (pos 0)) h.at
 
 pub in_no_row : (rows : List TableRow) (name : List ℕ) (c : TableColumn) → row_named rows name ≡ None → coefficient_in rows c name ≡ pos 0

@@ -1,5 +1,7 @@
 -- Numbers that digits without a leading zero spell, and the bid that a name spells.
-use Rattle.std.proofs.Common.{◌≡◌, ◌≢◌, ℕ, ◌+◌, ◌-◌, ◌^◌, ◌<◌, ◌≤◌, Bool, true, false, cond, ◌&&◌, List, [], ◌∷◌, ◌++◌, Option, Some, None, length, length-append, get_or, refl, sym, ap, ap₂, ◌∙◌, subst, arith, take, drop}
+use Rattle.std.proofs.Common.{◌≡◌, ◌≢◌, ℕ, ◌+◌, ◌-◌, ◌^◌, ◌<◌, ◌≤◌, Bool, true, false, cond, ◌&&◌, List, [], ◌∷◌, ◌++◌}
+use Rattle.std.proofs.Common.{Option, Some, None, length, length-append, get_or, refl, sym, ap, ap₂, ◌∙◌, subst, arith}
+use Rattle.std.proofs.Common.{take, drop}
 use Rattle.std.specs.Prelude.{◌==◌, decimal, bytes_eq}
 use Rattle.std.specs.List.{AllByRecursion, before_first, after_first, position_or_len, list_all}
 use Rattle.std.specs.Char.{is_ascii_digit, digit_value}
@@ -30,11 +32,13 @@ to_digits (d ∷ ds) h =
 own : IsNumeralModel (AllDigits 10) (digits_value 10)
 own = record { to = λ ds h. h; from = λ ds h. h; same = λ ds h. refl }
 
-pub spelled : (text : List ℕ) → 0 < length text → length text ≤ 4 → get_or text 0 0 ≢ 48 → list_all is_ascii_digit text ≡ true → digits_value 10 text < 10 ^ 4 → decimal (digits_value 10 text) ≡ text
+pub spelled : (text : List ℕ) → 0 < length text → length text ≤ 4 → get_or text 0 0 ≢ 48 → list_all is_ascii_digit text ≡ true
+    → digits_value 10 text < 10 ^ 4 → decimal (digits_value 10 text) ≡ text
 spelled text some few first digits low = decimal-digits_value own text (to_digits text digits) some (λ e. absurd (first e)) (omega arith)
 
 pub below_four : (v k : ℕ) → v < 10 ^ (0 + k) → k ≤ 4 → v < 10 ^ 4
-below_four v k h le = let most = pow_above k 4 le in let same : 0 + k ≡ k = omega arith in let low : v < 10 ^ k = subst (λ (n : ℕ). v < 10 ^ n) same h in omega (arith, most, low)
+below_four v k h le = let most = pow_above k 4 le in let same : 0 + k ≡ k =
+    omega arith in let low : v < 10 ^ k = subst (λ (n : ℕ). v < 10 ^ n) same h in omega (arith, most, low)
 
 pub is_some : (n : ℕ) → (n == 0) ≡ false → 0 < n
 is_some n h = grind (arith, nat_tests)
@@ -64,7 +68,9 @@ only_digits n text low h e = let d = are_ascii text (digits_of_decimal n text lo
 
 -- ---------- the bid that a name spells ----------
 
-no_choice : (t : Bool) (b j : ℕ) (name : List ℕ) → (is_bid b j && bytes_eq name (bid_name b j)) ≡ t → ((c : Choice) → cond {A = Option Choice} t (Some record { bidder = b; bid = j }) None ≡ Some c → ⊥) → cond {A = Option Choice} t (Some record { bidder = b; bid = j }) None ≡ None
+no_choice : (t : Bool) (b j : ℕ) (name : List ℕ) → (is_bid b j && bytes_eq name (bid_name b j)) ≡ t
+    → ((c : Choice) → cond {A = Option Choice} t (Some record { bidder = b; bid = j }) None ≡ Some c → ⊥)
+    → cond {A = Option Choice} t (Some record { bidder = b; bid = j }) None ≡ None
 no_choice true b j name h never = absurd (never record { bidder = b; bid = j } refl)
 no_choice false b j name h never = refl
 
@@ -97,20 +103,24 @@ without_bar name h = sym (none_named name (λ b j i e.
     let count = ap (λ (xs : List ℕ). length xs) numbers ∙ length-append (decimal b) (95 ∷ decimal j) in
     absurd (omega arith)))
 
-pub other_bidder : (name front : List ℕ) → front ≡ before_first (λ (c : ℕ). c == 95) (drop 1 name) → ((n : ℕ) → 1 ≤ n → n < 10 ^ 4 → decimal n ≢ front) → None ≡ column_bid name
+pub other_bidder : (name front : List ℕ) → front ≡ before_first (λ (c : ℕ). c == 95) (drop 1 name)
+    → ((n : ℕ) → 1 ≤ n → n < 10 ^ 4 → decimal n ≢ front) → None ≡ column_bid name
 other_bidder name front f never = sym (none_named name (λ b j i e.
     let range = bidder_range b j i in
     let some = range.0 in
     let most = range.1 in
-    let same = f ∙ ap (λ (xs : List ℕ). before_first (λ (c : ℕ). c == 95) xs) (behind_letter name b j e) ∙ before_at (decimal b) (decimal j) (bidder_digits b j i) in
+    let same = f ∙ ap (λ (xs : List ℕ). before_first (λ (c : ℕ). c == 95) xs) (behind_letter name b j e)
+    ∙ before_at (decimal b) (decimal j) (bidder_digits b j i) in
     never b some (omega arith) (sym same)))
 
-pub other_bid : (name back : List ℕ) → back ≡ after_first (λ (c : ℕ). c == 95) (drop 1 name) → ((n : ℕ) → 1 ≤ n → n < 10 ^ 4 → decimal n ≢ back) → None ≡ column_bid name
+pub other_bid : (name back : List ℕ) → back ≡ after_first (λ (c : ℕ). c == 95) (drop 1 name)
+    → ((n : ℕ) → 1 ≤ n → n < 10 ^ 4 → decimal n ≢ back) → None ≡ column_bid name
 other_bid name back f never = sym (none_named name (λ b j i e.
     let range = bid_range b j i in
     let some = range.0 in
     let most = range.1 in
-    let same = f ∙ ap (λ (xs : List ℕ). after_first (λ (c : ℕ). c == 95) xs) (behind_letter name b j e) ∙ after_at (decimal b) (decimal j) (bidder_digits b j i) in
+    let same = f ∙ ap (λ (xs : List ℕ). after_first (λ (c : ℕ). c == 95) xs) (behind_letter name b j e)
+    ∙ after_at (decimal b) (decimal j) (bidder_digits b j i) in
     never j some (omega arith) (sym same)))
 
 lettered : (name : List ℕ) → 0 < length name → get_or name 0 0 ≡ 88 → name ≡ 88 ∷ drop 1 name
@@ -122,7 +132,8 @@ pub is_named : (name : List ℕ) (b j : ℕ) → 0 < length name → get_or name
     → decimal b ≡ before_first (λ (c : ℕ). c == 95) (drop 1 name) → decimal j ≡ after_first (λ (c : ℕ). c == 95) (drop 1 name) → name ≡ bid_name b j
 is_named name b j some first place front back =
     let parts = split_at_first (λ (c : ℕ). c == 95) (drop 1 name) 0 place in
-    let bar = eqb-true (get_or (drop 1 name) (position_or_len (λ (c : ℕ). c == 95) (drop 1 name)) 0) 95 (passes_at_first (λ (c : ℕ). c == 95) (drop 1 name) 0 place) in
+    let bar = eqb-true (get_or (drop 1 name) (position_or_len (λ (c : ℕ). c == 95) (drop 1 name)) 0) 95
+    (passes_at_first (λ (c : ℕ). c == 95) (drop 1 name) 0 place) in
     lettered name some first
     ∙ ap (λ (xs : List ℕ). 88 ∷ xs) (parts
     ∙ ap (λ (x : ℕ). before_first (λ (c : ℕ). c == 95) (drop 1 name) ++ x ∷ after_first (λ (c : ℕ). c == 95) (drop 1 name)) bar

@@ -1,5 +1,6 @@
 -- An only least point of the program of the kept bids wins the only allocation.
-use Rattle.std.proofs.Common.{◌≡◌, ℕ, ◌+◌, ◌≤◌, Bool, true, false, ◌==◌, cond, List, [], ◌∷◌, ◌++◌, map, refl, sym, ap, ap₂, ◌∙◌, subst, arith, eqb-true, eq-eqb, pos, neg_ℤ, ◌≤ℤ◌}
+use Rattle.std.proofs.Common.{◌≡◌, ℕ, ◌+◌, ◌≤◌, Bool, true, false, ◌==◌, cond, List, [], ◌∷◌, ◌++◌, map, refl, sym, ap, ap₂}
+use Rattle.std.proofs.Common.{◌∙◌, subst, arith, eqb-true, eq-eqb, pos, neg_ℤ, ◌≤ℤ◌}
 use Rattle.std.specs.Prelude.{IsPermutation, sum_by}
 use Rattle.std.proofs.lemmas.Int.{ints}
 use Rattle.std.proofs.lemmas.Bool.{and_parts, and_from}
@@ -40,7 +41,8 @@ record Stands (c : Choice) (xs : List Choice) : Type 0 where
   behind : List Choice
   is : xs ≡ before ++ c ∷ behind
 
-stands-here-or-later : (c x : Choice) (xs : List Choice) (b : Bool) → same_choice c x ≡ b → 1 ≤ times c (x ∷ xs) → (1 ≤ times c xs → Stands c xs) → Stands c (x ∷ xs)
+stands-here-or-later : (c x : Choice) (xs : List Choice) (b : Bool) → same_choice c x ≡ b → 1 ≤ times c (x ∷ xs)
+    → (1 ≤ times c xs → Stands c xs) → Stands c (x ∷ xs)
 stands-here-or-later c x xs true e h later = record { before = []; behind = xs; is = ap (λ (d : Choice). d ∷ xs) (sym (are-same c x e)) }
 stands-here-or-later c x xs false e h later =
     let n : ℕ = cond (same_choice c x) 1 0 in
@@ -71,14 +73,16 @@ as-often (x ∷ xs) ys h =
     let m : ℕ = cond (same_choice c x) 1 0 in
     let first : times c (x ∷ xs) ≡ m + times c xs = sum_by-cons (λ d. cond (same_choice c d) 1 0) x xs in
     let whole : times c ys ≡ times c (r.before ++ x ∷ r.behind) = ap (times c) r.is in
-    let parts : times c (r.before ++ x ∷ r.behind) ≡ times c r.before + times c (x ∷ r.behind) = sum_by-append (λ d. cond (same_choice c d) 1 0) r.before (x ∷ r.behind) in
+    let parts : times c (r.before ++ x ∷ r.behind) ≡ times c r.before + times c (x ∷ r.behind) =
+    sum_by-append (λ d. cond (same_choice c d) 1 0) r.before (x ∷ r.behind) in
     let next : times c (x ∷ r.behind) ≡ m + times c r.behind = sum_by-cons (λ d. cond (same_choice c d) 1 0) x r.behind in
     let together : times c (r.before ++ r.behind) ≡ times c r.before + times c r.behind = sum_by-append (λ d. cond (same_choice c d) 1 0) r.before r.behind in
     let both : times c (x ∷ xs) ≡ times c ys = h c in
     omega arith in
     let moved = IsPermutation-cons x xs (r.before ++ r.behind) (as-often xs (r.before ++ r.behind) others) in
     let back_in = IsPermutation-sym (r.before ++ x ∷ r.behind) (x ∷ (r.before ++ r.behind)) (IsPermutation-middle r.before x r.behind) in
-    subst (λ (zs : List Choice). IsPermutation (x ∷ xs) zs) (sym r.is) (IsPermutation-trans (x ∷ xs) (x ∷ (r.before ++ r.behind)) (r.before ++ x ∷ r.behind) moved back_in)
+    subst (λ (zs : List Choice). IsPermutation (x ∷ xs) zs) (sym r.is)
+    (IsPermutation-trans (x ∷ xs) (x ∷ (r.before ++ r.behind)) (r.before ++ x ∷ r.behind) moved back_in)
 
 -- ---------- the law ----------
 
@@ -99,7 +103,8 @@ only_least_is_only lots book group values a within is_point only moved none =
     let of_other : pos (total lots book other) ≡ neg_ℤ (objective p v) = exact.1 in
     let lower : objective p v ≤ℤ objective p values = omega (arith, ints) in
     let same : v ≡ values = only v exact.0 lower in
-    let chosen_is : won ≡ map choice_of (chosen all values) = back_is lots (subjects lots all) all values (numbered lots all (kept_are_offers lots book group within)) in
+    let chosen_is : won ≡ map choice_of (chosen all values) =
+    back_is lots (subjects lots all) all values (numbered lots all (kept_are_offers lots book group within)) in
     let often : (c : Choice) → times c won ≡ times c other = λ c.
     ap (times c) chosen_is
     ∙ measured (λ d. cond (same_choice c d) 1 0) (λ o. cond (same_choice c (choice_of o)) 1 0) (chosen all values) (each _ (chosen all values) (λ o. refl))

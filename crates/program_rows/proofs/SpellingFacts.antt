@@ -1,5 +1,6 @@
 -- Different bids have different names, and a name is read back.
-use Rattle.std.proofs.Common.{◌≡◌, ℕ, suc, ◌+◌, ◌^◌, ◌<◌, ◌≤◌, Bool, true, false, cond, ◌&&◌, nat_le, List, [], ◌∷◌, ◌++◌, Some, None, length, refl, sym, ap, ap₂, ◌∙◌, arith, leb-true, take, drop}
+use Rattle.std.proofs.Common.{◌≡◌, ℕ, suc, ◌+◌, ◌^◌, ◌<◌, ◌≤◌, Bool, true, false, cond, ◌&&◌, nat_le, List, [], ◌∷◌, ◌++◌}
+use Rattle.std.proofs.Common.{Some, None, length, refl, sym, ap, ap₂, ◌∙◌, arith, leb-true, take, drop}
 use Rattle.std.specs.Prelude.{decimal, bytes_eq, ◌==◌}
 use Rattle.std.specs.List.{slice_split, AllByRecursion, before_first, after_first, position_or_len}
 use Rattle.std.specs.Str.Parse.{AllDigits, digits_value}
@@ -31,7 +32,8 @@ parts b j hb hj =
 pub bid_name-injective : (b j c k : ℕ) → b < 2 ^ 64 → j < 2 ^ 64 → c < 2 ^ 64 → k < 2 ^ 64 → bid_name b j ≡ bid_name c k → (b ≡ c) × (j ≡ k)
 bid_name-injective b j c k hb hj hc hk e =
     let tails : decimal b ++ 95 ∷ decimal j ≡ decimal c ++ 95 ∷ decimal k = cc in
-    let lists : decimal b ∷ decimal j ∷ [] ≡ decimal c ∷ decimal k ∷ [] = sym (parts b j hb hj) ∙ ap (slice_split (λ (c : ℕ). c == 95)) tails ∙ parts c k hc hk in
+    let lists : decimal b ∷ decimal j ∷ [] ≡ decimal c ∷ decimal k ∷ [] =
+    sym (parts b j hb hj) ∙ ap (slice_split (λ (c : ℕ). c == 95)) tails ∙ parts c k hc hk in
     let left : decimal b ≡ decimal c = cc in
     let right : decimal j ≡ decimal k = cc in
     (decimal_injective b c hb hc left, decimal_injective j k hj hk right)
@@ -39,10 +41,12 @@ bid_name-injective b j c k hb hj hc hk e =
 -- the numbers of a bid are small
 module _ (b j : ℕ) (h : is_bid b j ≡ true) where
   pub bidder_range : (1 ≤ b) × (b ≤ MOST_BIDDERS)
-  bidder_range = let e = and_parts (nat_le 1 b && nat_le b MOST_BIDDERS) (nat_le 1 j && nat_le j MOST_BIDS) h in let f = and_parts (nat_le 1 b) (nat_le b MOST_BIDDERS) e.0 in (leb-true 1 b f.0, leb-true b MOST_BIDDERS f.1)
+  bidder_range = let e = and_parts (nat_le 1 b && nat_le b MOST_BIDDERS) (nat_le 1 j && nat_le j MOST_BIDS) h in let f =
+      and_parts (nat_le 1 b) (nat_le b MOST_BIDDERS) e.0 in (leb-true 1 b f.0, leb-true b MOST_BIDDERS f.1)
 
   pub bid_range : (1 ≤ j) × (j ≤ MOST_BIDS)
-  bid_range = let e = and_parts (nat_le 1 b && nat_le b MOST_BIDDERS) (nat_le 1 j && nat_le j MOST_BIDS) h in let f = and_parts (nat_le 1 j) (nat_le j MOST_BIDS) e.1 in (leb-true 1 j f.0, leb-true j MOST_BIDS f.1)
+  bid_range = let e = and_parts (nat_le 1 b && nat_le b MOST_BIDDERS) (nat_le 1 j && nat_le j MOST_BIDS) h in let f =
+      and_parts (nat_le 1 j) (nat_le j MOST_BIDS) e.1 in (leb-true 1 j f.0, leb-true j MOST_BIDS f.1)
 
   bidder_small : b < 2 ^ 64
   bidder_small = let r = bidder_range in let l = r.1 in omega arith
@@ -72,7 +76,8 @@ read_bidder : (b j : ℕ) → b < 2 ^ 64 → digits_value 10 (before_first (λ (
 read_bidder b j hb = let d = decimal_is_IsNumeral b hb in ap (digits_value 10) (before_at (decimal b) (decimal j) (no_bar (decimal b) d.0.1)) ∙ d.1
 
 read_bid : (b j : ℕ) → b < 2 ^ 64 → j < 2 ^ 64 → digits_value 10 (after_first (λ (c : ℕ). c == 95) (drop 1 (bid_name b j))) ≡ j
-read_bid b j hb hj = let d = decimal_is_IsNumeral b hb in ap (digits_value 10) (after_at (decimal b) (decimal j) (no_bar (decimal b) d.0.1)) ∙ (decimal_is_IsNumeral j hj).1
+read_bid b j hb hj = let d = decimal_is_IsNumeral b hb in
+    ap (digits_value 10) (after_at (decimal b) (decimal j) (no_bar (decimal b) d.0.1)) ∙ (decimal_is_IsNumeral j hj).1
 
 pub reads_back : ReadsBack
 unfolding column_bid
@@ -81,7 +86,8 @@ reads_back b j h =
     let hj = bid_small b j h in
     rw (read_bidder b j hb, read_bid b j hb hj, h, (bytes_eq-Decides (bid_name b j) (bid_name b j)).1 refl) refl
 
-read_only : (name : List ℕ) (b j : ℕ) (c : Choice) (t : Bool) → (is_bid b j && bytes_eq name (bid_name b j)) ≡ t → cond t (Some record { bidder = b; bid = j }) None ≡ Some c → (is_bid c.bidder c.bid ≡ true) × (name ≡ bid_name c.bidder c.bid)
+read_only : (name : List ℕ) (b j : ℕ) (c : Choice) (t : Bool) → (is_bid b j && bytes_eq name (bid_name b j)) ≡ t
+    → cond t (Some record { bidder = b; bid = j }) None ≡ Some c → (is_bid c.bidder c.bid ≡ true) × (name ≡ bid_name c.bidder c.bid)
 read_only name b j c true t e =
     let h = and_parts (is_bid b j) (bytes_eq name (bid_name b j)) t in
     let s = same_Some record { bidder = b; bid = j } c e in

@@ -1,5 +1,7 @@
 -- Sums over the columns at 1, column by column.
-use Rattle.std.proofs.Common.{◌≡◌, ℕ, zero, suc, ◌+◌, ◌<◌, Bool, true, false, cond, List, [], ◌∷◌, Option, Some, None, drop, length, slice_get, slice_index_or, sym, refl, ap, ◌∙◌, arith, ◌*◌, ◌^◌, ℤ, pos, negsuc, neg_ℤ, ◌+ℤ◌, ◌≤ℤ◌}
+use Rattle.std.proofs.Common.{◌≡◌, ℕ, zero, suc, ◌+◌, ◌<◌, Bool, true, false, cond, List, [], ◌∷◌, Option, Some, None, drop}
+use Rattle.std.proofs.Common.{length, slice_get, slice_index_or, sym, refl, ap, ◌∙◌, arith, ◌*◌, ◌^◌, ℤ, pos, negsuc, neg_ℤ}
+use Rattle.std.proofs.Common.{◌+ℤ◌, ◌≤ℤ◌}
 use lib.Signed.{mag}
 use Rattle.std.specs.Prelude.{find, ◌==◌}
 use Rattle.std.specs.Option.{option_map, option_map_or}
@@ -9,7 +11,8 @@ use Rattle.program_rows.specs.Program.{TableColumn}
 use Rattle.program_rows.specs.Points.{coefficient_at, sum_at_one}
 use Rattle.program_rows.proofs.EachFacts.{item_at}
 
-one_more : (f : TableColumn → ℤ) (c : TableColumn) (cs : List TableColumn) (v : Bool) (vs : List Bool) → sum_at_one f (c ∷ cs) (v ∷ vs) ≡ cond v (f c) (pos 0) +ℤ sum_at_one f cs vs
+one_more : (f : TableColumn → ℤ) (c : TableColumn) (cs : List TableColumn) (v : Bool) (vs : List Bool)
+    → sum_at_one f (c ∷ cs) (v ∷ vs) ≡ cond v (f c) (pos 0) +ℤ sum_at_one f cs vs
 one_more f c cs true vs = refl
 one_more f c cs false vs = let z : ℤ = sum_at_one f cs vs in let e : z ≡ pos 0 +ℤ z = omega (arith, ints) in e
 
@@ -23,8 +26,10 @@ at_place f (c ∷ cs) [] i n d e l = absurd (omega arith)
 at_place f (c ∷ cs) (v ∷ vs) zero n d e l = one_more f c cs v vs ∙ ap (λ (m : ℤ). cond v m (pos 0) +ℤ sum_at_one f cs vs) (same_number f c n e)
 at_place f (c ∷ cs) (v ∷ vs) (suc i) n d e l = at_place f cs vs i n d e (omega arith)
 
-pub sum_step : (f : TableColumn → ℤ) (cs : List TableColumn) (vs : List Bool) (i : ℕ) (n : ℤ) (d : Bool) (sum next all : ℤ) → option_map f (slice_get cs i) ≡ Some n → i < length vs
-    → next ≡ sum +ℤ cond (slice_index_or vs i d) n (pos 0) → sum +ℤ sum_at_one f (drop i cs) (drop i vs) ≡ all → next +ℤ sum_at_one f (drop (i + 1) cs) (drop (i + 1) vs) ≡ all
+pub sum_step : (f : TableColumn → ℤ) (cs : List TableColumn) (vs : List Bool) (i : ℕ) (n : ℤ) (d : Bool) (sum next all : ℤ)
+    → option_map f (slice_get cs i) ≡ Some n → i < length vs
+    → next ≡ sum +ℤ cond (slice_index_or vs i d) n (pos 0) → sum +ℤ sum_at_one f (drop i cs) (drop i vs) ≡ all
+    → next +ℤ sum_at_one f (drop (i + 1) cs) (drop (i + 1) vs) ≡ all
 sum_step f cs vs i n d sum next all e l s h =
     let after : i + 1 ≡ suc i = omega arith in
     let rest : ℤ = sum_at_one f (drop (suc i) cs) (drop (suc i) vs) in
@@ -37,14 +42,17 @@ sum_step f cs vs i n d sum next all e l s h =
     ap (λ (k : ℕ). next +ℤ sum_at_one f (drop k cs) (drop k vs)) after ∙ t
 
 -- one number more keeps a sum within its bounds
-pub sum_bounds : (v : Bool) (n sum next : ℤ) (i : ℕ) → mag n < 2 ^ 63 → neg_ℤ (pos (i * 2 ^ 63)) ≤ℤ sum → sum ≤ℤ pos (i * 2 ^ 63) → next ≡ sum +ℤ cond v n (pos 0)
+pub sum_bounds : (v : Bool) (n sum next : ℤ) (i : ℕ) → mag n < 2 ^ 63 → neg_ℤ (pos (i * 2 ^ 63)) ≤ℤ sum → sum ≤ℤ pos (i * 2 ^ 63)
+    → next ≡ sum +ℤ cond v n (pos 0)
     → (neg_ℤ (pos ((i + 1) * 2 ^ 63)) ≤ℤ next) × (next ≤ℤ pos ((i + 1) * 2 ^ 63))
 sum_bounds false n sum next i m low high e = (omega (arith, ints), omega (arith, ints))
 sum_bounds true (pos k) sum next i m low high e = (omega (arith, ints), omega (arith, ints))
 sum_bounds true (negsuc k) sum next i m low high e = (omega (arith, ints), omega (arith, ints))
 
 -- the coefficient of the column at a place, by its entries
-pub coefficient_there : (row : ℕ) (o : Option TableColumn) (es : List (ℕ × ℤ)) (n : ℤ) → option_map (λ (c : TableColumn). c.entries) o ≡ Some es → n ≡ option_map_or (λ e. e.1) (find (λ e. e.0 == row) es) (pos 0) → option_map (coefficient_at row) o ≡ Some n
+pub coefficient_there : (row : ℕ) (o : Option TableColumn) (es : List (ℕ × ℤ)) (n : ℤ)
+    → option_map (λ (c : TableColumn). c.entries) o ≡ Some es → n ≡ option_map_or (λ e. e.1) (find (λ e. e.0 == row) es) (pos 0)
+    → option_map (coefficient_at row) o ≡ Some n
 coefficient_there row None es n e h = cc
 coefficient_there row (Some c) es n e h =
     let same : c.entries ≡ es = cc in

@@ -53,7 +53,8 @@ entry row = (row, pos 1)
 
 program_at_40 : program (valued 40) ≡ record {
   objective = codes "OBJ";
-  rows = record { name = codes "B3"; kind = AtMost; right_side = pos 1 } ∷ record { name = codes "C1"; kind = AtMost; right_side = pos 2 } ∷ record { name = codes "C2"; kind = AtMost; right_side = pos 1 } ∷ [];
+  rows = record { name = codes "B3"; kind = AtMost; right_side = pos 1 } ∷ record { name = codes "C1"; kind = AtMost; right_side = pos 2 } ∷
+      record { name = codes "C2"; kind = AtMost; right_side = pos 1 } ∷ [];
   columns =
       record { name = codes "X3_1"; bounds = ZeroOrOne; cost = negsuc 11; entries = entry 0 ∷ entry 2 ∷ [] }
       ∷ record { name = codes "K"; bounds = One; cost = negsuc 79; entries = [] }
@@ -113,7 +114,8 @@ back_at_20 = refl
 
 -- ---------- without a value there is no further column ----------
 
-columns_at_0 : map priced (program (valued 0)).columns ≡ (codes "X1_1", negsuc 29) ∷ (codes "X1_2", negsuc 49) ∷ (codes "X2_1", negsuc 19) ∷ (codes "X3_1", negsuc 11) ∷ []
+columns_at_0 : map priced (program (valued 0)).columns ≡ (codes "X1_1", negsuc 29) ∷ (codes "X1_2", negsuc 49) ∷ (codes "X2_1", negsuc 19) ∷
+    (codes "X3_1", negsuc 11) ∷ []
 unfolding digits
 columns_at_0 = refl
 

@@ -1,5 +1,7 @@
 -- The faults of an MPS text: what a line may not say, given the lines before it. Checks are in the order in which they are reported.
-use Rattle.std.specs.Prelude.{ℕ, ◌+◌, drop, Bool, false, not, ◌||◌, ◌&&◌, nat_lt, nat_le, List, [], ◌∷◌, length, ◌==◌, if◌then◌else◌, pos, Option, Some, None, codes, bytes_eq, position, find, flat_map, is_none, slice_get, option_map, int_lt, ℤ, Result, Ok, Err}
+use Rattle.std.specs.Prelude.{ℕ, ◌+◌, drop, Bool, false, not, ◌||◌, ◌&&◌, nat_lt, nat_le, List, [], ◌∷◌, length, ◌==◌}
+use Rattle.std.specs.Prelude.{if◌then◌else◌, pos, Option, Some, None, codes, bytes_eq, position, find, flat_map, is_none}
+use Rattle.std.specs.Prelude.{slice_get, option_map, int_lt, ℤ, Result, Ok, Err}
 use Rattle.std.specs.List.{list_any}
 use Rattle.std.specs.Option.{option_map_or, option_or}
 use Rattle.std.specs.Ordering.{int_eq}
@@ -9,9 +11,15 @@ use Rattle.auction_terms.specs.declared.decimals.NumberFault.{NumberFault}
 use Rattle.auction_terms.specs.declared.decimals.NumberFault.TheVariants as numbers
 use Rattle.auction_terms.specs.Decimals.{number}
 use Rattle.program_rows.specs.MpsSections.{Sections}
-use Rattle.program_rows.specs.MpsProgram.{is_one_of, value, pairs, line_right_sides, first_free, is_marker, is_column, columns_named, column_pairs, is_binary_bound, bound_pair, lower, upper}
+use Rattle.program_rows.specs.MpsProgram.{is_one_of, value, pairs, line_right_sides, first_free, is_marker, is_column}
+use Rattle.program_rows.specs.MpsProgram.{columns_named, column_pairs, is_binary_bound, bound_pair, lower, upper}
 use Rattle.program_rows.specs.declared.mps_fault_kind.MpsFaultKind.{MpsFaultKind}
-use Rattle.program_rows.specs.declared.mps_fault_kind.MpsFaultKind.TheVariants.{NotText, Section, SectionLeftOut, Fields, RowType, RowRepeated, NoObjective, UnknownRow, ColumnSplit, EntryRepeated, NumberText, NotWhole, NumberRange, Marker, UnknownColumn, BoundType, BoundValue, ObjectiveConstant, SenseMax, NotBinary}
+use Rattle.program_rows.specs.declared.mps_fault_kind.MpsFaultKind.TheVariants.{NotText, Section, SectionLeftOut, Fields}
+use Rattle.program_rows.specs.declared.mps_fault_kind.MpsFaultKind.TheVariants.{RowType, RowRepeated, NoObjective}
+use Rattle.program_rows.specs.declared.mps_fault_kind.MpsFaultKind.TheVariants.{UnknownRow, ColumnSplit, EntryRepeated}
+use Rattle.program_rows.specs.declared.mps_fault_kind.MpsFaultKind.TheVariants.{NumberText, NotWhole, NumberRange, Marker}
+use Rattle.program_rows.specs.declared.mps_fault_kind.MpsFaultKind.TheVariants.{UnknownColumn, BoundType, BoundValue}
+use Rattle.program_rows.specs.declared.mps_fault_kind.MpsFaultKind.TheVariants.{ObjectiveConstant, SenseMax, NotBinary}
 use Rattle.std.specs.Bool.{then_some as when}
 
 -- the first fault of a list of checks
@@ -30,7 +38,8 @@ number_fault (Err numbers.NotWhole) = Some NotWhole
 
 -- sections of other MPS texts, which are not read
 abbrev pub sections_left_out : List (List ℕ)
-sections_left_out = codes "RANGES" ∷ codes "SOS" ∷ codes "SOS1" ∷ codes "SOS2" ∷ codes "QUADOBJ" ∷ codes "QMATRIX" ∷ codes "QSECTION" ∷ codes "QCMATRIX" ∷ codes "INDICATORS" ∷ []
+sections_left_out = codes "RANGES" ∷ codes "SOS" ∷ codes "SOS1" ∷ codes "SOS2" ∷ codes "QUADOBJ" ∷ codes "QMATRIX" ∷ codes "QSECTION" ∷
+    codes "QCMATRIX" ∷ codes "INDICATORS" ∷ []
 
 -- the place of a section in the only order that is allowed, from 1; 0 if it isn't one of them
 abbrev pub place_of : List ℕ → ℕ
@@ -51,7 +60,8 @@ is_integer_open lines = option_map_or (λ marker. bytes_eq (field 2 marker) (cod
 -- whether the last line of a column comes after an open 'INTORG'
 abbrev pub stands_in_integers : List ℕ → List LineFields → Bool
 stands_in_integers column [] = false
-stands_in_integers column (fields ∷ before) = if not (is_marker fields) && bytes_eq column (field 0 fields) then is_integer_open before else stands_in_integers column before
+stands_in_integers column (fields ∷ before) =
+    if not (is_marker fields) && bytes_eq column (field 0 fields) then is_integer_open before else stands_in_integers column before
 
 -- an integer, by markers or by a bound BV, with an upper bound that is not below the lower one
 abbrev pub is_binary : Sections → List ℕ → Bool
@@ -83,11 +93,13 @@ row_fault rows fields = earliest_fault (
 
 -- 'INTORG' and 'INTEND' take turns
 abbrev pub marker_fault : List LineFields → LineFields → Option MpsFaultKind
-marker_fault columns fields = when (not (length fields == 3 && bytes_eq (field 2 fields) (if is_integer_open columns then codes "'INTEND'" else codes "'INTORG'"))) Marker
+marker_fault columns fields = when (not (length fields == 3 && bytes_eq (field 2 fields)
+    (if is_integer_open columns then codes "'INTEND'" else codes "'INTORG'"))) Marker
 
 -- the column was named before, and the line before this one names another or is a marker
 abbrev pub is_split : List LineFields → List ℕ → Bool
-is_split columns name = is_column columns name && option_map_or (λ nearest. is_marker nearest || not (bytes_eq name (field 0 nearest))) (slice_get columns 0) false
+is_split columns name = is_column columns name && option_map_or (λ nearest. is_marker nearest || not (bytes_eq name (field 0 nearest)))
+    (slice_get columns 0) false
 
 -- the pairs of a line after earlier ones; if an objective is given, its number has to be 0
 abbrev pub pairs_fault : List LineFields → Option (List ℕ) → List (List ℕ × List ℕ) → List (List ℕ × List ℕ) → Option MpsFaultKind
@@ -114,7 +126,8 @@ right_side_fault s fields = earliest_fault (
 abbrev pub bound_fault : List LineFields → LineFields → Option MpsFaultKind
 bound_fault columns fields = earliest_fault (
     when (not (is_one_of (field 0 fields) (codes "UP" ∷ codes "LO" ∷ codes "FX" ∷ codes "BV" ∷ []))) BoundType
-    ∷ when (not (if is_binary_bound fields then nat_le 2 (length fields) && nat_le (length fields) 4 else nat_le 3 (length fields) && nat_le (length fields) 4)) Fields
+    ∷ when (not (if is_binary_bound fields then nat_le 2 (length fields) && nat_le (length fields) 4 else nat_le 3 (length fields) && nat_le
+    (length fields) 4)) Fields
     ∷ when (not (is_column columns (field 0 (bound_pair fields)))) UnknownColumn
     ∷ (if is_binary_bound fields then None else option_or (number_fault (number (field 1 (bound_pair fields))))
     (when (not (int_eq (value (field 1 (bound_pair fields))) (pos 0) || int_eq (value (field 1 (bound_pair fields))) (pos 1))) BoundValue)) ∷ [])

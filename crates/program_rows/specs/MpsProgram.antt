@@ -1,5 +1,6 @@
 -- The program that a sound text describes: what its gathered lines say, section by section.
-use Rattle.std.specs.Prelude.{ℕ, ◌%◌, drop, Bool, not, ◌||◌, ◌&&◌, List, [], ◌∷◌, ◌++◌, length, map, reverse, ◌==◌, if◌then◌else◌, ℤ, pos, Option, codes, bytes_eq, filter, flat_map, find, unwrap_or, option_map}
+use Rattle.std.specs.Prelude.{ℕ, ◌%◌, drop, Bool, not, ◌||◌, ◌&&◌, List, [], ◌∷◌, ◌++◌, length, map, reverse, ◌==◌}
+use Rattle.std.specs.Prelude.{if◌then◌else◌, ℤ, pos, Option, codes, bytes_eq, filter, flat_map, find, unwrap_or, option_map}
 use Rattle.std.specs.List.{list_any, enumerate_from}
 use Rattle.std.specs.Option.{option_map_or}
 use Rattle.std.specs.Result.{result_unwrap_or}
@@ -53,7 +54,12 @@ row_kind_of letter = if bytes_eq letter (codes "L") then AtMost else (if bytes_e
 
 -- the rows that are not free, in the order of the text, with their right sides
 abbrev pub table_rows : List LineFields → List (List ℕ × List ℕ) → List TableRow
-table_rows rows sides = map (λ row. record { name = field 1 row; kind = row_kind_of (field 0 row); right_side = number_beside sides (field 1 row) }) (filter (λ row. not (is_free row)) (reverse rows))
+table_rows rows sides = map (λ row. record {
+  name = field 1 row;
+  kind = row_kind_of (field 0 row);
+  right_side = number_beside sides
+      (field 1 row);
+}) (filter (λ row. not (is_free row)) (reverse rows))
 
 -- ---- COLUMNS: the name of a column and pairs of a row and a number, between lines that are markers
 
@@ -95,11 +101,13 @@ last_bound types bounds column = find (λ fields. is_one_of (field 0 fields) typ
 
 -- by the last LO, FX or BV; 0 if there is none
 abbrev pub lower : List LineFields → List ℕ → ℤ
-lower bounds column = option_map_or (λ fields. if is_binary_bound fields then pos 0 else value (field 1 (bound_pair fields))) (last_bound (codes "LO" ∷ codes "FX" ∷ codes "BV" ∷ []) bounds column) (pos 0)
+lower bounds column = option_map_or (λ fields. if is_binary_bound fields then pos 0 else value (field 1 (bound_pair fields)))
+    (last_bound (codes "LO" ∷ codes "FX" ∷ codes "BV" ∷ []) bounds column) (pos 0)
 
 -- by the last UP, FX or BV
 abbrev pub upper : List LineFields → List ℕ → Option ℤ
-upper bounds column = option_map (λ fields. if is_binary_bound fields then pos 1 else value (field 1 (bound_pair fields))) (last_bound (codes "UP" ∷ codes "FX" ∷ codes "BV" ∷ []) bounds column)
+upper bounds column = option_map (λ fields. if is_binary_bound fields then pos 1 else value (field 1 (bound_pair fields)))
+    (last_bound (codes "UP" ∷ codes "FX" ∷ codes "BV" ∷ []) bounds column)
 
 -- ---- the whole
 

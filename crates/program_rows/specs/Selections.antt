@@ -76,4 +76,5 @@ shared_of lots offers = record {
 
 -- without a group it is the program of the other bidders' offers
 abbrev pub SelectionIsProgram : Type 0
-SelectionIsProgram = (lots : Lots) (offers : List Offer) (group : ℕ → Bool) → AreOffers lots offers → selection_without (shared_of lots offers) group ≡ program_of lots (filter (λ o. not (group o.bidder)) offers)
+SelectionIsProgram = (lots : Lots) (offers : List Offer) (group : ℕ → Bool) → AreOffers lots offers
+    → selection_without (shared_of lots offers) group ≡ program_of lots (filter (λ o. not (group o.bidder)) offers)

@@ -181,7 +181,8 @@ pub fn build_bids(alloc: Global, rules: &Rules, kept: &Kept<'_>) -> Result<Progr
     parts(alloc, rules, &subjects, first, kept)
 }
 
-/// The program of the kept bids: the objective `OBJ`, a row `Bb` for each bidder with a bid, a row `Cc` for each category and a row `Pp` for each pool, a column `Xb_j` for each bid, and a column `K` for what all lots are worth if that isn't 0.
+/// The program of the kept bids: the objective `OBJ`, a row `Bb` for each bidder with a bid, a row `Cc` for each category and a
+/// row `Pp` for each pool, a column `Xb_j` for each bid, and a column `K` for what all lots are worth if that isn't 0.
 pub fn build(alloc: Global, rules: &Rules, kept: &Kept<'_>) -> Result<Program, AllocError>
     requires sized { All (λ k. length k.offer.now.package ≡ length rules.now.categories) kept.now }
     ensures { IfOk result (λ program. program ≡ program_of (lots_in rules.now) (offers kept.now)) }

@@ -71,7 +71,8 @@ fn is_same(parts: &ProgramParts, others: &ProgramParts) -> bool
         && stands_in(others, parts)
 }
 
-/// Whether two programs are equal as maps: the objective's name, the rows by name, and the columns by name with their bounds, costs and entries, in whatever order.
+/// Whether two programs are equal as maps: the objective's name, the rows by name, and the columns by name with their bounds,
+/// costs and entries, in whatever order.
 pub fn same_program(program: &Program, other: &Program) -> bool
     ensures { IsTrue result ↔ IsSameProgram program.now other.now }
 {

@@ -33,5 +33,6 @@ long_is_program n = record {
 pub is_long_program : (n : ℕ) (p : Table) → 0 < n → p.objective ≡ codes "OBJ" → p.rows ≡ (long n).rows → p.columns ≡ [] → IsProgram p
 is_long_program zero p h e f g = absurd (omega arith)
 is_long_program (suc n) p h e f g =
-    let same : long (suc n) ≡ record { objective = p.objective; rows = p.rows; columns = p.columns } = λ i. record { objective = (sym e) i; rows = (sym f) i; columns = (sym g) i } in
+    let same : long (suc n) ≡ record { objective = p.objective; rows = p.rows; columns = p.columns } =
+    λ i. record { objective = (sym e) i; rows = (sym f) i; columns = (sym g) i } in
     subst IsProgram same (long_is_program n)

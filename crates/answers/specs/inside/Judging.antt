@@ -45,5 +45,6 @@ AreFine book bounds count = (k : ℕ) (d : declared.ClaimedBound) → k < count 
 -- the certificate of this number has the fault, and those before it have none
 abbrev pub IsFirstFaulty : Closing → List declared.ClaimedBound → Refusal → Type 0
 IsFirstFaulty book bounds (refusal.Certificate n f) =
-    (before : ℕ) × (before < length bounds) × AreFine book bounds before × ((d : declared.ClaimedBound) → IsJudged book (slice_index_or bounds before d) (Err f)) × (n ≡ before + 1)
+    (before : ℕ) × (before < length bounds) × AreFine book bounds before
+    × ((d : declared.ClaimedBound) → IsJudged book (slice_index_or bounds before d) (Err f)) × (n ≡ before + 1)
 IsFirstFaulty book bounds r = ⊥

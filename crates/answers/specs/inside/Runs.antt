@@ -38,9 +38,12 @@ IsReportedSo Why taken taken' failures failures' = (parsed : List ℕ) × Why pa
 abbrev pub IsLeftUnanswered : Request → Input → SinkState → SinkState → List ℕ → Type 0
 IsLeftUnanswered asked input before after parsed =
     (r : Refusal) × (parsed ≡ placed_line input.texts r)
-    × ((AsksAnswer asked input × IsUnwritten asked input before after r) ⊎ ((bids : Bool) × (whose : Option Target) × (asked ≡ Explain bids whose) × IsCutShort (explanation asked input) before.taken after.taken before.failures after.failures r))
+    × ((AsksAnswer asked input × IsUnwritten asked input before after r) ⊎
+    ((bids : Bool) × (whose : Option Target) × (asked ≡ Explain bids whose) × IsCutShort (explanation asked input) before.taken
+    after.taken before.failures after.failures r))
 
 -- `explain` is asked for, an input with faults is explained, and no put fails
 abbrev pub HasExplainedInput : Request → Input → SinkState → SinkState → Type 0
 HasExplainedInput asked input before after =
-    (bids : Bool) × (whose : Option Target) × (asked ≡ Explain bids whose) × IsErr (parsed_taken asked input) × Appends before.taken after.taken (explanation asked input) × (after.failures ≡ before.failures)
+    (bids : Bool) × (whose : Option Target) × (asked ≡ Explain bids whose) × IsErr (parsed_taken asked input)
+    × Appends before.taken after.taken (explanation asked input) × (after.failures ≡ before.failures)

@@ -1,4 +1,5 @@
-//! The command `verify`: a report of solutions that certificates show to be optimal, prices that are shown to cover every group, and what comes of a claim that the winners are the only ones.
+//! The command `verify`: a report of solutions that certificates show to be optimal, prices that are shown to cover every group,
+//! and what comes of a claim that the winners are the only ones.
 
 ghost use Rattle.std.specs.Prelude.{◌≡◌, ◌≤◌, IfErr, OnOk};
 ghost use Rattle.auction_terms.specs.declared.limits.TheConstants.{MOST_WORKERS};

@@ -41,7 +41,8 @@ pub record Tell (last_wins : Bool) (parts : List Part) (t : Terms) (forms : List
 
 -- each input with these parts is refused so
 abbrev pub RefusesInputs : Bool → List Part → Refusal → Type 0
-RefusesInputs last_wins parts r = (asked : Request) → (input : Input) → input.last_wins ≡ last_wins → parsed_parts asked input ≡ Ok parts → Refuses (parsed_auction asked input) r
+RefusesInputs last_wins parts r = (asked : Request) → (input : Input) → input.last_wins ≡ last_wins → parsed_parts asked input ≡ Ok parts
+    → Refuses (parsed_auction asked input) r
 
 -- the bidder of each form
 abbrev pub bidders_of : List Offers → List ℕ

@@ -8,4 +8,8 @@ use Rattle.auction_terms.specs.FirstFault.{first_failed}
 abbrev pub fault_among : List ℕ → ℕ → ℕ → Option FileFault
 fault_among text place count =
     if count == 1 then None
-    else first_failed ((not (length text == 0), fault.Empty) ∷ (nat_le count (place + 1) || slice_index_or text (length text - 1) 0 == 10, fault.NoLineEnd) ∷ [])
+    else first_failed ((not (length text == 0), fault.Empty) ∷ (
+      nat_le count (place + 1) || slice_index_or text (length text -
+          1) 0 == 10,
+      fault.NoLineEnd,
+    ) ∷ [])

@@ -21,6 +21,7 @@ AreAdded answers old new = (more : List Offers) × (new ≡ old ++ more) × (ans
 
 -- an answer that is a fault comes after forms alone, and has this number after so many forms; or memory was short
 abbrev pub IsFirstErr : ℕ → List (Result Offers FormFault) → Refusal → Type 0
-IsFirstErr count answers (refusal.Form n f) = (before : List Offers) × (after : List (Result Offers FormFault)) × (answers ≡ map (λ form. Ok form) before ++ Err f ∷ after) × (n ≡ count + length before + 1)
+IsFirstErr count answers (refusal.Form n f) = (before : List Offers) × (after : List (Result Offers FormFault))
+    × (answers ≡ map (λ form. Ok form) before ++ Err f ∷ after) × (n ≡ count + length before + 1)
 IsFirstErr count answers refusal.OutOfMemory = ⊤
 IsFirstErr count answers r = ⊥

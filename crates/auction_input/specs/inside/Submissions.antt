@@ -50,7 +50,8 @@ pub record IsFirstJob (lists : List (Vec (Arc Offers Global) Global)) (job : Job
   pub first : job.session.session ≡ 1
   pub forms : job.forms ≡ forms_in lists job.session.bidder
 
--- what a job came to: its session submitted its forms, in order, each accepted, unless it ended in a fault; where that is a wrong answer, the session's own calls show that not each was
+-- what a job came to: its session submitted its forms, in order, each accepted, unless it ended in a fault; where that is a wrong answer,
+-- the session's own calls show that not each was
 pub record ComesTo (job : JobOwn) (session : SessionOwn) (ended : Result (Unit {0}) RoundFault) : Type 0 where
   pub bidder_is : session.bidder ≡ job.session.bidder
   pub session_is : session.session ≡ job.session.session

@@ -18,4 +18,5 @@ fault_of_line bidders place line =
 
 -- the numbers, from n on, of the bidders that the names name
 abbrev pub numbers_from : ℕ → List Bidder → List (List ℕ) → List ℕ
-numbers_from n bidders names = map (λ (b : ℕ × Bidder). b.0) (filter (λ (b : ℕ × Bidder). list_any (λ name. bytes_eq name b.1.name) names) (enumerate_from n bidders))
+numbers_from n bidders names =
+    map (λ (b : ℕ × Bidder). b.0) (filter (λ (b : ℕ × Bidder). list_any (λ name. bytes_eq name b.1.name) names) (enumerate_from n bidders))

@@ -21,7 +21,8 @@ abbrev pub standing_at : {X Z S : Type 0} → IndexMap ℕ (Standing (Arc X Z)) 
 standing_at m b = option_map standing_value (get nat_eq m b)
 
 -- counts, standing forms and the rest are those of the history
-pub record Summarizes (counts : ℕ → Counts) (standing : ℕ → Option (Standing Offers)) (chair_entries : ℕ) (is_open : Bool) (history : List (Entry Offers)) : Type 0 where
+pub record Summarizes (counts : ℕ → Counts) (standing : ℕ → Option (Standing Offers)) (chair_entries : ℕ) (is_open : Bool)
+    (history : List (Entry Offers)) : Type 0 where
   pub legal : IsLegalHistory history
   pub entries_are : (b : ℕ) → (counts b).entries ≡ length (entries_beside (Session b 0) history)
   pub changes_are : (b : ℕ) → (counts b).changes ≡ length (changes (entries_beside (Session b 0) history))

@@ -23,7 +23,8 @@ pub record AreSlots (t : Terms) (sessions : List SessionOwn) (n : ℕ) (slots : 
   pub most : (b s : ℕ) → IsSessionOf t b s → s ≤ MOST_SESSIONS
   pub times_are : (b s : ℕ) → IsSessionOf t b s → (slot_at slots b s).times ≡ times_session b s (take n sessions)
   pub within : (b s : ℕ) → IsSessionOf t b s → 1 ≤ (slot_at slots b s).times → (slot_at slots b s).place < n
-  pub named : (b s : ℕ) (d : SessionOwn) → IsSessionOf t b s → 1 ≤ (slot_at slots b s).times → IsTrue (is_named b s (slice_index_or sessions (slot_at slots b s).place d))
+  pub named : (b s : ℕ) (d : SessionOwn) → IsSessionOf t b s → 1 ≤ (slot_at slots b s).times
+      → IsTrue (is_named b s (slice_index_or sessions (slot_at slots b s).place d))
   pub known : (k : ℕ) (d : SessionOwn) → k < n → IsSessionOf t (slice_index_or sessions k d).bidder (slice_index_or sessions k d).session
   pub taken : (k : ℕ) (d : SessionOwn) → k < n → 1 ≤ (slot_at slots (slice_index_or sessions k d).bidder (slice_index_or sessions k d).session).times
   pub found : (k : ℕ) (d : SessionOwn) → k < n → (slot_at slots (slice_index_or sessions k d).bidder (slice_index_or sessions k d).session).times ≡ 1

@@ -1,11 +1,14 @@
 -- What a reading holds of the lines before.
-use Rattle.std.specs.Prelude.{◌≡◌, ℕ, ◌+◌, ◌++◌, ◌≤◌, ◌==◌, ◌||◌, ◌&&◌, Bool, true, false, List, [], ◌∷◌, length, map, slice_get, if◌then◌else◌, ℤ, pos, Option, Some, None, IfSome, is_some, codes, bytes_eq, option_map, unwrap_or, flat_map}
+use Rattle.std.specs.Prelude.{◌≡◌, ℕ, ◌+◌, ◌++◌, ◌≤◌, ◌==◌, ◌||◌, ◌&&◌, Bool, true, false, List, [], ◌∷◌, length, map}
+use Rattle.std.specs.Prelude.{slice_get, if◌then◌else◌, ℤ, pos, Option, Some, None, IfSome, is_some, codes, bytes_eq}
+use Rattle.std.specs.Prelude.{option_map, unwrap_or, flat_map}
 use Rattle.std.specs.List.{list_any, AllByRecursion}
 use Rattle.std.specs.Option.{option_map_or}
 use denote.Ref.{Bor}
 use Rattle.auction_terms.specs.LineFields.{LineFields, field}
 use Rattle.program_rows.specs.MpsSections.{Sections}
-use Rattle.program_rows.specs.MpsProgram.{first_free, table_rows, columns_named, lower, upper, is_binary_bound, column_pairs, number_beside, line_right_sides, bound_pair}
+use Rattle.program_rows.specs.MpsProgram.{first_free, table_rows, columns_named, lower, upper, is_binary_bound}
+use Rattle.program_rows.specs.MpsProgram.{column_pairs, number_beside, line_right_sides, bound_pair}
 use Rattle.program_rows.specs.MpsFaults.{is_integer_open, stands_in_integers}
 use Rattle.program_rows.specs.declared.bounds.Bounds.TheVariants.{ZeroOrOne}
 use Rattle.program_rows.specs.Program.{TableColumn}

@@ -1,5 +1,6 @@
 -- The numbers of a leaf by place: forms are added to them, and taken from them place by place.
-use Rattle.std.specs.Prelude.{◌≡◌, ℕ, zero, suc, ◌+◌, ◌≤◌, ◌==◌, ◌||◌, Bool, false, cond, List, [], ◌∷◌, Option, Some, None, slice_get, slice_index_or, unsigned_abs, ℤ, pos, ◌+ℤ◌, ◌-ℤ◌, ◌*ℤ◌}
+use Rattle.std.specs.Prelude.{◌≡◌, ℕ, zero, suc, ◌+◌, ◌≤◌, ◌==◌, ◌||◌, Bool, false, cond, List, [], ◌∷◌, Option, Some, None}
+use Rattle.std.specs.Prelude.{slice_get, slice_index_or, unsigned_abs, ℤ, pos, ◌+ℤ◌, ◌-ℤ◌, ◌*ℤ◌}
 use Rattle.std.specs.List.{enumerate_from, zip}
 use Rattle.std.specs.Option.{option_map_or}
 use Rattle.program_rows.specs.Points.{coefficient_at}
@@ -100,8 +101,10 @@ change_at columns factor place number =
 
 -- each column is given a multiple of its coefficient in each row
 abbrev pub HaveRows : Table → Form → List ℤ → List ℤ → Type 0
-HaveRows p rows before after = (place : ℕ) (c : TableColumn) → slice_get p.columns place ≡ Some c → number_at after place ≡ number_at before place +ℤ sum_of (λ t. t.1 *ℤ coefficient_at t.0 c) rows
+HaveRows p rows before after = (place : ℕ) (c : TableColumn) → slice_get p.columns place ≡ Some c
+    → number_at after place ≡ number_at before place +ℤ sum_of (λ t. t.1 *ℤ coefficient_at t.0 c) rows
 
 -- and of each cut, and nothing else
 abbrev pub HaveAll : Table → List ℕ → List Cut → Form → List ℤ → Type 0
-HaveAll p ys cuts rows numbers = (place : ℕ) (c : TableColumn) → slice_get p.columns place ≡ Some c → number_at numbers place ≡ cuts_given ys cuts place +ℤ sum_of (λ t. t.1 *ℤ coefficient_at t.0 c) rows
+HaveAll p ys cuts rows numbers = (place : ℕ) (c : TableColumn) → slice_get p.columns place ≡ Some c
+    → number_at numbers place ≡ cuts_given ys cuts place +ℤ sum_of (λ t. t.1 *ℤ coefficient_at t.0 c) rows

@@ -37,4 +37,5 @@ given_size columns ys cuts rows = size_of (λ e. e.0 * form_size e.1.form) (zip 
 
 -- their right sides
 abbrev pub right_size : List TableRow → List ℕ → List Cut → Form → ℕ
-right_size table ys cuts rows = size_of (λ e. e.0 * unsigned_abs e.1.most) (zip ys cuts) + size_of (λ t. unsigned_abs t.1 * unsigned_abs (right_side_at table t.0)) rows
+right_size table ys cuts rows = size_of (λ e. e.0 * unsigned_abs e.1.most) (zip ys cuts) + size_of
+    (λ t. unsigned_abs t.1 * unsigned_abs (right_side_at table t.0)) rows

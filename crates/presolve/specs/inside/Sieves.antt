@@ -57,4 +57,5 @@ HasWords words sieve = All (λ level. words ≤ length level.words.items) sieve.
 pub record IsSieve (rivals : List SizedBid) (sieve : Sieve) : Type 0 where
   pub places : (k : ℕ) → k < length rivals → HasPlace k sieve
   pub long : HasWords (div_ceil (length rivals) 64) sieve
-  pub sifts : (k : ℕ) (d : SizedBid) (e : Level) → k < length rivals → Sifts rivals (slice_index_or rivals k d) (slice_index_or sieve.levels.items (slice_index sieve.ranks.items k) e).words.items
+  pub sifts : (k : ℕ) (d : SizedBid) (e : Level) → k < length rivals
+      → Sifts rivals (slice_index_or rivals k d) (slice_index_or sieve.levels.items (slice_index sieve.ranks.items k) e).words.items

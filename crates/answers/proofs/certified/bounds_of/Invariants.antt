@@ -5,4 +5,5 @@ use Rattle.answers.proofs.certified.bounds_of.Given as goal
 
 abbrev pub invariant-loop-place : goal.invariant-loop-place
 invariant-loop-place l =
-    map (bound_held l.book) l.bounds.items ++ bounds_by l.book (drop l.place l.groups) (drop l.place l.allocations) (bytes_of (drop l.place l.certificates)) ≡ bounds_by l.book l.groups l.allocations (bytes_of l.certificates)
+    map (bound_held l.book) l.bounds.items ++ bounds_by l.book (drop l.place l.groups) (drop l.place l.allocations)
+    (bytes_of (drop l.place l.certificates)) ≡ bounds_by l.book l.groups l.allocations (bytes_of l.certificates)

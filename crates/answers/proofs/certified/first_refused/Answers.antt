@@ -7,7 +7,8 @@ use Rattle.std.proofs.lemmas.Slice.Zip.{AllZip-long}
 use Rattle.answers.proofs.certified.first_refused.Goals as goal
 
 pub bounds-verdicts-place : goal.bounds-verdicts-place
-bounds-verdicts-place c = (let long = AllZip-long (IsJudgedIfBegun c.args.programs.now) c.args.bounds.now c.args.verdicts.now c.requires in let within = c.loop-place-test.true in omega arith)
+bounds-verdicts-place c = (let long = AllZip-long (IsJudgedIfBegun c.args.programs.now) c.args.bounds.now c.args.verdicts.now c.requires in
+    let within = c.loop-place-test.true in omega arith)
 
 pub settled-verdict-requires : goal.settled-verdict-requires
 settled-verdict-requires c =
@@ -20,5 +21,11 @@ pub returns-in-Err-clause-first : goal.returns-in-Err-clause-first
 returns-in-Err-clause-first c =
     let bounds = c.args.bounds.now in
     let bound = c.index-bounds-place.result in
-    let place = c.loop-place.place in
-    (place, c.loop-place-test.true, c.loop-place.invariant, λ d. subst (λ (b : ClaimedBound). IsJudged c.args.programs.now b (Err c.in-Err.fault)) (c.index-bounds-place.is ∙ get_or_default bounds place bound d c.loop-place-test.true) c.in-Err.ensures, refl)
+    let place = c.loop-place.place in (
+      place,
+      c.loop-place-test.true,
+      c.loop-place.invariant,
+      λ d. subst (λ (b : ClaimedBound). IsJudged c.args.programs.now b
+          (Err c.in-Err.fault)) (c.index-bounds-place.is ∙ get_or_default bounds place bound d c.loop-place-test.true) c.in-Err.ensures,
+      refl,
+    )

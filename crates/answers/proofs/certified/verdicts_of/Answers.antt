@@ -13,4 +13,5 @@ returns g c =
     IfOk-then c.collect.result _ _ c.collect.ensures (λ v h.
     let chain = h.1 in
     let judged = slice-AllZip chain.0 c.args.bounds.now (chain.1 ∙ slice) (IsJudgedIfBegun c.map.result.f.1.now) h.0 chain.2 in
-    subst (λ (book : Closing). AllZip (IsJudgedIfBegun book) c.args.bounds.now v.items) lent (subst (AllZip (IsJudgedIfBegun c.map.result.f.1.now) c.args.bounds.now) (sym h.2) judged))
+    subst (λ (book : Closing). AllZip (IsJudgedIfBegun book) c.args.bounds.now v.items) lent
+    (subst (AllZip (IsJudgedIfBegun c.map.result.f.1.now) c.args.bounds.now) (sym h.2) judged))

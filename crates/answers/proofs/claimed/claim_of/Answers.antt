@@ -23,13 +23,16 @@ pub returns-then-uniques-eq1-clause-parsed : goal.returns-then-uniques-eq1-claus
 returns-then-uniques-eq1-clause-parsed c =
     let auction = c.args.auction.now in
     let won = c.args.won.now in
-    subst (λ (first : Winners). IfOk c.only.result (λ claim. parsed_claims (held auction) first (held auction).uniques (held auction).ties ≡ Ok claim)) (sym (first-won (held auction) won c.index-won-0.result c.requires.won c.index-won-0.is)) c.only.ensures.parsed
+    subst (λ (first : Winners). IfOk c.only.result (λ claim. parsed_claims (held auction) first (held auction).uniques (held auction).ties ≡
+    Ok claim)) (sym (first-won (held auction) won c.index-won-0.result c.requires.won c.index-won-0.is)) c.only.ensures.parsed
 
 pub returns-then-uniques-eq1-clause-refuses : goal.returns-then-uniques-eq1-clause-refuses
 returns-then-uniques-eq1-clause-refuses c =
     let auction = c.args.auction.now in
     let won = c.args.won.now in
-    subst (λ (first : Winners). IfErr c.only.result (λ r. Refuses (parsed_claims (held auction) first (held auction).uniques (held auction).ties) r ⊎ IsTooWideClaim (held auction) r)) (sym (first-won (held auction) won c.index-won-0.result c.requires.won c.index-won-0.is)) c.only.ensures.refuses
+    subst (λ (first : Winners). IfErr c.only.result (λ r. Refuses (parsed_claims (held auction) first (held auction).uniques
+    (held auction).ties) r ⊎ IsTooWideClaim (held auction) r)) (sym
+    (first-won (held auction) won c.index-won-0.result c.requires.won c.index-won-0.is)) c.only.ensures.refuses
 
 pub tie-requires-clause-won : goal.tie-requires-clause-won
 tie-requires-clause-won c = is-first-won c.args.auction.now c.args.won.now c.index-won-0-then-ties-eq1.result c.requires.won c.index-won-0-then-ties-eq1.is
@@ -38,7 +41,9 @@ pub returns-then-ties-eq1-clause-parsed : goal.returns-then-ties-eq1-clause-pars
 returns-then-ties-eq1-clause-parsed c =
     let auction = c.args.auction.now in
     let won = c.args.won.now in
-    subst (λ (first : Winners). IfOk c.tie.result (λ claim. parsed_claims (held auction) first (held auction).uniques (held auction).ties ≡ Ok claim)) (sym (first-won (held auction) won c.index-won-0-then-ties-eq1.result c.requires.won c.index-won-0-then-ties-eq1.is)) c.tie.ensures.parsed
+    subst (λ (first : Winners). IfOk c.tie.result (λ claim. parsed_claims (held auction) first (held auction).uniques (held auction).ties ≡
+    Ok claim)) (sym (first-won (held auction) won c.index-won-0-then-ties-eq1.result c.requires.won c.index-won-0-then-ties-eq1.is))
+    c.tie.ensures.parsed
 
 pub returns-then-ties-eq1-clause-refuses : goal.returns-then-ties-eq1-clause-refuses
 returns-then-ties-eq1-clause-refuses c =
@@ -46,4 +51,6 @@ returns-then-ties-eq1-clause-refuses c =
     let won = c.args.won.now in
     let parsed = parsed_claims (held auction) (slice_index_or won 0 []) (held auction).uniques (held auction).ties in
     if-err-weaker (Refuses parsed) (λ r. Refuses parsed r ⊎ IsTooWideClaim (held auction) r) c.tie.result (λ r refused. inl refused)
-    (subst (λ (first : Winners). IfErr c.tie.result (Refuses (parsed_claims (held auction) first (held auction).uniques (held auction).ties))) (sym (first-won (held auction) won c.index-won-0-then-ties-eq1.result c.requires.won c.index-won-0-then-ties-eq1.is)) c.tie.ensures.refuses)
+    (subst (λ (first : Winners). IfErr c.tie.result (Refuses (parsed_claims (held auction) first (held auction).uniques
+    (held auction).ties))) (sym (first-won (held auction) won c.index-won-0-then-ties-eq1.result c.requires.won
+    c.index-won-0-then-ties-eq1.is)) c.tie.ensures.refuses)

@@ -18,7 +18,8 @@ returns-in-Ok-clause-parsed c =
     let same = first-program auction c.args.compiler.now c.group.result.now c.requires.compiler c.requires.won.starts c.group.ensures in
     let won = subst (λ p. winners_by p 1 text.now ≡ Ok c.in-Ok.other) same c.in-Ok.ensures.won in
     let claimed = one-tie auction c.args.first.now text c.requires.one c.requires.alone c.index.ensures in
-    subst (λ (parsed : Message). IfOk c.tied.result (λ claim. parsed ≡ Ok claim)) (sym claimed) (tie-parsed (held auction) c.args.first.now text.now c.in-Ok.other won c.tied.result c.tied.ensures.parsed)
+    subst (λ (parsed : Message). IfOk c.tied.result (λ claim. parsed ≡ Ok claim)) (sym claimed)
+    (tie-parsed (held auction) c.args.first.now text.now c.in-Ok.other won c.tied.result c.tied.ensures.parsed)
 
 pub returns-in-Ok-clause-refuses : goal.returns-in-Ok-clause-refuses
 returns-in-Ok-clause-refuses c =
@@ -27,7 +28,8 @@ returns-in-Ok-clause-refuses c =
     let same = first-program auction c.args.compiler.now c.group.result.now c.requires.compiler c.requires.won.starts c.group.ensures in
     let won = subst (λ p. winners_by p 1 text.now ≡ Ok c.in-Ok.other) same c.in-Ok.ensures.won in
     let claimed = one-tie auction c.args.first.now text c.requires.one c.requires.alone c.index.ensures in
-    subst (λ (parsed : Message). IfErr c.tied.result (Refuses parsed)) (sym claimed) (tie-refused (held auction) c.args.first.now text.now c.in-Ok.other won c.tied.result c.tied.ensures.refuses)
+    subst (λ (parsed : Message). IfErr c.tied.result (Refuses parsed)) (sym claimed)
+    (tie-refused (held auction) c.args.first.now text.now c.in-Ok.other won c.tied.result c.tied.ensures.refuses)
 
 pub returns-in-Err-clause-refuses : goal.returns-in-Err-clause-refuses
 returns-in-Err-clause-refuses c =

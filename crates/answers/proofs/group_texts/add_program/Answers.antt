@@ -7,4 +7,5 @@ use Rattle.answers.proofs.group_texts.add_program.Goals as goal
 
 pub returns : goal.returns
 returns g c =
-    Adds-to c.add_group_text.ensures (joined_is (lots_in c.args.book.now.rules) (book_of c.args.book.now) (has c.args.group.now) c.args.pages.now c.within_limits.ensures.book c.requires.pages)
+    Adds-to c.add_group_text.ensures (joined_is (lots_in c.args.book.now.rules) (book_of c.args.book.now) (has c.args.group.now)
+    c.args.pages.now c.within_limits.ensures.book c.requires.pages)

@@ -41,11 +41,13 @@ returns-in-Err-clause-stopped g c =
     let rest = in_turn-rest f 1 programs (place + 1) in
     let later = in_turn f (1 + length (take (place + 1) programs)) (drop (place + 1) programs) in
     let whole : in_turn f 1 programs ≡ (in_turn f 1 (take place programs) ++ f (place + 1) x) ++ later = rw bytes rest in
-    let ends = ends-parsed _ (in_turn f 1 (take place programs)) (f (place + 1) x) later c.new-writer.ensures i.added i.sent own c.in-Err.ensures.err (search rules) in
+    let ends = ends-parsed _ (in_turn f 1 (take place programs)) (f (place + 1) x) later c.new-writer.ensures i.added i.sent own
+    c.in-Err.ensures.err (search rules) in
     rw c.fault_in.ensures (omega arith, omega arith, ends-in book programs place _ _ _ _ _ _ whole refl (sym bytes) ends)
 
 pub returns-in-Err-clause-failed : goal.returns-in-Err-clause-failed
-returns-in-Err-clause-failed g c = rw c.fault_in.ensures (fails-parsed _ c.new-writer.ensures c.loop-place.invariant.added (Adds-then c.add_group.ensures c.flush.ensures.adds) c.in-Err.ensures.err (search rules))
+returns-in-Err-clause-failed g c = rw c.fault_in.ensures (fails-parsed _ c.new-writer.ensures c.loop-place.invariant.added
+    (Adds-then c.add_group.ensures c.flush.ensures.adds) c.in-Err.ensures.err (search rules))
 
 pub returns-clause-succeeded : goal.returns-clause-succeeded
 returns-clause-succeeded g c =

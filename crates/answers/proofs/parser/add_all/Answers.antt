@@ -7,11 +7,19 @@ use Rattle.answers.proofs.parser.add_all.Goals as goal
 
 pub returns : goal.returns
 returns c =
-    let text = then-added _ _ [] _ (for_forms (new_app (codes "text"))) (pushed _ _ c.in_ok-for_forms.field-0 _ c.in_ok-add.ensures (c.in_ok-for_forms.ensures ∙ ap for_forms c.described.ensures)) (ap (map app_of) c.requires) refl in
-    let compile = then-added _ _ _ _ _ c.in_ok-add_with.ensures text (ap (λ (r : Rule). for_forms (with_rule (new_app (codes "compile")) r)) c.workers.ensures.rule) in
-    let check = then-added _ _ _ _ (for_text (new_app (codes "check"))) (pushed _ _ c.in_ok-for_text.field-0 _ c.in_ok-add-2.ensures (c.in_ok-for_text.ensures ∙ ap for_text c.described-2.ensures)) compile refl in
-    let map_back = then-added _ _ _ _ _ c.in_ok-add_with-2.ensures check (ap (λ (r : Rule). for_forms (with_rule (new_app (codes "map")) r)) c.group.ensures.rule) in
-    let report = then-added _ _ _ _ _ c.in_ok-add_with-3.ensures map_back (ap (λ (r : Rule). for_forms (with_rule (new_app (codes "report")) r)) c.workers-2.ensures.rule) in
-    let verify = then-added _ _ _ _ _ c.in_ok-add_with-4.ensures report (ap (λ (r : Rule). for_forms (with_rule (new_app (codes "verify")) r)) c.workers-3.ensures.rule) in
+    let text = then-added _ _ [] _ (for_forms (new_app (codes "text")))
+    (pushed _ _ c.in_ok-for_forms.field-0 _ c.in_ok-add.ensures (c.in_ok-for_forms.ensures ∙ ap for_forms c.described.ensures))
+    (ap (map app_of) c.requires) refl in
+    let compile = then-added _ _ _ _ _ c.in_ok-add_with.ensures text
+    (ap (λ (r : Rule). for_forms (with_rule (new_app (codes "compile")) r)) c.workers.ensures.rule) in
+    let check = then-added _ _ _ _ (for_text (new_app (codes "check")))
+    (pushed _ _ c.in_ok-for_text.field-0 _ c.in_ok-add-2.ensures (c.in_ok-for_text.ensures ∙ ap for_text c.described-2.ensures)) compile
+    refl in
+    let map_back = then-added _ _ _ _ _ c.in_ok-add_with-2.ensures check
+    (ap (λ (r : Rule). for_forms (with_rule (new_app (codes "map")) r)) c.group.ensures.rule) in
+    let report = then-added _ _ _ _ _ c.in_ok-add_with-3.ensures map_back
+    (ap (λ (r : Rule). for_forms (with_rule (new_app (codes "report")) r)) c.workers-2.ensures.rule) in
+    let verify = then-added _ _ _ _ _ c.in_ok-add_with-4.ensures report
+    (ap (λ (r : Rule). for_forms (with_rule (new_app (codes "verify")) r)) c.workers-3.ensures.rule) in
     let explain = then-added _ _ _ _ _ c.in_ok-add_explain.ensures verify refl in
     then-added _ _ _ _ _ (pushed _ _ c.help_command.result _ c.in_ok-add-3.ensures c.help_command.ensures) explain refl

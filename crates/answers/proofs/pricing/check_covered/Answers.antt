@@ -5,10 +5,12 @@ use Rattle.answers.proofs.PricingFacts.{cover-refused, cover-parsed}
 use Rattle.answers.proofs.pricing.check_covered.Goals as goal
 
 pub check_cover-requires-clause-program : goal.check_cover-requires-clause-program
-check_cover-requires-clause-program c = c.in_ok-program.ensures ∙ first-program c.args.auction.now c.args.compiler.now c.group.result.now c.requires.compiler c.requires.empty c.group.ensures
+check_cover-requires-clause-program c = c.in_ok-program.ensures
+    ∙ first-program c.args.auction.now c.args.compiler.now c.group.result.now c.requires.compiler c.requires.empty c.group.ensures
 
 pub returns-in-Ok-clause-parsed : goal.returns-in-Ok-clause-parsed
 returns-in-Ok-clause-parsed c = cover-parsed (held c.args.auction.now) c.args.first.now c.args.prices.now c.args.text.now c.in-Ok.ensures.first
 
 pub returns-in-Err-clause-refuses : goal.returns-in-Err-clause-refuses
-returns-in-Err-clause-refuses c = cover-refused (held c.args.auction.now) c.args.first.now c.args.prices.now c.args.text.now c.in-Err.fault c.in-Err.ensures.first c.in-Err.ensures.too_large
+returns-in-Err-clause-refuses c = cover-refused (held c.args.auction.now) c.args.first.now c.args.prices.now c.args.text.now c.in-Err.fault
+    c.in-Err.ensures.first c.in-Err.ensures.too_large

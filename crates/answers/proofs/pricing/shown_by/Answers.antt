@@ -20,6 +20,7 @@ pub returns-clause-parsed : goal.returns-clause-parsed
 returns-clause-parsed c =
     let book = c.args.auction.now.book in
     let w : ParsedWeights = record { scale = c.in_ok-read.read.scale; groups = c.in_ok-read.read.groups.items; own = c.in_ok-read.read.own.items } in
-    let same = ap₂ (λ (gs own : List ℕ). shows_least_sum (reserves_in book.rules) (lots_in book.rules) (book_of book) c.args.first.now (price_in c.args.prices.now) c.in_ok-read.read.scale (weighted c.args.auction.now.groups c.args.won.now gs) (price_in own))
+    let same = ap₂ (λ (gs own : List ℕ). shows_least_sum (reserves_in book.rules) (lots_in book.rules) (book_of book) c.args.first.now
+    (price_in c.args.prices.now) c.in_ok-read.read.scale (weighted c.args.auction.now.groups c.args.won.now gs) (price_in own))
     c.as_slice.ensures.value c.as_slice-2.ensures.value in
     next _ w _ _ c.in_ok-read.ensures.parsed (ap (λ (b : Bool). Ok b) (sym (c.shows_least_sum.ensures.shows ∙ same)))

@@ -39,7 +39,8 @@ answer-requires-clause-made c =
     let texts = bytes_of w.solutions.now in
     let all = c.loop-found.all.items in
     let made = c.loop-found.invariant.made in
-    let next = made-next w.compiler.now texts (length all) made.0 c.in-Some.found c.next.new.self.rest.items (subst (λ (xs : List Found). MadeFrom w.compiler.now texts (length all) made.0 xs) c.in-Some.ensures.steps.0 made.2) in
+    let next = made-next w.compiler.now texts (length all) made.0 c.in-Some.found c.next.new.self.rest.items
+    (subst (λ (xs : List Found). MadeFrom w.compiler.now texts (length all) made.0 xs) c.in-Some.ensures.steps.0 made.2) in
     let number : length all ≡ c.len-number.result = (let count = c.len-number.ensures in omega (arith, c.loop-found.all.ok.0)) in
     subst (λ (n : ℕ). IsMade w.compiler.now texts n c.in-Some.found) number next.1
 
@@ -49,12 +50,15 @@ returns-in_err-answer-clause-refuses c =
     let texts = bytes_of w.solutions.now in
     let all = c.loop-found.all.items in
     let made = c.loop-found.invariant.made in
-    let next = made-next w.compiler.now texts (length all) made.0 c.in-Some.found c.next.new.self.rest.items (subst (λ (xs : List Found). MadeFrom w.compiler.now texts (length all) made.0 xs) c.in-Some.ensures.steps.0 made.2) in
+    let next = made-next w.compiler.now texts (length all) made.0 c.in-Some.found c.next.new.self.rest.items
+    (subst (λ (xs : List Found). MadeFrom w.compiler.now texts (length all) made.0 xs) c.in-Some.ensures.steps.0 made.2) in
     let within : length all < length w.compiler.now.groups = (let some = next.0 in let sum = made.1 in omega arith) in
     let number : c.len-number.result ≡ length all = (let count = c.len-number.ensures in omega (arith, c.loop-found.all.ok.0)) in
     let refusal = c.in_err-answer.field-0.0 in
-    let refuses = subst (λ (n : ℕ). Refuses (winners_at (sale_of w.compiler.now.book) w.compiler.now.groups texts n) refusal) number c.in_err-answer.ensures.1 in
-    if-err-of (Refuses (parsed_winners w.compiler.now texts)) c.from_residual.result refusal c.from_residual.ensures.1 (left-ends w.compiler.now texts (as-long w) all refusal within c.loop-found.invariant.left refuses)
+    let refuses = subst (λ (n : ℕ). Refuses (winners_at (sale_of w.compiler.now.book) w.compiler.now.groups texts n) refusal) number
+    c.in_err-answer.ensures.1 in
+    if-err-of (Refuses (parsed_winners w.compiler.now texts)) c.from_residual.result refusal c.from_residual.ensures.1
+    (left-ends w.compiler.now texts (as-long w) all refusal within c.loop-found.invariant.left refuses)
 
 pub loop-found-preserved : goal.loop-found-preserved
 loop-found-preserved c =
@@ -64,7 +68,8 @@ loop-found-preserved c =
     let won = c.in_ok-answer.field-0 in
     let made = c.loop-found.invariant.made in
     let rest = c.next.new.self.rest.items in
-    let next = made-next w.compiler.now texts (length all) made.0 c.in-Some.found rest (subst (λ (xs : List Found). MadeFrom w.compiler.now texts (length all) made.0 xs) c.in-Some.ensures.steps.0 made.2) in
+    let next = made-next w.compiler.now texts (length all) made.0 c.in-Some.found rest
+    (subst (λ (xs : List Found). MadeFrom w.compiler.now texts (length all) made.0 xs) c.in-Some.ensures.steps.0 made.2) in
     let within : length all < length w.compiler.now.groups = (let some = next.0 in let sum = made.1 in omega arith) in
     let number : c.len-number.result ≡ length all = (let count = c.len-number.ensures in omega (arith, c.loop-found.all.ok.0)) in
     let tells = subst (λ (n : ℕ). winners_at (sale_of w.compiler.now.book) w.compiler.now.groups texts n ≡ Ok won) number c.in_ok-answer.ensures.0 in
@@ -75,7 +80,8 @@ loop-found-preserved c =
         (let some = next.0 in let sum = made.1 in omega arith),
         subst (λ (n : ℕ). MadeFrom w.compiler.now texts n (made.0 - 1) rest) (sym grown) next.2,
       );
-      left = subst (IsLeftFrom w.compiler.now texts) (sym c.in_ok-add.ensures) (left-on w.compiler.now texts (as-long w) all won within c.loop-found.invariant.left tells);
+      left = subst (IsLeftFrom w.compiler.now texts) (sym c.in_ok-add.ensures)
+          (left-on w.compiler.now texts (as-long w) all won within c.loop-found.invariant.left tells);
     }
 
 pub returns-clause-won : goal.returns-clause-won
@@ -86,5 +92,6 @@ returns-clause-won c =
     let made = c.loop-found.invariant.made in
     let rest = c.loop-found.found-iterator.rest in
     let none : length rest.items ≡ 0 = (let len = c.in-None.ensures.steps.0 in omega (arith, rest.ok.0)) in
-    let every : length w.compiler.now.groups ≤ length all = (let zero = made-all w.compiler.now texts (length all) made.0 rest.items none made.2 in let sum = made.1 in omega arith) in
+    let every : length w.compiler.now.groups ≤ length all =
+    (let zero = made-all w.compiler.now texts (length all) made.0 rest.items none made.2 in let sum = made.1 in omega arith) in
     left-whole w.compiler.now texts (as-long w) all every c.loop-found.invariant.left

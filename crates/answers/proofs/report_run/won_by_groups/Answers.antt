@@ -14,16 +14,20 @@ returns-clause-count g c =
     let compiler = c.args.compiler.now in
     let solutions = c.as_slice.result.now in
     let groups : length compiler.groups ≡ length c.args.auction.now.groups = ap (λ (k : Compiling). length k.groups) c.requires.compiler in
-    let same : length (bytes_of solutions) ≡ length compiler.groups = length-map solutions _ ∙ ap (λ (xs : List (Bor (List ℕ))). length xs) c.as_slice.ensures.value ∙ c.requires.each ∙ sym groups in
-    IfOk-weaker c.all_won.result (λ all. parsed_winners compiler (bytes_of solutions) ≡ Ok all.items) (λ all. length all.items ≡ length c.args.auction.now.groups)
+    let same : length (bytes_of solutions) ≡ length compiler.groups =
+    length-map solutions _ ∙ ap (λ (xs : List (Bor (List ℕ))). length xs) c.as_slice.ensures.value ∙ c.requires.each ∙ sym groups in
+    IfOk-weaker c.all_won.result (λ all. parsed_winners compiler (bytes_of solutions) ≡ Ok all.items)
+    (λ all. length all.items ≡ length c.args.auction.now.groups)
     (λ all parsed. as-many compiler (bytes_of solutions) same all.items parsed ∙ groups) c.all_won.ensures.won
 
 pub returns-clause-won : goal.returns-clause-won
 returns-clause-won g c =
-    let parsed = goes-over c.args.auction.now c.requires.first c.args.compiler.now c.as_slice.result.now c.requires.compiler c.requires.each c.as_slice.ensures.value in
+    let parsed = goes-over c.args.auction.now c.requires.first c.args.compiler.now c.as_slice.result.now c.requires.compiler c.requires.each
+    c.as_slice.ensures.value in
     subst (λ parsed. IfOk c.all_won.result (λ won. parsed ≡ Ok won.items)) parsed c.all_won.ensures.won
 
 pub returns-clause-refuses : goal.returns-clause-refuses
 returns-clause-refuses g c =
-    let parsed = goes-over c.args.auction.now c.requires.first c.args.compiler.now c.as_slice.result.now c.requires.compiler c.requires.each c.as_slice.ensures.value in
+    let parsed = goes-over c.args.auction.now c.requires.first c.args.compiler.now c.as_slice.result.now c.requires.compiler c.requires.each
+    c.as_slice.ensures.value in
     subst (λ parsed. IfErr c.all_won.result (Refuses parsed)) parsed c.all_won.ensures.refuses

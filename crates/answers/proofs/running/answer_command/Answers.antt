@@ -9,7 +9,8 @@ use Rattle.answers.proofs.running.answer_command.Goals as goal
 pub returns-in-Err-clause-outside : goal.returns-in-Err-clause-outside
 returns-in-Err-clause-outside g c =
     let line = command_line_of c.args.command.now in
-    command-refused _ line _ _ (refusal_line line c.in-Err.refusal) (by_file c.in-Err.refusal c.in-Err.ensures.named refl c.prepare.ensures.taken) c.print_file_refusal.ensures
+    command-refused _ line _ _ (refusal_line line c.in-Err.refusal)
+    (by_file c.in-Err.refusal c.in-Err.ensures.named refl c.prepare.ensures.taken) c.print_file_refusal.ensures
 
 pub returns-in-Ok-clause-outside : goal.returns-in-Ok-clause-outside
 returns-in-Ok-clause-outside g c =
@@ -18,7 +19,8 @@ returns-in-Ok-clause-outside g c =
     let prepared = state (g.S.Sink.taken c.prepare.new.out) (g.S.Sink.failures c.prepare.new.out) in
     let by = c.answer_input.ensures in
     run-from _ _ _ _ _ output prepared _ _ (same-state output prepared c.prepare.ensures.taken c.prepare.ensures.failures)
-    (run-read _ line (outside _ _ prepared _) _ c.in-Ok.given c.in-Ok.ensures.read c.answer_input.result by.status c.in-Ok.ensures.unfailed by.written by.quiet by.succeeded by.refused)
+    (run-read _ line (outside _ _ prepared _) _ c.in-Ok.given c.in-Ok.ensures.read c.answer_input.result by.status c.in-Ok.ensures.unfailed
+    by.written by.quiet by.succeeded by.refused)
 
 pub returns-in-Err-read_input-clause-outside : goal.returns-in-Err-read_input-clause-outside
 returns-in-Err-read_input-clause-outside g c =

@@ -33,13 +33,16 @@ returns-in_ok-map_back-in-Ok c =
 
 pub returns-in_err-map_back-in-Ok-clause-refuses : goal.returns-in_err-map_back-in-Ok-clause-refuses
 returns-in_err-map_back-in-Ok-clause-refuses c =
-    if-err-of (Refuses (winners_by c.args.program.now c.args.solution c.args.text.now)) c.from_residual.result refusal.OutOfMemory c.from_residual.ensures.1 (inr refl)
+    if-err-of (Refuses (winners_by c.args.program.now c.args.solution c.args.text.now)) c.from_residual.result refusal.OutOfMemory
+    c.from_residual.ensures.1 (inr refl)
 
 pub returns-in_err-refused-in-Err-clause-refuses : goal.returns-in_err-refused-in-Err-clause-refuses
 returns-in_err-refused-in-Err-clause-refuses c =
-    if-err-of (Refuses (winners_by c.args.program.now c.args.solution c.args.text.now)) c.from_residual-in_err-refused-in-Err.result refusal.OutOfMemory c.from_residual-in_err-refused-in-Err.ensures.1 (inr refl)
+    if-err-of (Refuses (winners_by c.args.program.now c.args.solution c.args.text.now)) c.from_residual-in_err-refused-in-Err.result
+    refusal.OutOfMemory c.from_residual-in_err-refused-in-Err.ensures.1 (inr refl)
 
 pub returns-in_ok-refused-in-Err-clause-refuses : goal.returns-in_ok-refused-in-Err-clause-refuses
 returns-in_ok-refused-in-Err-clause-refuses c =
     let p = c.args.program.now in
-    stop _ _ _ (solution-refuses p c.args.solution c.in-Err.fault (solution p c.args.text.now) c.in_ok-refused-in-Err.field-0 c.in_ok-refused-in-Err.ensures c.in-Err.ensures.answer)
+    stop _ _ _ (solution-refuses p c.args.solution c.in-Err.fault (solution p c.args.text.now) c.in_ok-refused-in-Err.field-0
+    c.in_ok-refused-in-Err.ensures c.in-Err.ensures.answer)

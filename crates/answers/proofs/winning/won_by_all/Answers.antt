@@ -17,8 +17,10 @@ allocation_won-requires c =
 
 pub returns-clause-won : goal.returns-clause-won
 returns-clause-won c =
-    subst (λ (p : Table). IfOk c.allocation_won.result (λ a. winners_by p c.args.solution c.args.text.now ≡ Ok a)) c.in_ok-program.ensures c.allocation_won.ensures.won
+    subst (λ (p : Table). IfOk c.allocation_won.result (λ a. winners_by p c.args.solution c.args.text.now ≡ Ok a)) c.in_ok-program.ensures
+    c.allocation_won.ensures.won
 
 pub returns-clause-refuses : goal.returns-clause-refuses
 returns-clause-refuses c =
-    subst (λ (p : Table). IfErr c.allocation_won.result (Refuses (winners_by p c.args.solution c.args.text.now))) c.in_ok-program.ensures c.allocation_won.ensures.refuses
+    subst (λ (p : Table). IfErr c.allocation_won.result (Refuses (winners_by p c.args.solution c.args.text.now))) c.in_ok-program.ensures
+    c.allocation_won.ensures.refuses

@@ -11,17 +11,20 @@ map_back-requires c =
     let within = subst (λ (book : Closing). IsBook (lots_in book.rules) (book_of book)) c.book.ensures c.within_limits.ensures.book in
     record {
       sized = allowed-length p.columns c.in-Ok.point c.in-Ok.ensures.point.allowed;
-      map = is-map-by-some c.args.compiler.now.book c.args.group.now c.in_ok-choices.choices.items c.args.text.now p c.in-Ok.point within c.in_ok-program.ensures c.in-Ok.ensures.answer;
+      map = is-map-by-some c.args.compiler.now.book c.args.group.now c.in_ok-choices.choices.items c.args.text.now p c.in-Ok.point within
+          c.in_ok-program.ensures c.in-Ok.ensures.answer;
     }
 
 pub returns-in-Ok-clause-feasible : goal.returns-in-Ok-clause-feasible
 returns-in-Ok-clause-feasible c =
     let p = c.in_ok-program.program in
     let within = subst (λ (book : Closing). IsBook (lots_in book.rules) (book_of book)) c.book.ensures c.within_limits.ensures.book in
-    rw c.in_ok-map_back-in-Ok.ensures (feasible-by-some c.args.compiler.now.book c.args.group.now c.in_ok-choices.choices.items c.args.text.now p c.in-Ok.point within c.in_ok-program.ensures c.in-Ok.ensures.answer)
+    rw c.in_ok-map_back-in-Ok.ensures (feasible-by-some c.args.compiler.now.book c.args.group.now c.in_ok-choices.choices.items
+    c.args.text.now p c.in-Ok.point within c.in_ok-program.ensures c.in-Ok.ensures.answer)
 
 pub returns-in-Ok-clause-won : goal.returns-in-Ok-clause-won
 returns-in-Ok-clause-won c =
     let p = c.in_ok-program.program in
     let within = subst (λ (book : Closing). IsBook (lots_in book.rules) (book_of book)) c.book.ensures c.within_limits.ensures.book in
-    rw c.in_ok-map_back-in-Ok.ensures (won-by-some c.args.compiler.now.book c.args.group.now c.in_ok-choices.choices.items c.args.text.now p c.in-Ok.point within c.in_ok-program.ensures c.in-Ok.ensures.answer)
+    rw c.in_ok-map_back-in-Ok.ensures (won-by-some c.args.compiler.now.book c.args.group.now c.in_ok-choices.choices.items c.args.text.now p
+    c.in-Ok.point within c.in_ok-program.ensures c.in-Ok.ensures.answer)

@@ -14,4 +14,5 @@ returns-in-Some c =
     }
 
 pub returns-in-None-clause-known : goal.returns-in-None-clause-known
-returns-in-None-clause-known c = ap (λ (o : Option (List ℕ)). option_map_or command_fault o []) (sym (c.in-None.ensures ∙ first_value-rows (found_of c.args.matches.now) (codes "for")))
+returns-in-None-clause-known c = ap (λ (o : Option (List ℕ)). option_map_or command_fault o [])
+    (sym (c.in-None.ensures ∙ first_value-rows (found_of c.args.matches.now) (codes "for")))

@@ -9,7 +9,8 @@ use Rattle.answers.proofs.words.files_of.Goals as goal
 pub returns-in-Some : goal.returns-in-Some
 returns-in-Some c =
     let named = ap (λ (o : Option (List Text)). unwrap_or o []) (c.in-Some.ensures ∙ raw_values-rows (found_of c.args.matches.now) (codes "files")) in
-    IfOk-weaker c.copies_of.result _ (λ files. map text_of files.items ≡ option_texts (codes "files") (rows_of (found_of c.args.matches.now))) (λ files copied. copied ∙ named) c.copies_of.ensures
+    IfOk-weaker c.copies_of.result _ (λ files. map text_of files.items ≡ option_texts (codes "files")
+    (rows_of (found_of c.args.matches.now))) (λ files copied. copied ∙ named) c.copies_of.ensures
 
 pub returns-in-None : goal.returns-in-None
 returns-in-None c =

@@ -7,7 +7,9 @@ use Rattle.clap.specs.Words.{found_of}
 use Rattle.answers.proofs.words.has_flag.Goals as goal
 
 pub returns-in-Some : goal.returns-in-Some
-returns-in-Some c = c.eq.ensures ∙ ap (λ (o : Option (List ℕ)). option_map_or (λ text. bytes_eq text (codes "true")) o false) (c.in-Some.ensures ∙ first_value-rows (found_of c.args.matches.now) c.args.id.now)
+returns-in-Some c = c.eq.ensures ∙ ap (λ (o : Option (List ℕ)). option_map_or (λ text. bytes_eq text (codes "true")) o false)
+    (c.in-Some.ensures ∙ first_value-rows (found_of c.args.matches.now) c.args.id.now)
 
 pub returns-in-None : goal.returns-in-None
-returns-in-None c = ap (λ (o : Option (List ℕ)). option_map_or (λ text. bytes_eq text (codes "true")) o false) (c.in-None.ensures ∙ first_value-rows (found_of c.args.matches.now) c.args.id.now)
+returns-in-None c = ap (λ (o : Option (List ℕ)). option_map_or (λ text. bytes_eq text (codes "true")) o false)
+    (c.in-None.ensures ∙ first_value-rows (found_of c.args.matches.now) c.args.id.now)

@@ -6,7 +6,8 @@ use Rattle.answers.proofs.words.matches_of.Goals as goal
 
 pub returns-clause-faults : goal.returns-clause-faults
 returns-clause-faults c =
-    subst (λ (a : App). is_simple_and_free a ≡ true → FailsBy (fault_of a (map (λ word. word.now) c.args.words.now)) c.try_get_matches_from.result) c.in_ok-parser.ensures c.try_get_matches_from.ensures.kinds refl
+    subst (λ (a : App). is_simple_and_free a ≡ true → FailsBy (fault_of a (map (λ word. word.now) c.args.words.now))
+    c.try_get_matches_from.result) c.in_ok-parser.ensures c.try_get_matches_from.ensures.kinds refl
 
 pub returns-clause-subcommand : goal.returns-clause-subcommand
 returns-clause-subcommand c =

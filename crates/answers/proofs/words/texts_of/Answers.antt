@@ -5,4 +5,5 @@ use Rattle.answers.proofs.words.texts_of.Goals as goal
 
 pub returns : goal.returns
 returns c =
-    map_from_collect _ c.collect.ensures.ran (YieldsList-from_map_by _ (λ text. text.now) (λ word. word.bytes.items) (YieldsList-from_slice c.args.words.now cc) c.map.ensures.closure (λ x r q k. search rules))
+    map_from_collect _ c.collect.ensures.ran (YieldsList-from_map_by _ (λ text. text.now) (λ word. word.bytes.items)
+    (YieldsList-from_slice c.args.words.now cc) c.map.ensures.closure (λ x r q k. search rules))

@@ -17,16 +17,19 @@ returns-in_err-rules-clause-refuses g c =
     let parts = parts_held c.args.parts.now in
     let r = c.in_err-rules.field-0.0 in
     let refused = subst (λ (xs : List ℕ). Refuses (parsed_terms xs) r) c.text_of.ensures c.in_err-rules.ensures.refuses in
-    if-err-of (RefusesRun c.args.last_wins parts) c.from_residual.result r c.from_residual.ensures.1 (inl (λ asked input same cut. terms-refused asked input c.args.last_wins same parts cut r refused))
+    if-err-of (RefusesRun c.args.last_wins parts) c.from_residual.result r c.from_residual.ensures.1
+    (inl (λ asked input same cut. terms-refused asked input c.args.last_wins same parts cut r refused))
 
 pub returns-in_err-forms-clause-refuses : goal.returns-in_err-forms-clause-refuses
 returns-in_err-forms-clause-refuses g c =
     let r = c.in_err-forms.field-0.0 in
-    if-err-of (RefusesRun c.args.last_wins (parts_held c.args.parts.now)) c.from_residual-in_err-forms.result r c.from_residual-in_err-forms.ensures.1 (inl c.in_err-forms.ensures.refuses)
+    if-err-of (RefusesRun c.args.last_wins (parts_held c.args.parts.now)) c.from_residual-in_err-forms.result r
+    c.from_residual-in_err-forms.ensures.1 (inl c.in_err-forms.ensures.refuses)
 
 pub returns-in_err-form_bidders-clause-refuses : goal.returns-in_err-form_bidders-clause-refuses
 returns-in_err-form_bidders-clause-refuses g c =
-    if-err-of (RefusesRun c.args.last_wins (parts_held c.args.parts.now)) c.from_residual-in_err-form_bidders.result refusal.OutOfMemory c.from_residual-in_err-form_bidders.ensures.1 (inl (λ asked input same cut. inr refl))
+    if-err-of (RefusesRun c.args.last_wins (parts_held c.args.parts.now)) c.from_residual-in_err-form_bidders.result refusal.OutOfMemory
+    c.from_residual-in_err-form_bidders.ensures.1 (inl (λ asked input same cut. inr refl))
 
 pub returns-in_err-book-clause-refuses : goal.returns-in_err-book-clause-refuses
 returns-in_err-book-clause-refuses g c =
@@ -42,6 +45,7 @@ returns-clause-parsed g c =
     record {
       forms = forms;
       bidders_are = c.in_ok-form_bidders.ensures ∙ ap bidders_of c.as_slice.ensures.value;
-      parsed = subst (λ (t : Terms). Tell c.args.last_wins (parts_held c.args.parts.now) t forms groups) (sym c.in_ok-book.ensures.rules) c.in_ok-forms.ensures.parsed;
+      parsed = subst (λ (t : Terms). Tell c.args.last_wins (parts_held c.args.parts.now) t forms groups) (sym c.in_ok-book.ensures.rules)
+          c.in_ok-forms.ensures.parsed;
       submitted = c.in_ok-book.ensures.submitted;
     }

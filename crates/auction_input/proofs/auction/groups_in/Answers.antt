@@ -12,12 +12,14 @@ use Rattle.auction_input.proofs.auction.groups_in.Goals as goal
 
 pub returns-clause-parsed : goal.returns-clause-parsed
 returns-clause-parsed c =
-    ap (λ r. refused_as refusal.Groups r) (sym (sized-answers is_groups_memory group_fault.TooLarge (groups_of c.args.rules.now.bidders) c.args.text.now (Ok c.in_ok-read_groups.field-0)
+    ap (λ r. refused_as refusal.Groups r) (sym (sized-answers is_groups_memory group_fault.TooLarge (groups_of c.args.rules.now.bidders)
+    c.args.text.now (Ok c.in_ok-read_groups.field-0)
     c.in_ok-read_groups.ensures.too_large c.in_ok-read_groups.ensures.answer))
 
 pub returns-in_err-read_groups-clause-refuses : goal.returns-in_err-read_groups-clause-refuses
 returns-in_err-read_groups-clause-refuses c =
     let text = c.args.text.now in
     let f = c.in_err-read_groups.field-0.0 in
-    let refused = groups-refuse f _ (sized-answers is_groups_memory group_fault.TooLarge (groups_of c.args.rules.now.bidders) text (Err f) c.in_err-read_groups.ensures.too_large c.in_err-read_groups.ensures.answer) in
+    let refused = groups-refuse f _ (sized-answers is_groups_memory group_fault.TooLarge (groups_of c.args.rules.now.bidders) text (Err f)
+    c.in_err-read_groups.ensures.too_large c.in_err-read_groups.ensures.answer) in
     if-err-of (Refuses (parsed_groups c.args.rules.now text)) c.from_residual.result (refusal.Groups f) c.from_residual.ensures.1 refused

@@ -23,7 +23,8 @@ returns-in_err-parts-clause-refuses g c =
 
 pub returns-in_err-beside-clause-refuses : goal.returns-in_err-beside-clause-refuses
 returns-in_err-beside-clause-refuses g c =
-    if-err-of (RefusesAuction c.args.request.now c.args.input.now) c.from_residual-in_err-beside.result refusal.OutOfMemory c.from_residual-in_err-beside.ensures.1 (inl (inr refl))
+    if-err-of (RefusesAuction c.args.request.now c.args.input.now) c.from_residual-in_err-beside.result refusal.OutOfMemory
+    c.from_residual-in_err-beside.ensures.1 (inl (inr refl))
 
 pub returns-in_err-book-clause-refuses : goal.returns-in_err-book-clause-refuses
 returns-in_err-book-clause-refuses g c =

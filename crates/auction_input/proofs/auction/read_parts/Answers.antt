@@ -9,7 +9,8 @@ use Rattle.auction_input.proofs.auction.read_parts.Goals as goal
 pub returns-in_err-parts-clause-refuses : goal.returns-in_err-parts-clause-refuses
 returns-in_err-parts-clause-refuses c =
     let f = c.in_err-parts.field-0.0 in
-    if-err-of (Refuses (parsed_parts c.args.request.now c.args.input.now)) c.from_residual.result (refusal.Parts f) c.from_residual.ensures.1 (parts-refused c.args.request.now c.args.input.now f c.in_err-parts.ensures)
+    if-err-of (Refuses (parsed_parts c.args.request.now c.args.input.now)) c.from_residual.result (refusal.Parts f)
+    c.from_residual.ensures.1 (parts-refused c.args.request.now c.args.input.now f c.in_err-parts.ensures)
 
 pub returns-in-None-clause-parsed : goal.returns-in-None-clause-parsed
 returns-in-None-clause-parsed c =

@@ -10,7 +10,8 @@ use Rattle.auction_input.proofs.auction.rules_in.Goals as goal
 
 pub returns-clause-parsed : goal.returns-clause-parsed
 returns-clause-parsed c =
-    ap (λ r. refused_as refusal.Rules r) (rules-parse c.args.text.now c.in_ok-read_rules.field-0 c.in_ok-read_rules.ensures.too_large c.in_ok-read_rules.ensures.answer)
+    ap (λ r. refused_as refusal.Rules r) (rules-parse c.args.text.now c.in_ok-read_rules.field-0 c.in_ok-read_rules.ensures.too_large
+    c.in_ok-read_rules.ensures.answer)
 
 pub returns-in_err-read_rules-clause-refuses : goal.returns-in_err-read_rules-clause-refuses
 returns-in_err-read_rules-clause-refuses c =

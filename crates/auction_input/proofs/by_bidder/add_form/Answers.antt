@@ -8,4 +8,5 @@ returns-clause-added c =
     let lists = c.args.lists.now.items in
     let bidder : c.args.form.bidder ≡ b = (cc) in
     let small : b < length lists = search rules in
-    one-more lists b c.index_mut.result.now c.push.new.self c.in_ok-form.form c.args.form small bidder c.in_ok-form.ensures.ok c.index_mut.ensures.value c.in_ok-push.ensures.items
+    one-more lists b c.index_mut.result.now c.push.new.self c.in_ok-form.form c.args.form small bidder c.in_ok-form.ensures.ok
+    c.index_mut.ensures.value c.in_ok-push.ensures.items

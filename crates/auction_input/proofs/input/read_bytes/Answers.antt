@@ -15,5 +15,13 @@ returns-in_err-extend_from_slice-clause-untaken g c =
     let size = length-append text read in
     let own = c.in-Ok.ensures.bound in
     let small : length (text ++ read) ≤ c.args.limit + 1 = grind (arith, common_steps, size, own) in
-    if-err-of (λ f. IsUntaken c.args.limit f left left' c.args.input.now.failures c.read.new.self.failures) c.from_residual.result fault.OutOfMemory c.from_residual.ensures.1
-    (c.in-Ok.ensures.succeeded ∙ c.loop-block.invariant.2, (text ++ read, Consumes-then _ _ _ text read c.loop-block.invariant.1 c.in-Ok.ensures.bytes.0, small))
+    if-err-of (λ f. IsUntaken c.args.limit f left left' c.args.input.now.failures c.read.new.self.failures) c.from_residual.result
+    fault.OutOfMemory c.from_residual.ensures.1 (
+      c.in-Ok.ensures.succeeded ∙ c.loop-block.invariant.2,
+      (
+        text ++ read,
+        Consumes-then _ _ _ text read c.loop-block.invariant.1
+            c.in-Ok.ensures.bytes.0,
+        small,
+      ),
+    )

@@ -18,11 +18,17 @@ loop-name-preserved g c =
     let given = c.in-Ok.given in
     let x = c.name-item.result in
     let item = take_more names i x (omega arith) ∙ ap (λ y. take i names ++ y ∷ []) (sym c.name-item.is) in
-    let next = ap named_files item ∙ map-append (λ name. name.bytes.items) (take i names) (x ∷ []) ∙ ap (λ (n : List ℕ). named_files (take i names) ++ n ∷ []) (sym (c.in-Ok.ensures.name ∙ c.as_str.ensures.value)) in
+    let next = ap named_files item ∙ map-append (λ name. name.bytes.items) (take i names) (x ∷ [])
+    ∙ ap (λ (n : List ℕ). named_files (take i names) ++ n ∷ []) (sym (c.in-Ok.ensures.name ∙ c.as_str.ensures.value)) in
     let added = c.in-Ok-add_given.ensures in
     let more = read-more content (named_files (take i names)) _ _ _ old given read c.in-Ok.ensures.text in
-    let small = c.in-Ok.ensures.within in
-    (rw (next, added) more, bytes-more old c.add_given.new.texts.items given c.loop-name.room INPUT_LIMIT _ added sum (ap length c.bytes.ensures) small, c.in-Ok.ensures.unfailed ∙ same, omega arith)
+    let small = c.in-Ok.ensures.within in (
+      rw (next, added) more,
+      bytes-more old c.add_given.new.texts.items given c.loop-name.room INPUT_LIMIT _ added sum (ap length
+          c.bytes.ensures) small,
+      c.in-Ok.ensures.unfailed ∙ same,
+      omega arith,
+    )
 
 pub returns-in-Err-clause-unread : goal.returns-in-Err-clause-unread
 returns-in-Err-clause-unread g c =
@@ -32,5 +38,8 @@ returns-in-Err-clause-unread g c =
 pub returns-in-Err-add_given-clause-unread : goal.returns-in-Err-add_given-clause-unread
 returns-in-Err-add_given-clause-unread g c =
     let content = g.D.Files.content c.args.files.now in
-    let (read, sum, same, at) = c.loop-name.invariant in
-    (c.in-Ok.ensures.unfailed ∙ same, part-then _ _ _ (texts-in-part content _ _ _ _ read) (text-in-part content c.in-Ok.given.name _ _ c.in-Ok.given.bytes c.in-Ok.ensures.text))
+    let (read, sum, same, at) = c.loop-name.invariant in (
+      c.in-Ok.ensures.unfailed ∙ same,
+      part-then _ _ _ (texts-in-part content _ _ _ _ read) (text-in-part content c.in-Ok.given.name _ _
+          c.in-Ok.given.bytes c.in-Ok.ensures.text),
+    )

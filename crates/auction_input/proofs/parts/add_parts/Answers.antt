@@ -21,9 +21,13 @@ loop-rest-preserved c =
     let new = c.add_part.new.parts.items in
     let all = parts_in number (cut_lines text) in
     let kind : kind_named asked (part_name first.result.head.now) ≡ Some k = rw c.head_name.ensures at (sym c.kind_named.ensures ∙ c.in-Some.is) in
-    let grown : parts_held new ≡ parts_held old ++ p ∷ [] = held-more old new asked (part_name first.result.head.now) (record { text = number; kind = k; bytes = first.result.bytes }) kind c.in_ok-add_part.ensures in (
-      subst (λ (held : List Part). CheckedBehind asked (parts_held c.args.parts.now.items) all held (parts_in number (cut_lines first.result.rest.now))) (sym grown)
-          (behind-more asked (parts_held c.args.parts.now.items) all (parts_held old) (parts_in number (cut_lines c.loop-rest.rest.now)) (parts_in number (cut_lines first.result.rest.now)) p so_far (first.ensures.parts number) (known-part asked (parts_held old) p k kind)),
+    let grown : parts_held new ≡ parts_held old ++ p ∷ [] = held-more old new asked (part_name first.result.head.now)
+    (record { text = number; kind = k; bytes = first.result.bytes }) kind c.in_ok-add_part.ensures in (
+      subst (λ (held : List Part). CheckedBehind asked (parts_held c.args.parts.now.items) all held
+          (parts_in number (cut_lines first.result.rest.now))) (sym grown)
+          (behind-more asked (parts_held c.args.parts.now.items) all (parts_held old) (parts_in number (cut_lines c.loop-rest.rest.now))
+          (parts_in number (cut_lines first.result.rest.now)) p so_far (first.ensures.parts number)
+          (known-part asked (parts_held old) p k kind)),
       first.ensures.next,
     )
 
@@ -39,7 +43,8 @@ returns-in_default-clause-fault c =
     let kind : kind_named asked (part_name first.result.head.now) ≡ None = rw c.head_name.ensures at (sym c.kind_named.ensures ∙ c.in_default.is) in
     let length-is : c.len.result ≡ length held = search rules in
     let count : c.len.result ≡ length (parts_held held) = length-is ∙ sym (length-map held _) in
-    rw count (behind-fault asked old (parts_in number (cut_lines c.args.text.now)) (parts_held held) (parts_in number (cut_lines c.loop-rest.rest.now)) (parts_in number (cut_lines first.result.rest.now)) p _ so_far
+    rw count (behind-fault asked old (parts_in number (cut_lines c.args.text.now)) (parts_held held)
+    (parts_in number (cut_lines c.loop-rest.rest.now)) (parts_in number (cut_lines first.result.rest.now)) p _ so_far
     (first.ensures.parts number) (unknown-part asked (parts_held held) p kind))
 
 pub returns-clause-added : goal.returns-clause-added

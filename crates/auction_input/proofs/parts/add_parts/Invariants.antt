@@ -4,7 +4,8 @@ use Rattle.auction_input.proofs.PartFacts.{CheckedBehind}
 use Rattle.auction_input.proofs.parts.add_parts.Given as goal
 
 abbrev pub invariant-loop-rest : goal.invariant-loop-rest
-invariant-loop-rest l = CheckedBehind l.fn.request (parts_held l.fn.parts.items) (parts_in l.fn.number (cut_lines l.fn.text)) (parts_held l.parts.items) (parts_in l.fn.number (cut_lines l.rest))
+invariant-loop-rest l = CheckedBehind l.fn.request (parts_held l.fn.parts.items) (parts_in l.fn.number (cut_lines l.fn.text))
+    (parts_held l.parts.items) (parts_in l.fn.number (cut_lines l.rest))
     × ((l.rest ≡ []) ⊎ (heads_part l.rest ≡ true))
 
 abbrev pub decreases-loop-rest : goal.decreases-loop-rest

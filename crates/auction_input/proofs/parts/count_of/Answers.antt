@@ -6,5 +6,6 @@ use Rattle.auction_input.proofs.parts.count_of.Goals as goal
 
 pub returns : goal.returns
 returns c =
-    let found : c.count.result ≡ count_by (is_held c.args.kind) c.args.parts.now = search (rules, chains, c.iter.ensures.runs, c.filter.ensures.runs, c.count.ensures.runs) in
+    let found : c.count.result ≡ count_by (is_held c.args.kind) c.args.parts.now =
+    search (rules, chains, c.iter.ensures.runs, c.filter.ensures.runs, c.count.ensures.runs) in
     found ∙ count_held c.args.kind c.args.parts.now

@@ -8,7 +8,8 @@ use Rattle.auction_input.proofs.PartFacts.{fault-of-parts, text-more, text-refus
 use Rattle.auction_input.proofs.parts.split_parts.Goals as goal
 
 -- the text at a place, and those after it
-ahead : (texts seen : List Given) (place : ℕ) (x : Given) → seen ≡ texts → place < length seen → x ≡ slice_index_or seen place x → drop place texts ≡ x ∷ drop (place + 1) texts
+ahead : (texts seen : List Given) (place : ℕ) (x : Given) → seen ≡ texts → place < length seen → x ≡ slice_index_or seen place x
+    → drop place texts ≡ x ∷ drop (place + 1) texts
 ahead texts seen place x same within is = rw (← same) (drop_more seen place x within ∙ ap (λ (y : Given). y ∷ drop (place + 1) seen) (sym is))
 
 pub loop-place-preserved : goal.loop-place-preserved
@@ -21,7 +22,8 @@ loop-place-preserved c =
     let next = ahead input.texts c.texts-texts.result.now place x c.texts-texts.ensures c.loop-place-test.true c.index-texts-place.is in
     let here = subst (λ rest. CheckedSoFar (part_fault asked) (input_parts input) old rest) (ap (parts_from place) next) c.loop-place.invariant in
     let added = rw c.bytes.ensures at c.in-Ok.ensures.added in
-    text-more asked (input_parts input) old (parts_in place (cut_lines x.bytes)) (parts_from (place + 1) (drop (place + 1) input.texts)) (parts_held c.add_parts.new.parts.items) here added
+    text-more asked (input_parts input) old (parts_in place (cut_lines x.bytes)) (parts_from (place + 1) (drop (place + 1) input.texts))
+    (parts_held c.add_parts.new.parts.items) here added
 
 pub returns-in-Err : goal.returns-in-Err
 returns-in-Err c =
@@ -33,7 +35,8 @@ returns-in-Err c =
     let next = ahead input.texts c.texts-texts.result.now place x c.texts-texts.ensures c.loop-place-test.true c.index-texts-place.is in
     let here = subst (λ rest. CheckedSoFar (part_fault asked) (input_parts input) old rest) (ap (parts_from place) next) c.loop-place.invariant in
     let none : list_any has_bytes_before input.texts ≡ false = rw c.texts-texts.ensures at (sym c.have_bytes_before.ensures ∙ c.if-have_bytes_before.false) in
-    text-refused asked input old (parts_in place (cut_lines x.bytes)) (parts_from (place + 1) (drop (place + 1) input.texts)) c.in-Err.fault none here (rw c.bytes.ensures at c.in-Err.ensures.fault)
+    text-refused asked input old (parts_in place (cut_lines x.bytes)) (parts_from (place + 1) (drop (place + 1) input.texts)) c.in-Err.fault
+    none here (rw c.bytes.ensures at c.in-Err.ensures.fault)
 
 pub returns : goal.returns
 returns c =
@@ -42,5 +45,7 @@ returns c =
     let none : list_any has_bytes_before input.texts ≡ false = rw c.texts-texts.ensures at (sym c.have_bytes_before.ensures ∙ c.if-have_bytes_before.false) in
     let many = ap length c.texts-texts.ensures in
     let all = drop_of_length-le input.texts (omega arith) in
-    let end = checked-all (part_fault asked) (input_parts input) (parts_held c.loop-place.parts.items) (subst (λ texts. CheckedSoFar (part_fault asked) (input_parts input) (parts_held c.loop-place.parts.items) (parts_from c.loop-place.place texts)) all c.loop-place.invariant) in
+    let end = checked-all (part_fault asked) (input_parts input) (parts_held c.loop-place.parts.items)
+    (subst (λ texts. CheckedSoFar (part_fault asked) (input_parts input) (parts_held c.loop-place.parts.items)
+    (parts_from c.loop-place.place texts)) all c.loop-place.invariant) in
     (fault-of-parts asked input none ∙ end.0, sym end.1)

@@ -17,7 +17,8 @@ loop-rest-preserved c =
     let kind = c.args.kind in
     let (so_far, few, starts) = c.loop-rest.invariant in
     let first = c.first_part-first in
-    let one = ap (parts_counted kind) (first.ensures.parts 0) ∙ counted-more kind (part 0 first.result.head.now first.result.bytes.now) (parts_in 0 (cut_lines first.result.rest.now)) in
+    let one = ap (parts_counted kind) (first.ensures.parts 0)
+    ∙ counted-more kind (part 0 first.result.head.now first.result.bytes.now) (parts_in 0 (cut_lines first.result.rest.now)) in
     let counted = c.count_head-count.ensures.counts in
     let most = c.count_head-count.ensures.most in
     let less = first.ensures.shorter in

@@ -15,7 +15,8 @@ loop-place-preserved c =
     let left = c.loop-place.left in
     let at = c.index-texts-place.result in
     let counted = c.count_in-count.ensures in
-    c.loop-place.invariant ∙ ap (λ xs. shifted place (located (map counts xs) left)) (drop_more texts place at c.loop-place-test.true ∙ ap (λ x. x ∷ drop (place + 1) texts) (sym c.index-texts-place.is))
+    c.loop-place.invariant ∙ ap (λ xs. shifted place (located (map counts xs) left))
+    (drop_more texts place at c.loop-place-test.true ∙ ap (λ x. x ∷ drop (place + 1) texts) (sym c.index-texts-place.is))
     ∙ located-behind place left (counts at) (map counts (drop (place + 1) texts)) (omega arith)
     ∙ ap (λ n. shifted (place + 1) (located (map counts (drop (place + 1) texts)) (left - n))) (sym counted)
 
@@ -27,10 +28,12 @@ returns-then-left-count c =
     let left = c.loop-place.left in
     let at = c.index-texts-place.result in
     let counted = c.count_in-count.ensures in
-    sym (c.loop-place.invariant ∙ ap (λ xs. shifted place (located (map counts xs) left)) (drop_more texts place at c.loop-place-test.true ∙ ap (λ x. x ∷ drop (place + 1) texts) (sym c.index-texts-place.is))
+    sym (c.loop-place.invariant ∙ ap (λ xs. shifted place (located (map counts xs) left))
+    (drop_more texts place at c.loop-place-test.true ∙ ap (λ x. x ∷ drop (place + 1) texts) (sym c.index-texts-place.is))
     ∙ located-here place left _ (map counts (drop (place + 1) texts)) (omega arith))
 
 pub returns : goal.returns
 returns c =
     let texts = c.args.texts.now in
-    sym (c.loop-place.invariant ∙ ap (λ xs. shifted c.loop-place.place (located (map (count_in c.args.what) xs) c.loop-place.left)) (drop_of_length-le texts (omega arith)))
+    sym (c.loop-place.invariant ∙ ap (λ xs. shifted c.loop-place.place (located (map (count_in c.args.what) xs) c.loop-place.left))
+    (drop_of_length-le texts (omega arith)))

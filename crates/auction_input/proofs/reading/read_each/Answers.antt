@@ -13,4 +13,5 @@ returns g c =
     let front : AllZip (IsAnswer rules) first c.in_ok-answers.answers.items = rw c.in_ok-answers.was at c.join-front.ensures.first in
     let back : AllZip (IsAnswer rules) second c.in_ok-others.others.items = rw c.in_ok-others.was at c.join-front.ensures.second in
     let whole : first ++ second ≡ texts = ap₂ (λ xs ys. xs ++ ys) c.split_at.ensures.front c.split_at.ensures.back ∙ take-append-drop _ texts in
-    rw (c.in_ok-append.ensures.items, ← whole) (AllZip-append (IsAnswer rules) first second c.in_ok-answers.answers.items c.in_ok-others.others.items front back)
+    rw (c.in_ok-append.ensures.items, ← whole) (AllZip-append (IsAnswer rules) first second c.in_ok-answers.answers.items
+    c.in_ok-others.others.items front back)

@@ -16,7 +16,8 @@ loop-start-preserved g c =
     let size = c.min.ensures in
     let order : i.start ≤ i.start + c.min.result = omega arith in
     let within : i.start + c.min.result ≤ length c.args.texts.now = omega arith in
-    stage-read c.args.rules.now c.args.texts.now i.start (i.start + c.min.result) i.forms.items c.read_more.new.forms.items order within i.invariant c.in_ok-read_more.ensures.parsed
+    stage-read c.args.rules.now c.args.texts.now i.start (i.start + c.min.result) i.forms.items c.read_more.new.forms.items order within
+    i.invariant c.in_ok-read_more.ensures.parsed
 
 pub loop-start-smaller : goal.loop-start-smaller
 loop-start-smaller g c =

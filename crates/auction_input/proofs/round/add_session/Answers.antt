@@ -12,7 +12,8 @@ new-requires-clause-forms g c =
 
 pub returns-in_ok-push-clause-others : goal.returns-in_ok-push-clause-others
 returns-in_ok-push-clause-others g c =
-    idle-more c.args.lists.now c.args.others.now.items c.push.new.self.items c.args.session c.forms_to_submit-forms.result.now c.in_ok-push.ensures.items c.requires.fresh c.if-is_empty.ensures
+    idle-more c.args.lists.now c.args.others.now.items c.push.new.self.items c.args.session c.forms_to_submit-forms.result.now
+    c.in_ok-push.ensures.items c.requires.fresh c.if-is_empty.ensures
     c.forms_to_submit-forms.ensures.first
 
 pub returns-in_ok-push-2-clause-jobs : goal.returns-in_ok-push-2-clause-jobs
@@ -20,5 +21,6 @@ returns-in_ok-push-2-clause-jobs g c =
     let session = c.args.session in
     let forms = c.forms_to_submit-forms.result.now in
     let one = is-first session forms c.if-is_empty.ensures c.forms_to_submit-forms.ensures.other in
-    jobs-more c.args.lists.now c.args.jobs.now.items c.push-else-is_empty.new.self.items c.new.result session forms c.in_ok-push-2.ensures.items c.new.ensures.session c.new.ensures.forms one
+    jobs-more c.args.lists.now c.args.jobs.now.items c.push-else-is_empty.new.self.items c.new.result session forms
+    c.in_ok-push-2.ensures.items c.new.ensures.session c.new.ensures.forms one
     (c.forms_to_submit-forms.ensures.first one)

@@ -16,4 +16,5 @@ run_round-requires-clause-own g c = λ _ _.
 pub returns-clause-submitted : goal.returns-clause-submitted
 returns-clause-submitted g c =
     let forms = c.args.forms.items in
-    IfOk-then c.run_round.result _ _ c.run_round.ensures.submitted (λ book holds. holds forms (subst (AreByBidder forms) (sym c.as_slice.ensures.value) c.in_ok-lists.ensures))
+    IfOk-then c.run_round.result _ _ c.run_round.ensures.submitted
+    (λ book holds. holds forms (subst (AreByBidder forms) (sym c.as_slice.ensures.value) c.in_ok-lists.ensures))

@@ -12,6 +12,7 @@ loop-job-preserved g c =
     let invariant = c.loop-job.invariant in
     let yielded = c.loop-job.yielded in
     let job = c.in-Some.job in (
-      subst (AllZip end_of (yielded ++ job ∷ [])) (sym c.in_ok-push.ensures.items) (all_zipped_more end_of yielded c.loop-job.done.items job c.run.result invariant.0 c.run.ensures),
+      subst (AllZip end_of (yielded ++ job ∷ [])) (sym c.in_ok-push.ensures.items)
+          (all_zipped_more end_of yielded c.loop-job.done.items job c.run.result invariant.0 c.run.ensures),
       yielded-more yielded c.loop-job.job-iterator.rest.items c.next.new.self.rest.items c.args.jobs.items job c.in-Some.ensures.steps.0 invariant.1,
     )

@@ -10,4 +10,5 @@ make_calls-requires-clause-fresh g c = λ _ _.
 
 pub returns-clause-submitted : goal.returns-clause-submitted
 returns-clause-submitted g c =
-    round-submitted c.settle.result g.L.Round.rules _ c.in_ok-sessions.sessions.items c.args.lists.now c.requires.terms c.settle.ensures.rules c.settle.ensures.settled c.in_ok-sessions.ensures
+    round-submitted c.settle.result g.L.Round.rules _ c.in_ok-sessions.sessions.items c.args.lists.now c.requires.terms
+    c.settle.ensures.rules c.settle.ensures.settled c.in_ok-sessions.ensures

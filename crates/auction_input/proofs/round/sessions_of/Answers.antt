@@ -13,7 +13,8 @@ loop-job-preserved g c =
     let job = c.in-Some.job in
     let before = c.loop-job.sessions.items in
     let after = c.push.new.self.items in (
-      sessions-more session_of ended_of yielded job c.args.others.items before after (pushed c.push.result before (before ++ job.session ∷ []) after c.if-is_err.ensures.value c.push.ensures.items) invariant.0,
+      sessions-more session_of ended_of yielded job c.args.others.items before after
+          (pushed c.push.result before (before ++ job.session ∷ []) after c.if-is_err.ensures.value c.push.ensures.items) invariant.0,
       ended-more session_of ended_of yielded job c.loop-job.ended c.first_of-ended.result c.first_of-ended.ensures.ok invariant.1,
       wrong-more session_of ended_of yielded job c.loop-job.ended c.first_of-ended.result WrongAnswer c.first_of-ended.ensures.wrong invariant.2,
       yielded-more yielded c.loop-job.job-iterator.rest.items c.next.new.self.rest.items c.args.done.items job c.in-Some.ensures.steps.0 invariant.3,

@@ -6,4 +6,12 @@ use Rattle.auction_terms.proofs.draft.weighed_pools.Goals as goal
 pub loop-name-preserved : goal.loop-name-preserved
 loop-name-preserved c =
     let weights = rw c.as_bytes.ensures.bytes at c.weights_in-weights.ensures in
-    rw (map-append (pool_with c.args.categories.now c.args.members.now) c.loop-name.yielded (c.in-Some.field-0 ∷ []), c.in_ok-push.ensures.items, c.loop-name.invariant, weights, c.in-Some.name-is, c.in-Some.cap-is) refl
+    rw (
+      map-append (pool_with c.args.categories.now c.args.members.now) c.loop-name.yielded (c.in-Some.field-0 ∷
+          []),
+      c.in_ok-push.ensures.items,
+      c.loop-name.invariant,
+      weights,
+      c.in-Some.name-is,
+      c.in-Some.cap-is,
+    ) refl

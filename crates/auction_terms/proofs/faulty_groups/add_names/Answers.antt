@@ -20,7 +20,8 @@ loop-name-preserved c =
     let name = c.in-Some.name.now in
     let more = ap length c.in-Some.ensures in (
       so_far ++ fault_of c.loop-name.number before name,
-      rw c.in_ok-add_name.ensures.accepted (found-more fault_of _ so_far c.loop-name.number before c.loop-name.reader c.next.new.self name found c.in-Some.ensures),
+      rw c.in_ok-add_name.ensures.accepted (found-more fault_of _ so_far c.loop-name.number before c.loop-name.reader c.next.new.self name
+          found c.in-Some.ensures),
       keeps-both _ _ _ _ _ keeps c.in_ok-add_name.ensures.faults,
       omega arith,
     )

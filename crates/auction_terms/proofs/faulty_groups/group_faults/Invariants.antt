@@ -8,7 +8,8 @@ use Rattle.auction_terms.proofs.faulty_groups.group_faults.Given as goal
 
 abbrev pub invariant-loop-line : goal.invariant-loop-line
 invariant-loop-line l = (so_far : List (Found GroupFault)) × (accepted : List (List ℕ))
-    × (all_group_faults l.fn.rules.bidders l.fn.bytes ≡ so_far ++ all_faults (λ place before line. all_line_faults l.fn.rules.bidders place line) l.place accepted l.lines)
+    × (all_group_faults l.fn.rules.bidders l.fn.bytes ≡ so_far ++ all_faults
+    (λ place before line. all_line_faults l.fn.rules.bidders place line) l.place accepted l.lines)
     × Keeps l.faults so_far
     × (l.place + length l.lines ≡ 1 + length (lines_of l.fn.bytes))
     × (l.bidders ≡ l.fn.rules.bidders)

@@ -14,7 +14,8 @@ loop-row-preserved c =
     let r = fields_of c.next.new.row in
     let next : c.loop-row.reader ≡ r ∷ c.next.new.self = rw c.if-branch.true at c.in_ok-next.ensures.next in (
       so_far ++ fault_by_entries c.args.version (c.loop-row.count + 2) c.loop-row.draft r,
-      taken-more c.args.version c.args.reader.now c.loop-row.reader c.next.new.self c.loop-row.count c.loop-row.draft c.take_entry.new.draft so_far r so next c.in_ok-take_entry.ensures.accepted,
+      taken-more c.args.version c.args.reader.now c.loop-row.reader c.next.new.self c.loop-row.count c.loop-row.draft c.take_entry.new.draft
+          so_far r so next c.in_ok-take_entry.ensures.accepted,
       keeps-both _ _ _ _ _ keeps c.in_ok-take_entry.ensures.faults,
     )
 

@@ -13,7 +13,8 @@ returns-clause-first c =
     let end = c.space_in-end.result in
     let text : List ℕ = take (length line - start) (drop start line) in
     rw (take_rest text end)
-    (first_field line text start end c.text_in-start.ensures.value (omega (arith, c.text_in-start.ensures.within, c.if-start-line.false)) (take_rest line start) c.space_in-end.ensures.value c.space_in-end.ensures.within)
+    (first_field line text start end c.text_in-start.ensures.value (omega (arith, c.text_in-start.ensures.within, c.if-start-line.false))
+    (take_rest line start) c.space_in-end.ensures.value c.space_in-end.ensures.within)
 
 pub returns-clause-rest : goal.returns-clause-rest
 returns-clause-rest c =

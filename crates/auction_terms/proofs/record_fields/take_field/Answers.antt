@@ -10,6 +10,8 @@ returns-clause-taken c =
     let before = fields_of c.args.row.now in
     let end = c.field_end.result in
     let plain : begins_with quote bytes ≡ false = sym c.begins_with.ensures.value ∙ c.if-begins_with.false in
-    let fields : fields_of c.push_field.new.self ≡ before ++ take end bytes ∷ [] = rw (c.requires.whole, c.split_at.ensures.front) at c.in_ok-push_field.ensures.fields in
+    let fields : fields_of c.push_field.new.self ≡ before ++ take end bytes ∷ [] =
+    rw (c.requires.whole, c.split_at.ensures.front) at c.in_ok-push_field.ensures.fields in
     rw (fields, c.split_at.ensures.back)
-    (field_taken bytes (take end bytes) (drop end bytes) before (plain_field bytes end plain c.field_end.ensures.within c.field_end.ensures.before c.field_end.ensures.end))
+    (field_taken bytes (take end bytes) (drop end bytes) before (plain_field bytes end plain c.field_end.ensures.within
+    c.field_end.ensures.before c.field_end.ensures.end))

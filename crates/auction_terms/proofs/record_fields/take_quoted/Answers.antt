@@ -21,6 +21,7 @@ returns-clause-taken c =
     let before = fields_of c.args.row.now in
     let field = c.unquote.new.field.items in
     let rest = c.in_ok-rest.rest.now in
-    let fields : fields_of c.push_field-2.new.self ≡ before ++ field ∷ [] = rw (c.requires.whole, c.deref.ensures.value) at c.in_ok-push_field-2.ensures.fields in
+    let fields : fields_of c.push_field-2.new.self ≡ before ++ field ∷ [] =
+    rw (c.requires.whole, c.deref.ensures.value) at c.in_ok-push_field-2.ensures.fields in
     let gives : GivesField st.InQuoted [] (drop 1 bytes) field rest = rw (c.clear.ensures.items, c.split_at.ensures.back) at c.in_ok-rest.ensures.given in
     rw fields (field_taken bytes field rest before (opened bytes field rest c.requires.quoted gives))

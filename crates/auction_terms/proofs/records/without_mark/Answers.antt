@@ -1,7 +1,10 @@
 use Rattle.std.proofs.Common.{◌∙◌, arith}
 use Rattle.auction_terms.proofs.FieldFacts.{mark_dropped, others_kept}
 use Rattle.auction_terms.proofs.records.without_mark.Goals as goal
-use Rattle.auction_terms.proofs.records.without_mark.Goals.{else-text-ge3-via-then-text-ge3+then-text+then-text-2+else-text-3, else-text-ge3-via-then-text-ge3+then-text+else-text-2, else-text-ge3-via-then-text-ge3+else-text, else-text-ge3-via-else-text-ge3}
+use Rattle.auction_terms.proofs.records.without_mark.Goals.{else-text-ge3-via-then-text-ge3+then-text+then-text-2+else-text-3}
+use Rattle.auction_terms.proofs.records.without_mark.Goals.{else-text-ge3-via-then-text-ge3+then-text+else-text-2}
+use Rattle.auction_terms.proofs.records.without_mark.Goals.{else-text-ge3-via-then-text-ge3+else-text}
+use Rattle.auction_terms.proofs.records.without_mark.Goals.{else-text-ge3-via-else-text-ge3}
 
 pub returns-then-text-3 : goal.returns-then-text-3
 returns-then-text-3 c = c.split_at.ensures.back ∙ mark_dropped c.args.text.now c.if-text-ge3.true c.if-text.true c.if-text-2.true c.if-text-3.true

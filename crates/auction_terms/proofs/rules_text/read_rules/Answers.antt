@@ -11,7 +11,8 @@ returns-in_err-header-clause-answer c = λ within.
     let f = c.in_err-header.field-0.0 in
     let records = records_of c.args.bytes.now in
     let same : c.from_residual.result ≡ Err f = search rules in
-    rw same (answers-more is_rules_memory f (parsed_first_record records) (rules_of_records records) (rw c.new-reader.ensures.all at c.in_err-header.ensures.answer) (header-refused records f))
+    rw same (answers-more is_rules_memory f (parsed_first_record records) (rules_of_records records)
+    (rw c.new-reader.ensures.all at c.in_err-header.ensures.answer) (header-refused records f))
 
 pub returns-clause-answer : goal.returns-clause-answer
 returns-clause-answer c = λ within.

@@ -4,7 +4,9 @@ use Rattle.std.specs.Prelude.{◌==◌}
 use Rattle.auction_terms.proofs.token.point_in.Goals as goal
 
 pub returns-then-is_point_byte-clause-value : goal.returns-then-is_point_byte-clause-value
-returns-then-is_point_byte-clause-value c = sym (position_or_len_is (λ b. b == 46) c.args.bytes.now c.loop-i.i 0 c.loop-i.invariant.0 c.loop-i.invariant.1 (λ _. sym c.is_point_byte.ensures ∙ c.if-is_point_byte.true))
+returns-then-is_point_byte-clause-value c = sym (position_or_len_is (λ b. b == 46) c.args.bytes.now c.loop-i.i 0 c.loop-i.invariant.0
+    c.loop-i.invariant.1 (λ _. sym c.is_point_byte.ensures ∙ c.if-is_point_byte.true))
 
 pub returns-clause-value : goal.returns-clause-value
-returns-clause-value c = sym (position_or_len_is (λ b. b == 46) c.args.bytes.now c.loop-i.i 0 c.loop-i.invariant.0 c.loop-i.invariant.1 (λ h. absurd (omega (arith, c.loop-i-test.false))))
+returns-clause-value c = sym (position_or_len_is (λ b. b == 46) c.args.bytes.now c.loop-i.i 0 c.loop-i.invariant.0 c.loop-i.invariant.1
+    (λ h. absurd (omega (arith, c.loop-i-test.false))))

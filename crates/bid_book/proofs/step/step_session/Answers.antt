@@ -19,7 +19,8 @@ pub record_session-requires-clause-right : goal.record_session-requires-clause-r
 record_session-requires-clause-right c =
     let below = below_limit c.requires.kept c.args.bidder c.args.session c.counts_of-counts.ensures (omega (arith, c.if-counts-ge-CALL_LIMIT.false)) in
     rw c.prepare.ensures.history
-    (right_below (history_of c.args.records.now) (Session c.args.bidder c.args.session) (call_value c.args.call) _ below (c.in-Ok.ensures.stored ∙ c.in-Ok.ensures.reported) c.requires.allowed)
+    (right_below (history_of c.args.records.now) (Session c.args.bidder c.args.session) (call_value c.args.call) _ below
+    (c.in-Ok.ensures.stored ∙ c.in-Ok.ensures.reported) c.requires.allowed)
 
 pub returns-in-Err-clause-limit : goal.returns-in-Err-clause-limit
 returns-in-Err-clause-limit c limit =
@@ -38,5 +39,10 @@ returns-in-Ok-clause-recorded c =
     let call = call_value c.args.call in
     let below = below_limit c.requires.kept c.args.bidder c.args.session c.counts_of-counts.ensures (omega (arith, c.if-counts-ge-CALL_LIMIT.false)) in
     c.record_session.ensures.history
-    ∙ (λ i. c.prepare.ensures.history i ++ record { caller = caller; call = call; reply = (c.in-Ok.ensures.stored ∙ c.in-Ok.ensures.reported ∙ sym (answer-below h caller call below)) i } ∷ [])
+    ∙ (λ i. c.prepare.ensures.history i ++ record {
+      caller = caller;
+      call = call;
+      reply =
+          (c.in-Ok.ensures.stored ∙ c.in-Ok.ensures.reported ∙ sym (answer-below h caller call below)) i;
+    } ∷ [])
     ∙ sym (after-below h caller call below)

@@ -21,23 +21,28 @@ use Rattle.bid_desk.proofs.CompareFacts.{compared-chair, compared-session, compa
 use Rattle.bid_desk.proofs.comparing.compare_entry.Goals as goal
 
 -- the entry that was read, as contracts see it
-entry-at : {Z : Type 0} (history : List (Entry (Arc Offers Z))) (i : ℕ) (e : Entry (Arc Offers Z)) → i < length history → e ≡ slice_index_or history i e → slice_get (map entry_value history) i ≡ Some (entry_value e)
+entry-at : {Z : Type 0} (history : List (Entry (Arc Offers Z))) (i : ℕ) (e : Entry (Arc Offers Z)) → i < length history
+    → e ≡ slice_index_or history i e → slice_get (map entry_value history) i ≡ Some (entry_value e)
 entry-at history i e small is = slice_get-map entry_value history i ∙ ap (option_map entry_value) (slice_get_read history _ i e refl small is)
 
 -- its session is one of the rules, and the slot of that session leads to a session
-module _ {Z : Type 0} {t : Terms} (history : List (Entry (Arc Offers Z))) {i : ℕ} {e : Entry (Arc Offers Z)} {b s : ℕ} (entries : All (IsEntryOf t) (map entry_value history)) (small : i < length history) (is : e ≡ slice_index_or history i e)
+module _ {Z : Type 0} {t : Terms} (history : List (Entry (Arc Offers Z))) {i : ℕ} {e : Entry (Arc Offers Z)} {b s : ℕ}
+    (entries : All (IsEntryOf t) (map entry_value history)) (small : i < length history) (is : e ≡ slice_index_or history i e)
     (caller : e.caller ≡ Session b s) where
   session-known : IsSessionOf t b s
   session-known = entry-known t (map entry_value history) entries i (entry_value e) (entry-at history i e small is) b s caller
 
-  leads-there : {sessions : List SessionOwn} {slots : List Slot} {slot : ℕ} → AreSlots t sessions (length sessions) slots → StandOnce t sessions → slot ≡ slot_of b s → (slice_index_or slots slot empty_slot).place < length sessions
+  leads-there : {sessions : List SessionOwn} {slots : List Slot} {slot : ℕ} → AreSlots t sessions (length sessions) slots
+      → StandOnce t sessions → slot ≡ slot_of b s → (slice_index_or slots slot empty_slot).place < length sessions
   leads-there {sessions} {slots} are once slot_is = slot-leads t sessions slots are once b s session-known _ slot_is
 
 pub slot_of-requires-clause-bidder : goal.slot_of-requires-clause-bidder
-slot_of-requires-clause-bidder g c = (session-known c.args.history.now c.requires.entries c.requires.within c.index-history-place.is c.in-Session.is).bidder_least
+slot_of-requires-clause-bidder g c =
+    (session-known c.args.history.now c.requires.entries c.requires.within c.index-history-place.is c.in-Session.is).bidder_least
 
 pub slot_of-requires-clause-session : goal.slot_of-requires-clause-session
-slot_of-requires-clause-session g c = (session-known c.args.history.now c.requires.entries c.requires.within c.index-history-place.is c.in-Session.is).session_least
+slot_of-requires-clause-session g c =
+    (session-known c.args.history.now c.requires.entries c.requires.within c.index-history-place.is c.in-Session.is).session_least
 
 pub bounds-slots-slot_of : goal.bounds-slots-slot_of
 bounds-slots-slot_of g c =
@@ -46,27 +51,32 @@ bounds-slots-slot_of g c =
 
 pub index-so_far-requires : goal.index-so_far-requires
 index-so_far-requires g c =
-    let leads = leads-there c.args.history.now c.requires.entries c.requires.within c.index-history-place.is c.in-Session.is c.requires.slots c.requires.once c.slot_of.ensures in
+    let leads = leads-there c.args.history.now c.requires.entries c.requires.within c.index-history-place.is c.in-Session.is
+    c.requires.slots c.requires.once c.slot_of.ensures in
     omega (arith, leads, c.requires.compared.size)
 
 pub bounds-sessions-at : goal.bounds-sessions-at
-bounds-sessions-at g c = leads-there c.args.history.now c.requires.entries c.requires.within c.index-history-place.is c.in-Session.is c.requires.slots c.requires.once c.slot_of.ensures
+bounds-sessions-at g c = leads-there c.args.history.now c.requires.entries c.requires.within c.index-history-place.is c.in-Session.is
+    c.requires.slots c.requires.once c.slot_of.ensures
 
 pub index_mut-requires : goal.index_mut-requires
 index_mut-requires g c =
-    let leads = leads-there c.args.history.now c.requires.entries c.requires.within c.index-history-place.is c.in-Session.is c.requires.slots c.requires.once c.slot_of.ensures in
+    let leads = leads-there c.args.history.now c.requires.entries c.requires.within c.index-history-place.is c.in-Session.is
+    c.requires.slots c.requires.once c.slot_of.ensures in
     omega (arith, leads, c.requires.compared.size)
 
 pub offset_bounds-sessions-at : goal.offset_bounds-sessions-at
 offset_bounds-sessions-at g c =
-    let leads = leads-there c.args.history.now c.requires.entries c.requires.within c.index-history-place.is c.in-Session.is c.requires.slots c.requires.once c.slot_of.ensures in
+    let leads = leads-there c.args.history.now c.requires.entries c.requires.within c.index-history-place.is c.in-Session.is
+    c.requires.slots c.requires.once c.slot_of.ensures in
     search rules
 
 pub with-requires : goal.with-requires
 with-requires g c =
     let x = c.index-sessions-at.result in
     let o = c.index-so_far.result.now in
-    let leads = leads-there c.args.history.now c.requires.entries c.requires.within c.index-history-place.is c.in-Session.is c.requires.slots c.requires.once c.slot_of.ensures in
+    let leads = leads-there c.args.history.now c.requires.entries c.requires.within c.index-history-place.is c.in-Session.is
+    c.requires.slots c.requires.once c.slot_of.ensures in
     let within = compared-within _ _ o (c.requires.compared.each _ x o leads (sym c.index-sessions-at.is) (sym c.index-so_far.ensures)) in
     subst (λ n. IsWithin n o) (ap length (sym c.own.ensures.pairs) ∙ length-map c.own.result.now pair_value) within
 
@@ -80,7 +90,8 @@ returns-in-Session g c =
     let o = c.index-so_far.result.now in
     let theirs = own_pairs (take c.args.place history) (caller_of x) in
     let known = session-known c.args.history.now c.requires.entries c.requires.within c.index-history-place.is c.in-Session.is in
-    let leads = leads-there c.args.history.now c.requires.entries c.requires.within c.index-history-place.is c.in-Session.is c.requires.slots c.requires.once c.slot_of.ensures in
+    let leads = leads-there c.args.history.now c.requires.entries c.requires.within c.index-history-place.is c.in-Session.is
+    c.requires.slots c.requires.once c.slot_of.ensures in
     let was = c.requires.compared.each _ x o leads (sym c.index-sessions-at.is) (sym c.index-so_far.ensures) in
     let now = c.with.ensures theirs (subst (λ (w : List (Call Offers × Reply Offers)). IsCompared theirs w o) (sym c.own.ensures.pairs) was) in
     compared-session g.L.Round.rules c.args.sessions.now c.args.chair.now c.args.slots.now history c.args.place e c.args.comparisons.now _
@@ -97,7 +108,9 @@ returns-in-Chair g c =
     let h = take c.args.place history in
     let e = entry_value c.index-history-place.result in
     let own = c.own-in-Chair.ensures.pairs in
-    let now = c.with-comparisons.ensures (own_pairs h Chair) (subst (λ (w : List (Call Offers × Reply Offers)). IsCompared (own_pairs h Chair) w c.args.comparisons.now.chair) (sym own) c.requires.compared.chair_is) in
+    let now = c.with-comparisons.ensures (own_pairs h Chair) (subst
+    (λ (w : List (Call Offers × Reply Offers)). IsCompared (own_pairs h Chair) w c.args.comparisons.now.chair) (sym own)
+    c.requires.compared.chair_is) in
     compared-chair t c.args.sessions.now c.args.chair.now c.args.slots.now history c.args.place e c.args.comparisons.now _
     (entry-at c.args.history.now c.args.place c.index-history-place.result c.requires.within c.index-history-place.is) c.requires.compared
     c.in-Chair.is

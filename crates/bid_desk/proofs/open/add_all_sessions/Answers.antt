@@ -11,7 +11,8 @@ use Rattle.bid_desk.proofs.open.add_all_sessions.Goals as goal
 
 -- the sessions of one bidder more
 module _ (all : List Bidder) (i : ℕ) (bidder : Bidder) (next : drop i all ≡ bidder ∷ drop (i + 1) all) where
-  sessions-more : (before after : List SessionOwn) → after ≡ before ++ sessions_of (i + 1) bidder.sessions → before ++ all_sessions (i + 1) (drop i all) ≡ all_sessions 1 all
+  sessions-more : (before after : List SessionOwn) → after ≡ before ++ sessions_of (i + 1) bidder.sessions
+      → before ++ all_sessions (i + 1) (drop i all) ≡ all_sessions 1 all
       → after ++ all_sessions (i + 1 + 1) (drop (i + 1) all) ≡ all_sessions 1 all
   sessions-more before after grown are =
       let left = all_sessions (i + 1 + 1) (drop (i + 1) all) in
@@ -19,7 +20,8 @@ module _ (all : List Bidder) (i : ℕ) (bidder : Bidder) (next : drop i all ≡ 
       ∙ ap (λ (bidders : List Bidder). before ++ all_sessions (i + 1) bidders) (sym next) ∙ are
 
   count-more : sum_by (λ (b : Bidder). b.sessions) (drop i all) ≡ bidder.sessions + sum_by (λ (b : Bidder). b.sessions) (drop (i + 1) all)
-  count-more = ap (λ (bidders : List Bidder). sum_by (λ (b : Bidder). b.sessions) bidders) next ∙ sum_by-cons (λ (b : Bidder). b.sessions) bidder (drop (i + 1) all)
+  count-more = ap (λ (bidders : List Bidder). sum_by (λ (b : Bidder). b.sessions) bidders) next
+      ∙ sum_by-cons (λ (b : Bidder). b.sessions) bidder (drop (i + 1) all)
 
 -- a session that the rules name
 known-of : (t : Terms) (i s : ℕ) (d : Bidder) → i < length t.bidders → 1 ≤ s → s ≤ (slice_index_or t.bidders i d).sessions → IsSessionOf t (i + 1) s
@@ -46,7 +48,8 @@ loop-i-preserved g c =
     let bidder = slice_index_or read i c.index-bidders-i.result in
     let value = c.bidders-bidders.ensures.value in
     let next : drop i all ≡ bidder ∷ drop (i + 1) all =
-    ap (λ (bidders : List Bidder). drop i bidders) (sym value) ∙ drop_more read i c.index-bidders-i.result c.loop-i-test.true ∙ ap (λ (bidders : List Bidder). bidder ∷ drop (i + 1) bidders) value in
+    ap (λ (bidders : List Bidder). drop i bidders) (sym value) ∙ drop_more read i c.index-bidders-i.result c.loop-i-test.true
+    ∙ ap (λ (bidders : List Bidder). bidder ∷ drop (i + 1) bidders) value in
     let was = c.loop-i.invariant in
     let now = c.add_sessions.ensures in
     let count = count-more all i bidder next in
@@ -61,4 +64,5 @@ pub returns-clause-sessions : goal.returns-clause-sessions
 returns-clause-sessions g c =
     let all = c.args.rules.now.bidders in
     let none : drop c.loop-i.i all ≡ [] = drop_all c.loop-i.i all (omega (arith, c.loop-i-test.false, ap length c.bidders-bidders.ensures.value)) in
-    sym (append-nil c.loop-i.sessions.items) ∙ ap (λ (bidders : List Bidder). c.loop-i.sessions.items ++ all_sessions (c.loop-i.i + 1) bidders) (sym none) ∙ c.loop-i.invariant.items
+    sym (append-nil c.loop-i.sessions.items) ∙ ap (λ (bidders : List Bidder). c.loop-i.sessions.items ++ all_sessions (c.loop-i.i + 1)
+    bidders) (sym none) ∙ c.loop-i.invariant.items

@@ -19,11 +19,14 @@ missing-requires-clause-most g c b s known = c.in_ok-slots.ensures.slots.most b 
 pub returns-in-Some-clause-some : goal.returns-in-Some-clause-some
 returns-in-Some-clause-some g c =
     let t = g.L.Round.rules in
-    let wrong = subst (λ (w : List Slot). IsFirstWrong t w c.in-Some.bidder c.in-Some.session) c.deref.ensures.value (subst (λ (t : Terms). IsFirstWrong t c.deref.result.now c.in-Some.bidder c.in-Some.session) c.stopped.invariant c.in-Some.ensures.some) in
+    let wrong = subst (λ (w : List Slot). IsFirstWrong t w c.in-Some.bidder c.in-Some.session) c.deref.ensures.value
+    (subst (λ (t : Terms). IsFirstWrong t c.deref.result.now c.in-Some.bidder c.in-Some.session) c.stopped.invariant
+    c.in-Some.ensures.some) in
     (c.requires, first-missing t c.args.sessions.now c.in_ok-slots.slots.items c.in_ok-slots.ensures.slots c.in-Some.bidder c.in-Some.session wrong)
 
 -- each session is there once if each slot that was read says so
-stands-once : {t u : Terms} {sessions : List SessionOwn} {slots read : List Slot} → AreSlots t sessions (length sessions) slots → read ≡ slots → u ≡ t → AllOnce u read → StandOnce t sessions
+stands-once : {t u : Terms} {sessions : List SessionOwn} {slots read : List Slot} → AreSlots t sessions (length sessions) slots
+    → read ≡ slots → u ≡ t → AllOnce u read → StandOnce t sessions
 stands-once {t} {u} {sessions} {slots} {read} are same rules once =
     stand-once t sessions slots are (subst (λ (w : List Slot). AllOnce t w) same (subst (λ (r : Terms). AllOnce r read) rules once))
 
@@ -36,7 +39,8 @@ returns-in-Some-2-clause-some g c =
     let history : map entry_value c.history-history.result.now ≡ c.args.stopped.now.history = c.history-history.ensures.entries in (
       c.requires,
       stands-once c.in_ok-slots.ensures.slots c.deref.ensures.value c.stopped.invariant c.in_default.ensures.none,
-      subst (λ (w : List (Entry Offers)). IsFirstOfAll g.L.Round.rules w c.args.chair.now c.args.sessions.now c.in-Some-2.caller c.in-Some-2.place) history differs,
+      subst (λ (w : List (Entry Offers)). IsFirstOfAll g.L.Round.rules w c.args.chair.now c.args.sessions.now c.in-Some-2.caller
+          c.in-Some-2.place) history differs,
     )
 
 pub returns-clause-none : goal.returns-clause-none
@@ -49,7 +53,8 @@ returns-clause-none g c =
     record {
       closed = c.requires;
       once = (stands-once c.in_ok-slots.ensures.slots c.deref.ensures.value c.stopped.invariant c.in_default.ensures.none).each;
-      own_is = own_from_agrees t h c.args.sessions.now c.in_ok-slots.ensures.slots.known (subst (λ (w : List (Entry Offers)). AgreeAll t w c.args.sessions.now) history agrees).each;
+      own_is = own_from_agrees t h c.args.sessions.now c.in_ok-slots.ensures.slots.known
+          (subst (λ (w : List (Entry Offers)). AgreeAll t w c.args.sessions.now) history agrees).each;
       chair_is = subst (λ (w : List (Entry Offers)). own_pairs w Chair ≡ c.args.chair.now.pairs) history chair;
       callers = callers_from_entries t h c.history-history.ensures.rules;
     }

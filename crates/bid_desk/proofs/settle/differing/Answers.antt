@@ -26,12 +26,14 @@ index-comparison-requires g c =
 pub bounds-sessions-at : goal.bounds-sessions-at
 bounds-sessions-at g c =
     let (of_rules, is) = c.in-Some.ensures.some in
-    slot-leads _ _ _ c.requires.slots c.requires.once _ _ (subst (λ (t : Terms). IsSessionOf t c.in-Some.bidder c.in-Some.session) c.requires.rules of_rules) _ (sym is)
+    slot-leads _ _ _ c.requires.slots c.requires.once _ _ (subst (λ (t : Terms). IsSessionOf t c.in-Some.bidder c.in-Some.session)
+    c.requires.rules of_rules) _ (sym is)
 
 pub offset_bounds-sessions-at : goal.offset_bounds-sessions-at
 offset_bounds-sessions-at g c =
     let (of_rules, is) = c.in-Some.ensures.some in
-    let small = slot-leads _ _ _ c.requires.slots c.requires.once _ _ (subst (λ (t : Terms). IsSessionOf t c.in-Some.bidder c.in-Some.session) c.requires.rules of_rules) _ (sym is) in
+    let small = slot-leads _ _ _ c.requires.slots c.requires.once _ _
+    (subst (λ (t : Terms). IsSessionOf t c.in-Some.bidder c.in-Some.session) c.requires.rules of_rules) _ (sym is) in
     search rules
 
 pub returns-in-Some-difference-clause-differs : goal.returns-in-Some-difference-clause-differs
@@ -47,13 +49,18 @@ returns-in-Some-difference-clause-differs g c =
     let theirs = own_pairs h (caller_of x) in
     let (of_rules, is) = c.in-Some.ensures.some in
     let known = subst (λ (t : Terms). IsSessionOf t b s) c.requires.rules of_rules in
-    let compared = c.in_ok-comparisons.ensures.each _ x o (slot-leads t sessions slots c.requires.slots c.requires.once b s known _ (sym is)) (sym c.index-sessions-at.is) (sym c.index-comparison.ensures) in
-    let differs = c.in-Some-difference.ensures.differs theirs (subst (λ (w : List (Call Offers × Reply Offers)). IsCompared theirs w o) (sym c.own.ensures.pairs) compared) in
+    let compared = c.in_ok-comparisons.ensures.each _ x o (slot-leads t sessions slots c.requires.slots c.requires.once b s known _
+    (sym is)) (sym c.index-sessions-at.is) (sym c.index-comparison.ensures) in
+    let differs = c.in-Some-difference.ensures.differs theirs (subst (λ (w : List (Call Offers × Reply Offers)). IsCompared theirs w o)
+    (sym c.own.ensures.pairs) compared) in
     record {
       known = known;
-      differs = session-differs t sessions slots c.requires.slots c.requires.once b s known _ x (ap (λ m. (slice_index_or slots m empty_slot).place) (sym is)) (sym c.index-sessions-at.is) h c.in-Some-difference.place
+      differs = session-differs t sessions slots c.requires.slots c.requires.once b s known _ x
+          (ap (λ m. (slice_index_or slots m empty_slot).place) (sym is)) (sym c.index-sessions-at.is) h c.in-Some-difference.place
           (subst (λ (w : List (Call Offers × Reply Offers)). IsFirstDifference theirs w c.in-Some-difference.place) c.own.ensures.pairs differs);
-      first = λ d u earlier before. c.loop-slot.invariant d u earlier (subst (λ m. slot_of d u < m) is (slot-before d u b s earlier.bidder_least earlier.session_least (c.requires.slots.most d u earlier) known.session_least before));
+      first = λ d u earlier before. c.loop-slot.invariant d u earlier
+          (subst (λ m. slot_of d u < m) is (slot-before d u b s earlier.bidder_least earlier.session_least
+          (c.requires.slots.most d u earlier) known.session_least before));
     }
 
 pub loop-slot-preserved : goal.loop-slot-preserved
@@ -75,10 +82,15 @@ loop-slot-preserved g c d u of_rules less =
                 let theirs = own_pairs h (caller_of x) in
                 let (named, is) = w.in-Some.ensures.some in
                 let known = subst (λ (t : Terms). IsSessionOf t b s) c.requires.rules named in
-                let compared = c.in_ok-comparisons.ensures.each _ x o (slot-leads t sessions slots c.requires.slots c.requires.once b s known _ (sym is)) (sym w.index-sessions-at.is) (sym w.index-comparison.ensures) in
-                let own = w.in_default-difference.ensures.same theirs (subst (λ (v : List (Call Offers × Reply Offers)). IsCompared theirs v o) (sym w.own.ensures.pairs) compared) in
-                let agrees = session-agrees t sessions slots c.requires.slots c.requires.once b s known _ x (ap (λ m. (slice_index_or slots m empty_slot).place) (sym is)) (sym w.index-sessions-at.is) h (own ∙ w.own.ensures.pairs) in
-                let one = slot-same b s d u known.bidder_least known.session_least (c.requires.slots.most b s known) of_rules.bidder_least of_rules.session_least (c.requires.slots.most d u of_rules) (is ∙ sym same) in
+                let compared = c.in_ok-comparisons.ensures.each _ x o (slot-leads t sessions slots c.requires.slots c.requires.once b s
+                known _ (sym is)) (sym w.index-sessions-at.is) (sym w.index-comparison.ensures) in
+                let own = w.in_default-difference.ensures.same theirs (subst
+                (λ (v : List (Call Offers × Reply Offers)). IsCompared theirs v o) (sym w.own.ensures.pairs) compared) in
+                let agrees = session-agrees t sessions slots c.requires.slots c.requires.once b s known _ x
+                (ap (λ m. (slice_index_or slots m empty_slot).place) (sym is)) (sym w.index-sessions-at.is) h
+                (own ∙ w.own.ensures.pairs) in
+                let one = slot-same b s d u known.bidder_least known.session_least (c.requires.slots.most b s known) of_rules.bidder_least
+                of_rules.session_least (c.requires.slots.most d u of_rules) (is ∙ sym same) in
                 subst (λ m. AgreesAt h sessions m u) one.0 (subst (λ m. AgreesAt h sessions b m) one.1 agrees)
             | in_default w ↦ absurd (w.in_default.ensures.none d u (subst (λ (t : Terms). IsSessionOf t d u) (sym c.requires.rules) of_rules) same)
           ]
@@ -87,17 +99,26 @@ loop-slot-preserved g c d u of_rules less =
 pub returns-in-Some-difference-2-clause-differs : goal.returns-in-Some-difference-2-clause-differs
 returns-in-Some-difference-2-clause-differs g c =
     let theirs = own_pairs (map entry_value c.args.history.now) Chair in
-    let compared = subst (λ (w : List (Call Offers × Reply Offers)). IsCompared theirs w c.in_ok-comparisons.comparisons.chair) (sym c.own-2.ensures.pairs) c.in_ok-comparisons.ensures.chair_is in (
-      record { each = λ b s known. c.loop-slot.invariant b s known (omega (arith, slot-small _ _ _ c.requires.slots c.requires.once b s known, c.loop-slot-test.false)) },
-      subst (λ (w : List (Call Offers × Reply Offers)). IsFirstDifference theirs w c.in-Some-difference-2.place) c.own-2.ensures.pairs (c.in-Some-difference-2.ensures.differs theirs compared),
+    let compared = subst (λ (w : List (Call Offers × Reply Offers)). IsCompared theirs w c.in_ok-comparisons.comparisons.chair)
+    (sym c.own-2.ensures.pairs) c.in_ok-comparisons.ensures.chair_is in (
+      record {
+        each = λ b s known. c.loop-slot.invariant b s known (omega
+            (arith, slot-small _ _ _ c.requires.slots c.requires.once b s known, c.loop-slot-test.false));
+      },
+      subst (λ (w : List (Call Offers × Reply Offers)). IsFirstDifference theirs w c.in-Some-difference-2.place) c.own-2.ensures.pairs
+          (c.in-Some-difference-2.ensures.differs theirs compared),
     )
 
 pub returns-clause-sessions : goal.returns-clause-sessions
 returns-clause-sessions g c =
-    record { each = λ b s known. c.loop-slot.invariant b s known (omega (arith, slot-small _ _ _ c.requires.slots c.requires.once b s known, c.loop-slot-test.false)) }
+    record {
+      each = λ b s known. c.loop-slot.invariant b s known (omega
+          (arith, slot-small _ _ _ c.requires.slots c.requires.once b s known, c.loop-slot-test.false));
+    }
 
 pub returns-clause-chair : goal.returns-clause-chair
 returns-clause-chair g c =
     let theirs = own_pairs (map entry_value c.args.history.now) Chair in
-    let compared = subst (λ (w : List (Call Offers × Reply Offers)). IsCompared theirs w c.in_ok-comparisons.comparisons.chair) (sym c.own-2.ensures.pairs) c.in_ok-comparisons.ensures.chair_is in
+    let compared = subst (λ (w : List (Call Offers × Reply Offers)). IsCompared theirs w c.in_ok-comparisons.comparisons.chair)
+    (sym c.own-2.ensures.pairs) c.in_ok-comparisons.ensures.chair_is in
     c.in-None.ensures.same theirs compared ∙ c.own-2.ensures.pairs

@@ -13,6 +13,7 @@ returns-else-session-from-clause-none c b s known is =
     let most = known.bidder_most in
     let x = c.index-bidders-bidder.result in
     let limit : session_limit t b ≡ x.sessions =
-    limit-at t b x (omega arith) ∙ ap (λ (y : Bidder). y.sessions) (sym (c.index-bidders-bidder.is ∙ (λ i. slice_index_or (c.bidders.ensures.value i) (at.0 i) x))) in
+    limit-at t b x (omega arith) ∙ ap (λ (y : Bidder). y.sessions)
+    (sym (c.index-bidders-bidder.is ∙ (λ i. slice_index_or (c.bidders.ensures.value i) (at.0 i) x))) in
     let read : c.from.result ≡ x.sessions = c.from.ensures ∙ sym (ap (λ (y : Bidder). y.sessions) c.index-bidders-bidder.is) in
     omega (arith, limit, read, known.session_most, known.session_least, at.1, c.if-session-from.false)

@@ -17,11 +17,14 @@ pub loop-place-init : goal.loop-place-init
 loop-place-init g c =
     let t = g.L.Round.rules in
     let items : c.in_ok-slots.slots.items ≡ replicate (length t.bidders * MOST_SESSIONS) empty_slot =
-    c.in_ok-slots.ensures.items_if_clones_equal (λ y same. same) ∙ ap (λ (xs : List Bidder). replicate (length xs * MOST_SESSIONS) empty_slot) (c.bidders.ensures.value ∙ ap (λ (u : Terms). u.bidders) c.requires) in
+    c.in_ok-slots.ensures.items_if_clones_equal (λ y same. same)
+    ∙ ap (λ (xs : List Bidder). replicate (length xs * MOST_SESSIONS) empty_slot)
+    (c.bidders.ensures.value ∙ ap (λ (u : Terms). u.bidders) c.requires) in
     rw items (slots-empty t c.args.sessions.now (subst (λ u. AreTerms u) c.requires c.bidders.ensures.terms))
 
 -- the slot of a session of the rules is there, and is the one that is read
-module _ {t : Terms} {sessions : List SessionOwn} {n : ℕ} {slots : List Slot} {i b s : ℕ} (are : AreSlots t sessions n slots) (known : IsSessionOf t b s) (is : i ≡ slot_of b s) where
+module _ {t : Terms} {sessions : List SessionOwn} {n : ℕ} {slots : List Slot} {i b s : ℕ} (are : AreSlots t sessions n slots)
+    (known : IsSessionOf t b s) (is : i ≡ slot_of b s) where
   slot-there : i < length slots
   slot-there = omega (arith, slot-within b s (length t.bidders) known.bidder_least known.bidder_most known.session_least (are.most b s known), are.size, is)
 
@@ -37,7 +40,8 @@ overflow_add-times g c =
     let was = c.loop-place.invariant in
     let known = c.slot-slot.ensures.known in
     let before = take c.loop-place.place c.args.sessions.now in
-    let read = ap (λ (o : Slot). o.times) (read-is was known c.slot-slot.ensures.slot c.index.result.now c.index.ensures) ∙ was.times_are x.bidder x.session known in
+    let read = ap (λ (o : Slot). o.times) (read-is was known c.slot-slot.ensures.slot c.index.result.now c.index.ensures)
+    ∙ was.times_are x.bidder x.session known in
     omega (arith, read, count_by-le-length (is_named x.bidder x.session) before, length-take-le c.loop-place.place c.args.sessions.now (omega arith))
 
 pub loop-place-preserved : goal.loop-place-preserved

@@ -31,11 +31,14 @@ returns c =
     let group = has c.args.group.now in
     let kept = c.in_ok-kept.kept in
     let built = λ (p : Table). p ≡ program_of (lots_in c.rules.result.now) (offers kept) in
-    let is : (p : Table) → built p → p ≡ program_without c.args.book.now c.args.group.now = λ p e. e ∙ ap₂ (λ (t : Terms) (os : List Offer). program_of (lots_in t) os) c.rules.ensures.rules c.in_ok-kept.ensures in
+    let is : (p : Table) → built p → p ≡ program_without c.args.book.now c.args.group.now =
+    λ p e. e ∙ ap₂ (λ (t : Terms) (os : List Offer). program_of (lots_in t) os) c.rules.ensures.rules c.in_ok-kept.ensures in
     record {
       program = IfOk-weaker c.build.result built (λ (p : Table). p ≡ program_without c.args.book.now c.args.group.now) is c.build.ensures;
       faithful = IfOk-weaker c.build.result built (λ (p : Table). IsFaithful lots book group p)
-          (λ p e. subst (λ (q : Table). IsFaithful lots book group q) (sym (is p e)) (presolved_is_faithful lots book group c.rules.ensures.book)) c.build.ensures;
+          (λ p e. subst (λ (q : Table). IsFaithful lots book group q) (sym (is p e))
+          (presolved_is_faithful lots book group c.rules.ensures.book)) c.build.ensures;
       text = IfOk-weaker c.build.result built (λ (p : Table). IsFaithfulText lots book group (text p))
-          (λ p e. subst (λ (q : Table). IsFaithfulText lots book group (text q)) (sym (is p e)) (presolved_text_is_faithful lots book group c.rules.ensures.lots c.rules.ensures.book)) c.build.ensures;
+          (λ p e. subst (λ (q : Table). IsFaithfulText lots book group (text q)) (sym (is p e))
+          (presolved_text_is_faithful lots book group c.rules.ensures.lots c.rules.ensures.book)) c.build.ensures;
     }

@@ -24,5 +24,6 @@ returns c =
     let kept = c.in_ok-kept.kept in
     let nobody : c.group.result.now ≡ [] = c.group.ensures ∙ ap (λ (gs : List (List ℕ)). slice_index_or gs 0 []) c.in_ok-nobody.ensures in
     IfOk-weaker c.build_shared.result (λ (s : Shared). s ≡ shared_of (lots_in c.rules.result.now) (offers kept)) (λ (s : Shared). s ≡ shared_program book)
-    (λ s e. e ∙ ap₂ (λ (t : Terms) (os : List Offer). shared_of (lots_in t) os) c.rules.ensures.rules (c.in_ok-kept.ensures ∙ ap (λ (g : List ℕ). kept_of (lots_in book.rules) (book_of book) (has g)) nobody))
+    (λ s e. e ∙ ap₂ (λ (t : Terms) (os : List Offer). shared_of (lots_in t) os) c.rules.ensures.rules
+    (c.in_ok-kept.ensures ∙ ap (λ (g : List ℕ). kept_of (lots_in book.rules) (book_of book) (has g)) nobody))
     c.build_shared.ensures

@@ -15,7 +15,8 @@ loop-place-init g c = record {
 
 pub unreachable-requires : goal.unreachable-requires
 unreachable-requires g c =
-    let below : c.loop-place.place < g.M.Maker.count_of c.args.maker.now = (let l = c.loop-place-test.true in let e = c.count-count.ensures.count in omega arith) in
+    let below : c.loop-place.place < g.M.Maker.count_of c.args.maker.now =
+    (let l = c.loop-place-test.true in let e = c.count-count.ensures.count in omega arith) in
     let full = c.loop-place.invariant.full c.loop-place.place (omega arith) below in
     let e = full_at c.loop-place.slots.items c.loop-place.place full.found c.index_mut.result.now full.slot c.index_mut.ensures.value in
     c.in_default.not-Some full.found (c.take.ensures.value ∙ e)
@@ -36,7 +37,8 @@ loop-place-preserved g c =
     record {
       size = length-set c.loop-place.slots.items place c.take.new.self ∙ h.size;
       full = λ k l m. keeps_made makes c.loop-place.slots.items place k c.take.new.self (λ t. omega arith) (h.full k (omega arith) m);
-      so_far = one_more makes place c.loop-place.ordered.items c.push_reserved.new.self.items c.in-Some.made c.push_reserved.ensures.items h.so_far (subst (makes place) (sym found) full.right);
+      so_far = one_more makes place c.loop-place.ordered.items c.push_reserved.new.self.items c.in-Some.made c.push_reserved.ensures.items
+          h.so_far (subst (makes place) (sym found) full.right);
       filled = omega arith;
       room = omega arith;
     }

@@ -23,8 +23,10 @@ returns g c =
         numbers = ap (λ rs. map (λ r. r.number) rs) items
             ∙ numbers_append count c.args.mine.results.items c.args.theirs.results.items mine theirs a.numbers b.numbers
             ∙ ap (λ (xs : List ℕ). filter (λ n. nat_lt n count) xs) (sym new);
-        results = subst (λ rs. All (λ r. makes r.number r.made) rs) (sym items) (All-append (λ r. makes r.number r.made) c.args.mine.results.items c.args.theirs.results.items a.results b.results);
-        past = subst (λ (xs : List ℕ). All (λ n. n < groups → is_past (n + 1)) xs) (sym new) (All-append (λ (n : ℕ). n < groups → is_past (n + 1)) mine theirs a.past b.past);
+        results = subst (λ rs. All (λ r. makes r.number r.made) rs) (sym items)
+            (All-append (λ r. makes r.number r.made) c.args.mine.results.items c.args.theirs.results.items a.results b.results);
+        past = subst (λ (xs : List ℕ). All (λ n. n < groups → is_past (n + 1)) xs) (sym new)
+            (All-append (λ (n : ℕ). n < groups → is_past (n + 1)) mine theirs a.past b.past);
         finished = subst (λ (xs : List ℕ). IsFinished (max count groups) xs) (sym new) (finished_left (max count groups) mine theirs a.finished);
       },
       omega arith,

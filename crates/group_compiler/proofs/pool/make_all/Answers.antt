@@ -3,7 +3,8 @@ use Rattle.group_compiler.proofs.WorkFacts.{all_below, all_made, all_past}
 use Rattle.group_compiler.proofs.pool.make_all.Goals as goal
 
 pub in_order-requires-clause-below : goal.in_order-requires-clause-below
-in_order-requires-clause-below g c κs within = all_below (g.M.Maker.count_of c.args.maker.now) c.in_ok-work.work.claim.drawn c.in_ok-work.work.results.items c.in_ok-work.ensures.0.numbers
+in_order-requires-clause-below g c κs within = all_below (g.M.Maker.count_of c.args.maker.now) c.in_ok-work.work.claim.drawn
+    c.in_ok-work.work.results.items c.in_ok-work.ensures.0.numbers
 
 pub in_order-requires-clause-complete : goal.in_order-requires-clause-complete
 in_order-requires-clause-complete g c κs within =
@@ -13,4 +14,5 @@ in_order-requires-clause-complete g c κs within =
 pub returns-clause-past : goal.returns-clause-past
 returns-clause-past g c =
     let w = c.in_ok-work.ensures.0 in
-    IfOk-weaker c.in_order.result _ _ (λ all h. all_past _ _ c.close-drawn.result (g.G.Gate.is_past c.args.gate.now) c.in_ok-work.work.claim.drawn c.close-drawn.ensures.each_once c.close-drawn.ensures.count w.finished w.past) c.in_order.ensures
+    IfOk-weaker c.in_order.result _ _ (λ all h. all_past _ _ c.close-drawn.result (g.G.Gate.is_past c.args.gate.now)
+    c.in_ok-work.work.claim.drawn c.close-drawn.ensures.each_once c.close-drawn.ensures.count w.finished w.past) c.in_order.ensures

@@ -11,7 +11,8 @@ returns-then-number-count g c =
     let n = c.args.number in
     let above : count ≤ n = subst (λ (m : ℕ). m ≤ n) c.count-count.ensures.count c.if-number-count.true in
     record {
-      numbers = sym (append-nil _) ∙ ap (λ (xs : List ℕ). map (λ r. r.number) c.args.results.now.items ++ xs) (sym (cond-false (nat_lt n count) (n ∷ []) [] (le-ltb n count above)));
+      numbers = sym (append-nil _) ∙ ap (λ (xs : List ℕ). map (λ r. r.number) c.args.results.now.items ++ xs)
+          (sym (cond-false (nat_lt n count) (n ∷ []) [] (le-ltb n count above)));
       made = λ h. h;
     }
 

@@ -1,4 +1,5 @@
-use Rattle.std.proofs.Common.{inl, ◌≡◌, ◌+◌, ◌<◌, ◌≤◌, ◌++◌, ◌∷◌, [], length, ℕ, List, filter, nat_lt, sym, ◌∙◌, max, cond, ap, ap₂, subst, arith, length-append}
+use Rattle.std.proofs.Common.{inl, ◌≡◌, ◌+◌, ◌<◌, ◌≤◌, ◌++◌, ◌∷◌, [], length, ℕ, List, filter, nat_lt, sym, ◌∙◌, max, cond}
+use Rattle.std.proofs.Common.{ap, ap₂, subst, arith, length-append}
 use Rattle.std.specs.Prelude.{All}
 use Rattle.std.proofs.Math.Nat.{le-max_left, le-max_right}
 use Rattle.std.proofs.lemmas.List.Elements.{All-push, filter-append}
@@ -29,7 +30,8 @@ loop-turn-preserved g c =
       numbers = step.numbers ∙ ap (λ (xs : List ℕ). xs ++ cond (nat_lt n count) (n ∷ []) []) h.numbers
           ∙ sym (filter-append (λ k. nat_lt k count) old (n ∷ [])) ∙ ap (λ (xs : List ℕ). filter (λ k. nat_lt k count) xs) (sym new);
       results = step.made h.results;
-      past = subst (λ (xs : List ℕ). All (λ k. k < groups → is_past (k + 1)) xs) (sym new) (All-push (λ (k : ℕ). k < groups → is_past (k + 1)) old n h.past past);
+      past = subst (λ (xs : List ℕ). All (λ k. k < groups → is_past (k + 1)) xs) (sym new)
+          (All-push (λ (k : ℕ). k < groups → is_past (k + 1)) old n h.past past);
     }
 
 pub returns-then-number-end : goal.returns-then-number-end
@@ -51,7 +53,8 @@ returns-then-number-end g c =
         same = c.draw-number.ensures.same;
         numbers = h.numbers ∙ sym (kept_no_more count n old above_count) ∙ ap (λ (xs : List ℕ). filter (λ k. nat_lt k count) xs) (sym new);
         results = h.results;
-        past = subst (λ (xs : List ℕ). All (λ k. k < groups → is_past (k + 1)) xs) (sym new) (All-push (λ (k : ℕ). k < groups → is_past (k + 1)) old n h.past (λ below. absurd (omega arith)));
+        past = subst (λ (xs : List ℕ). All (λ k. k < groups → is_past (k + 1)) xs) (sym new)
+            (All-push (λ (k : ℕ). k < groups → is_past (k + 1)) old n h.past (λ below. absurd (omega arith)));
         finished = subst (λ (xs : List ℕ). IsFinished (max count groups) xs) (sym new) (finished_by (max count groups) n old above);
       },
       omega arith,

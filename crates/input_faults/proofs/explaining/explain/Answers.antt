@@ -19,23 +19,30 @@ returns-in_err-lines-clause-refused g c =
 pub returns-in_err-put_lines-clause-refused : goal.returns-in_err-put_lines-clause-refused
 returns-in_err-put_lines-clause-refused g c =
     let f = c.in_err-put_lines.field-0.0 in
-    let lines = c.deref.ensures.value ∙ c.in_ok-lines.ensures ∙ held-lines (message_of c.args.input.now.texts) (detail c.args.request.now c.args.input.now) c.in_ok-faults.faults _ c.in_ok-faults.ensures in
+    let lines = c.deref.ensures.value ∙ c.in_ok-lines.ensures
+    ∙ held-lines (message_of c.args.input.now.texts) (detail c.args.request.now c.args.input.now) c.in_ok-faults.faults _
+    c.in_ok-faults.ensures in
     if-err-of (IsCutShort _ _ _ _ _) c.from_residual-in_err-put_lines.result (refusal.Write f) c.from_residual-in_err-put_lines.ensures.1
     (cut-short _ _ _ _ _ f (rw lines at c.in_err-put_lines.ensures.err) c.in_err-put_lines.ensures.failed)
 
 pub returns-clause-written : goal.returns-clause-written
 returns-clause-written g c =
-    let lines = c.deref.ensures.value ∙ c.in_ok-lines.ensures ∙ held-lines (message_of c.args.input.now.texts) (detail c.args.request.now c.args.input.now) c.in_ok-faults.faults _ c.in_ok-faults.ensures in
+    let lines = c.deref.ensures.value ∙ c.in_ok-lines.ensures
+    ∙ held-lines (message_of c.args.input.now.texts) (detail c.args.request.now c.args.input.now) c.in_ok-faults.faults _
+    c.in_ok-faults.ensures in
     rw lines at c.in_ok-put_lines.ensures.ok
 
 pub returns-then-is_empty-clause-written : goal.returns-then-is_empty-clause-written
 returns-then-is_empty-clause-written g c =
-    nothing-found c.args.request.now c.args.input.now c.in_ok-faults.faults (g.S.Sink.taken c.args.out.now) c.in_ok-faults.ensures (let e = c.is_empty.ensures in search rules)
+    nothing-found c.args.request.now c.args.input.now c.in_ok-faults.faults (g.S.Sink.taken c.args.out.now) c.in_ok-faults.ensures
+    (let e = c.is_empty.ensures in search rules)
 
 pub returns-then-is_empty-clause-faulty : goal.returns-then-is_empty-clause-faulty
 returns-then-is_empty-clause-faulty g c =
-    is-faulty c.args.request.now c.args.input.now c.in_ok-faults.faults true c.in_ok-faults.ensures (λ is. (let e = c.is_empty.ensures in search rules)) (λ is none. absurd (true≢false is))
+    is-faulty c.args.request.now c.args.input.now c.in_ok-faults.faults true c.in_ok-faults.ensures
+    (λ is. (let e = c.is_empty.ensures in search rules)) (λ is none. absurd (true≢false is))
 
 pub returns-clause-faulty : goal.returns-clause-faulty
 returns-clause-faulty g c =
-    is-faulty c.args.request.now c.args.input.now c.in_ok-faults.faults false c.in_ok-faults.ensures (λ is. absurd (false≢true is)) (λ is none. (let e = c.is_empty.ensures in search rules))
+    is-faulty c.args.request.now c.args.input.now c.in_ok-faults.faults false c.in_ok-faults.ensures (λ is. absurd (false≢true is))
+    (λ is none. (let e = c.is_empty.ensures in search rules))

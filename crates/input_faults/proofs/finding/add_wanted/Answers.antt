@@ -18,8 +18,11 @@ returns-in_ok-add_unmet-in-Verify c =
     let n = c.of_parts-numbers.result in
     let of_parts = numbers_in (parts_held c.args.parts.now) c.args.groups.now in
     let same =
-    ap₂ (λ (a b : List (Bool × Unmet)). unmet_of a ++ unmet_of b) c.solution_wants-in-Verify.ensures c.proof_wants.ensures ∙ sym (unmet-both (solution_wants n) (proof_wants n))
-    ∙ ap (λ (m : Numbers). unmet_of (wants (Some target.Verify) m)) c.of_parts-numbers.ensures ∙ ap (λ (t : Target). unmet_of (wants (Some t) of_parts)) (sym c.in-Verify.is) in
+    ap₂ (λ (a b : List (Bool × Unmet)). unmet_of a ++ unmet_of b) c.solution_wants-in-Verify.ensures c.proof_wants.ensures
+    ∙ sym (unmet-both (solution_wants n) (proof_wants n))
+    ∙ ap (λ (m : Numbers). unmet_of (wants (Some target.Verify) m)) c.of_parts-numbers.ensures
+    ∙ ap (λ (t : Target). unmet_of (wants (Some t) of_parts)) (sym c.in-Verify.is) in
     on_ok_weaker c.add_unmet-in-Verify-2.result
-    (λ second. subst (λ (fs : List (Found Fault)). KeepsMore c.args.faults.now c.add_unmet-in-Verify-2.new.faults fs) same (keeps-both _ _ _ _ _ c.in_ok-add_unmet-in-Verify.ensures second))
+    (λ second. subst (λ (fs : List (Found Fault)). KeepsMore c.args.faults.now c.add_unmet-in-Verify-2.new.faults fs) same
+    (keeps-both _ _ _ _ _ c.in_ok-add_unmet-in-Verify.ensures second))
     c.add_unmet-in-Verify-2.ensures

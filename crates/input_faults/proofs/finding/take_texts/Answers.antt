@@ -18,5 +18,6 @@ returns c =
     texts-kept c.args.faults.now c.take_under.new.faults c.args.last_wins c.in-Some.rules _ _ _ _ _ c.text_of-rules.ensures reported
     (keeps-both _ _ _ _ _ c.in_ok-rules.ensures.faults c.in_ok-take_under.ensures) in
     let known = sym (ap parsed_terms c.text_of-rules.ensures) ∙ reported in
-    let unmet = subst (λ (r : Result Terms Refusal). KeepsMore c.take_under.new.faults c.take_wanted_by.new.faults (where_read r (unmet_under c.args.command parts))) (sym known) c.in_ok-take_wanted_by.ensures in
+    let unmet = subst (λ (r : Result Terms Refusal). KeepsMore c.take_under.new.faults c.take_wanted_by.new.faults
+    (where_read r (unmet_under c.args.command parts))) (sym known) c.in_ok-take_wanted_by.ensures in
     keeps-both _ _ _ _ _ texts unmet

@@ -10,4 +10,6 @@ pub returns-in-Some : goal.returns-in-Some
 returns-in-Some c =
     let reported = rw c.in-Some.is at c.in_ok-groups.ensures in
     let known = sym (ap (parsed_groups c.args.rules.now) c.text_of.ensures) ∙ reported in
-    subst (λ (r : Result (List (List ℕ)) Refusal). OnOk c.add_wanted.result (KeepsMore c.args.faults.now c.add_wanted.new.faults (unmet_faults (Some c.args.command) (parts_held c.args.parts.now) r))) (sym known) c.add_wanted.ensures
+    subst (λ (r : Result (List (List ℕ)) Refusal). OnOk c.add_wanted.result
+    (KeepsMore c.args.faults.now c.add_wanted.new.faults (unmet_faults (Some c.args.command) (parts_held c.args.parts.now) r)))
+    (sym known) c.add_wanted.ensures

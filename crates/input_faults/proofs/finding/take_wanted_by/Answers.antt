@@ -13,4 +13,6 @@ pub returns-in-None : goal.returns-in-None
 returns-in-None c =
     let parts = parts_held c.args.parts.now in
     let rules = c.args.rules.now in
-    subst (λ (fs : List (Found Fault)). KeepsMore c.args.faults.now c.args.faults.now fs) (sym (none-wanted parts _) ∙ ap (λ (o : Option Target). unmet_under o parts rules) (sym c.in-None.is)) (keeps-none c.args.faults.now)
+    subst (λ (fs : List (Found Fault)). KeepsMore c.args.faults.now c.args.faults.now fs)
+    (sym (none-wanted parts _) ∙ ap (λ (o : Option Target). unmet_under o parts rules) (sym c.in-None.is))
+    (keeps-none c.args.faults.now)

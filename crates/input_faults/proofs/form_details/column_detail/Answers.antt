@@ -15,7 +15,8 @@ returns-then-ne c =
     let category = c.index-categories-place.result in
     let named : c.as_bytes-name.result.now ≡ category.name = c.as_bytes-name.ensures.bytes in
     let differs : bytes_eq (record_field (place + 2) r) category.name ≡ false = rw (c.field-value.ensures, named) at (when-not-true _ c.if-ne.ensures) in
-    let next : drop place all ≡ category ∷ drop (place + 1) all = drop_more all place category c.loop-place-test.true ∙ ap (λ x. x ∷ drop (place + 1) all) (sym c.index-categories-place.is) in
+    let next : drop place all ≡ category ∷ drop (place + 1) all =
+    drop_more all place category c.loop-place-test.true ∙ ap (λ x. x ∷ drop (place + 1) all) (sym c.index-categories-place.is) in
     rw (c.field-value.ensures, named, c.loop-place.invariant, next, differs) refl
 
 pub loop-place-preserved : goal.loop-place-preserved
@@ -26,7 +27,8 @@ loop-place-preserved c =
     let category = c.index-categories-place.result in
     let named : c.as_bytes-name.result.now ≡ category.name = c.as_bytes-name.ensures.bytes in
     let same : bytes_eq (record_field (place + 2) r) category.name ≡ true = rw (c.field-value.ensures, named) at (when-not-false _ c.if-ne.ensures) in
-    let next : drop place all ≡ category ∷ drop (place + 1) all = drop_more all place category c.loop-place-test.true ∙ ap (λ x. x ∷ drop (place + 1) all) (sym c.index-categories-place.is) in
+    let next : drop place all ≡ category ∷ drop (place + 1) all =
+    drop_more all place category c.loop-place-test.true ∙ ap (λ x. x ∷ drop (place + 1) all) (sym c.index-categories-place.is) in
     let after : place + 2 + 1 ≡ place + 1 + 2 = omega arith in
     (rw (next, same) at c.loop-place.invariant) ∙ ap (λ n. column_message r n (drop (place + 1) all)) after
 

@@ -8,5 +8,7 @@ pub returns : goal.returns
 returns g c =
     let texts = c.args.places.now in
     let r = c.refusal-refusal.result in
-    let reported = ap (λ xs. message_at xs c.spot_of.result r) c.texts.ensures ∙ ap (λ spot. message_at texts spot r) c.spot_of.ensures ∙ ap (message_in texts) c.refusal-refusal.ensures in
-    Adds-to (Adds-then c.add_message.ensures (Adds-then c.add_detail.ensures c.add.ensures)) (ap (λ bytes. bytes ++ (detail_text c.args.detail.now ++ 10 ∷ [])) reported)
+    let reported = ap (λ xs. message_at xs c.spot_of.result r) c.texts.ensures ∙ ap (λ spot. message_at texts spot r) c.spot_of.ensures
+    ∙ ap (message_in texts) c.refusal-refusal.ensures in
+    Adds-to (Adds-then c.add_message.ensures (Adds-then c.add_detail.ensures c.add.ensures))
+    (ap (λ bytes. bytes ++ (detail_text c.args.detail.now ++ 10 ∷ [])) reported)

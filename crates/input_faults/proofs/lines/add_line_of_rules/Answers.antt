@@ -17,6 +17,7 @@ returns-in_ok-go_to-in-Rules g c = record {
 pub returns-in_default : goal.returns-in_default
 returns-in_default g c = record {
   added = λ text stands known.
-      Adds-to c.add_line-in_default.ensures (line-with (message_of c.args.places.now) (detail_in_rules (records_of text)) c.args.at _ (of-no-rules (records_of text) c.args.at.field c.args.at.fault c.in_default.not-Rules));
+      Adds-to c.add_line-in_default.ensures (line-with (message_of c.args.places.now) (detail_in_rules (records_of text)) c.args.at _
+      (of-no-rules (records_of text) c.args.at.field c.args.at.fault c.in_default.not-Rules));
   stands = λ text stands. stands;
 }

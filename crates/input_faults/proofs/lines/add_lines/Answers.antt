@@ -12,7 +12,8 @@ pub returns-in_ok-add_lines_of_parts-in-Ok : goal.returns-in_ok-add_lines_of_par
 returns-in_ok-add_lines_of_parts-in-Ok g c =
     let (none, held) = c.in-Ok.ensures in
     let same = ap parts_held c.as_slice.ensures.value in
-    Adds-to c.in_ok-add_lines_of_parts-in-Ok.ensures (ap (λ (d : ℕ → Fault → List ℕ). flat_map (fault_line (message_of c.args.places.now) d) c.args.faults.now) (input-detail c.args.request.now c.args.input.now _ none (same ∙ held)))
+    Adds-to c.in_ok-add_lines_of_parts-in-Ok.ensures (ap (λ (d : ℕ → Fault → List ℕ). flat_map (fault_line (message_of c.args.places.now) d)
+    c.args.faults.now) (input-detail c.args.request.now c.args.input.now _ none (same ∙ held)))
 
 pub returns-in_ok-check_part_fault-in-Err : goal.returns-in_ok-check_part_fault-in-Err
 returns-in_ok-check_part_fault-in-Err g c =
@@ -22,4 +23,5 @@ returns-in_ok-check_part_fault-in-Err g c =
     let is = part-reported asked input f c.in-Err.ensures c.in_ok-check_part_fault-in-Err.ensures in
     let alike : List ℕ → ℕ → Fault → List ℕ = λ reported n f. reported in
     let reported = c.part_detail.ensures ∙ ap (detail_without_parts f) c.texts.ensures in
-    Adds-to c.add_lines_alike.ensures (ap (λ (d : ℕ → Fault → List ℕ). flat_map (fault_line (message_of c.args.places.now) d) c.args.faults.now) (ap alike reported ∙ broken-detail asked input f is))
+    Adds-to c.add_lines_alike.ensures (ap (λ (d : ℕ → Fault → List ℕ). flat_map (fault_line (message_of c.args.places.now) d)
+    c.args.faults.now) (ap alike reported ∙ broken-detail asked input f is))

@@ -7,4 +7,6 @@ use Rattle.input_faults.proofs.lines.add_lines_alike.Goals as goal
 
 pub loop-at-preserved : goal.loop-at-preserved
 loop-at-preserved g c =
-    Adds-to (Adds-then c.loop-at.invariant c.add_line.ensures) (flat_map-next_item (fault_line (message_of c.args.places.now) (λ field fault. detail_text c.args.detail.now)) c.args.faults.now c.loop-at.at-index c.at-item.result c.at-item.is (omega arith))
+    Adds-to (Adds-then c.loop-at.invariant c.add_line.ensures) (flat_map-next_item
+    (fault_line (message_of c.args.places.now) (λ field fault. detail_text c.args.detail.now)) c.args.faults.now c.loop-at.at-index
+    c.at-item.result c.at-item.is (omega arith))

@@ -7,4 +7,5 @@ use Rattle.input_faults.proofs.lines.add_lines_alike.Given as goal
 
 -- the lines so far are added
 abbrev pub invariant-loop-at : goal.invariant-loop-at
-invariant-loop-at g l = Adds g.S.Sink.taken g.S.Sink.failures l.initial.writer l.writer (flat_map (fault_line (message_of l.places) (λ field fault. detail_text l.detail)) (take l.at-index l.faults))
+invariant-loop-at g l = Adds g.S.Sink.taken g.S.Sink.failures l.initial.writer l.writer
+    (flat_map (fault_line (message_of l.places) (λ field fault. detail_text l.detail)) (take l.at-index l.faults))

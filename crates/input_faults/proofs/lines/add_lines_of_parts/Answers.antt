@@ -26,4 +26,5 @@ returns g c =
     let parts = parts_held c.args.parts.now in
     let none : miscounted asked parts ≡ None = sym c.miscounted.ensures ∙ search rules in
     let forms = ap bytes_of c.as_slice.ensures.value ∙ c.in_ok-forms.ensures in
-    Adds-to c.in_ok-add_lines_in.ensures (ap (λ (d : ℕ → Fault → List ℕ). flat_map (fault_line (message_of c.args.places.now) d) c.args.faults.now) (parts-detail asked parts _ _ _ none c.text_of-rules.ensures forms c.text_of-groups.ensures))
+    Adds-to c.in_ok-add_lines_in.ensures (ap (λ (d : ℕ → Fault → List ℕ). flat_map (fault_line (message_of c.args.places.now) d)
+    c.args.faults.now) (parts-detail asked parts _ _ _ none c.text_of-rules.ensures forms c.text_of-groups.ensures))

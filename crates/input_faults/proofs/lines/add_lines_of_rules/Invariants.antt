@@ -11,5 +11,6 @@ use Rattle.input_faults.proofs.lines.add_lines_of_rules.Given as goal
 -- the lines so far are added
 abbrev pub invariant-loop-at : goal.invariant-loop-at
 invariant-loop-at g l =
-    Adds g.S.Sink.taken g.S.Sink.failures l.initial.writer l.writer (flat_map (fault_line (message_of l.places) (detail_in_rules (records_of l.text))) (take l.at-index l.faults))
+    Adds g.S.Sink.taken g.S.Sink.failures l.initial.writer l.writer
+    (flat_map (fault_line (message_of l.places) (detail_in_rules (records_of l.text))) (take l.at-index l.faults))
     × StandsAt l.cursor l.text × (l.version ≡ version_of (numbered 1 (records_of l.text)))

@@ -13,7 +13,9 @@ pub loop-at-preserved : goal.loop-at-preserved
 loop-at-preserved g c =
     let (added, reads, stands) = c.loop-at.invariant in
     let groups = c.args.groups.now in (
-      Adds-to (Adds-then added (c.in_ok-add_line_under.ensures.added groups stands)) (flat_map-next_item (fault_line (message_of c.args.places.now) (detail_under c.args.rules.now (bytes_of c.args.forms.now) groups)) c.args.faults.now c.loop-at.at-index c.at-item.result c.at-item.is (omega arith)),
+      Adds-to (Adds-then added (c.in_ok-add_line_under.ensures.added groups stands))
+          (flat_map-next_item (fault_line (message_of c.args.places.now) (detail_under c.args.rules.now (bytes_of c.args.forms.now) groups))
+          c.args.faults.now c.loop-at.at-index c.at-item.result c.at-item.is (omega arith)),
       c.in_ok-add_line_under.ensures.form,
       c.in_ok-add_line_under.ensures.names _ stands,
     )

@@ -10,5 +10,6 @@ use Rattle.input_faults.proofs.lines.add_lines_under.Given as goal
 -- the lines so far are added
 abbrev pub invariant-loop-at : goal.invariant-loop-at
 invariant-loop-at g l =
-    Adds g.S.Sink.taken g.S.Sink.failures l.initial.writer l.writer (flat_map (fault_line (message_of l.places) (detail_under l.rules (bytes_of l.forms) l.groups)) (take l.at-index l.faults))
+    Adds g.S.Sink.taken g.S.Sink.failures l.initial.writer l.writer
+    (flat_map (fault_line (message_of l.places) (detail_under l.rules (bytes_of l.forms) l.groups)) (take l.at-index l.faults))
     × ReadsForm l.rules (bytes_of l.forms) l.form × StandsAtName l.names (within_limit l.groups)

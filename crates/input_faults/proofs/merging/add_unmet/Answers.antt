@@ -11,5 +11,6 @@ loop-test-init c = keeps-none c.args.faults.now
 
 pub loop-test-preserved : goal.loop-test-preserved
 loop-test-preserved c =
-    subst (λ (fs : List (Found Fault)). KeepsMore c.args.faults.now c.add_test.new.faults fs) (unmet-next c.args.tests.now c.loop-test.test-index _ c.loop-test-test.true)
+    subst (λ (fs : List (Found Fault)). KeepsMore c.args.faults.now c.add_test.new.faults fs)
+    (unmet-next c.args.tests.now c.loop-test.test-index _ c.loop-test-test.true)
     (keeps-both _ _ _ _ _ c.loop-test.invariant c.in_ok-add_test.ensures)

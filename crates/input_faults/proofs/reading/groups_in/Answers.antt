@@ -6,5 +6,8 @@ pub returns-in-Ok : goal.returns-in-Ok
 returns-in-Ok c = groups-read c.args.rules.now c.args.text.now c.in-Ok.groups c.in-Ok.ensures.too_large c.in-Ok.ensures.answer
 
 pub returns-in_ok-check_groups_fault-in-Err : goal.returns-in_ok-check_groups_fault-in-Err
-returns-in_ok-check_groups_fault-in-Err c =
-    (refusal.Groups c.in-Err.fault, groups-refused c.args.rules.now c.args.text.now c.in-Err.fault c.in_ok-check_groups_fault-in-Err.ensures c.in-Err.ensures.too_large c.in-Err.ensures.answer)
+returns-in_ok-check_groups_fault-in-Err c = (
+  refusal.Groups c.in-Err.fault,
+  groups-refused c.args.rules.now c.args.text.now c.in-Err.fault c.in_ok-check_groups_fault-in-Err.ensures
+      c.in-Err.ensures.too_large c.in-Err.ensures.answer,
+)

@@ -17,5 +17,9 @@ returns-in_ok-add_form-in-Err c =
     let f = c.in-Err.fault in
     record {
       faults = c.in_ok-add_form-in-Err.ensures _ (keeps-sized found.found form.TooLarge text _ found.ensures.too_large found.ensures.all);
-      form = (refusal.Form c.args.number f, form-refused c.args.rules.now c.args.number text f c.in_ok-check_form_fault-in-Err.ensures c.in-Err.ensures.too_large c.in-Err.ensures.answer);
+      form = (
+        refusal.Form c.args.number f,
+        form-refused c.args.rules.now c.args.number text f c.in_ok-check_form_fault-in-Err.ensures
+            c.in-Err.ensures.too_large c.in-Err.ensures.answer,
+      );
     }

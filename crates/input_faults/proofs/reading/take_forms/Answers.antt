@@ -42,7 +42,9 @@ loop-place-preserved c =
       elim c.match-branch-2.branch [
         | in-Some w ↦ (
             let reported = rw w.in-Some.is at c.in_ok-form.ensures.form in
-            rw (w.all_read-is, w.calls-is, w.known-is) (form-more c.loop-place.all_read t texts c.args.numbers.now place seen (record { calls = w.count.new.self; known = w.add.new.self }) text w.in-Some.form (omega arith) known next reported w.count.ensures w.add.ensures))
+            rw (w.all_read-is, w.calls-is, w.known-is) (form-more c.loop-place.all_read t texts c.args.numbers.now place seen
+            (record { calls = w.count.new.self; known = w.add.new.self }) text w.in-Some.form (omega arith) known next reported
+            w.count.ensures w.add.ensures))
         | in-None w ↦ (
             let (r, reported) = rw w.in-None.is at c.in_ok-form.ensures.form in
             rw w.all_read-is (form-less c.loop-place.all_read t texts c.args.numbers.now place seen seen text r known next reported))
@@ -51,8 +53,10 @@ loop-place-preserved c =
 
 -- what was found is all, where no form is left
 all-found : (t : Terms) (texts : List Text) (place : ℕ) (so_far : List (Found Fault)) (accepted : List (List ℕ)) → length texts ≤ place
-    → faults_of_forms t (bytes_of texts) ≡ so_far ++ all_faults (faults_by_form t) (place + 1) accepted (bytes_of (drop place texts)) → faults_of_forms t (bytes_of texts) ≡ so_far
-all-found t texts place so_far accepted all found = found-all (faults_by_form t) _ so_far (place + 1) accepted _ found (ap bytes_of (drop_of_length-le texts all))
+    → faults_of_forms t (bytes_of texts) ≡ so_far ++ all_faults (faults_by_form t) (place + 1) accepted (bytes_of (drop place texts))
+    → faults_of_forms t (bytes_of texts) ≡ so_far
+all-found t texts place so_far accepted all found =
+    found-all (faults_by_form t) _ so_far (place + 1) accepted _ found (ap bytes_of (drop_of_length-le texts all))
 
 pub returns-then-not-all_read-clause-faults : goal.returns-then-not-all_read-clause-faults
 returns-then-not-all_read-clause-faults c =

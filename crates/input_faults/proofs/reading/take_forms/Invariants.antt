@@ -9,6 +9,7 @@ use Rattle.input_faults.proofs.reading.take_forms.Given as goal
 
 abbrev pub invariant-loop-place : goal.invariant-loop-place
 invariant-loop-place l = (so_far : List (Found Fault)) × (accepted : List (List ℕ))
-    × (faults_of_forms l.rules (bytes_of l.texts) ≡ so_far ++ all_faults (λ number before text. faults_of_form l.rules number text) (l.place + 1) accepted (bytes_of (drop l.place l.texts)))
+    × (faults_of_forms l.rules (bytes_of l.texts) ≡ so_far ++ all_faults (λ number before text. faults_of_form l.rules number text)
+    (l.place + 1) accepted (bytes_of (drop l.place l.texts)))
     × KeepsMore l.initial.faults l.faults so_far
     × HasRead l.all_read l.rules l.texts l.numbers l.place (record { calls = l.calls; known = l.known })

@@ -16,5 +16,9 @@ returns-in_ok-add_rules-in-Err c =
     let found = c.in_ok-found-in-Err in
     record {
       faults = c.in_ok-add_rules-in-Err.ensures _ (keeps-sized found.found rules.TooLarge text _ found.ensures.too_large found.ensures.all);
-      rules = (refusal.Rules c.in-Err.fault, rules-refused text c.in-Err.fault c.in_ok-check_rules_fault-in-Err.ensures c.in-Err.ensures.too_large c.in-Err.ensures.answer);
+      rules = (
+        refusal.Rules c.in-Err.fault,
+        rules-refused text c.in-Err.fault c.in_ok-check_rules_fault-in-Err.ensures
+            c.in-Err.ensures.too_large c.in-Err.ensures.answer,
+      );
     }

@@ -8,7 +8,8 @@ use Rattle.mps_reader.specs.inside.Sections.{word_of}
 use Rattle.mps_reader.proofs.NameFacts.{length-bytes}
 use Rattle.mps_reader.proofs.AnswerFacts.{handed-on}
 use Rattle.mps_reader.proofs.FitFacts.{row-fits, bound-fits}
-use Rattle.mps_reader.proofs.DataFacts.{rows-fault, in-columns, in-right-sides, in-bounds, declared-is, objective-is, at-columns, right-stamps, row-step, right-step, bound-step}
+use Rattle.mps_reader.proofs.DataFacts.{rows-fault, in-columns, in-right-sides, in-bounds, declared-is, objective-is}
+use Rattle.mps_reader.proofs.DataFacts.{at-columns, right-stamps, row-step, right-step, bound-step}
 use Rattle.mps_reader.proofs.reader.take_data.Goals as goal
 
 pub returns-in_ok-take_row-in-Rows : goal.returns-in_ok-take_row-in-Rows

@@ -12,4 +12,5 @@ loop-place-preserved g c =
     let all = c.args.columns.now in
     let bytes = column_bytes c.args.objective.now (map shown_row c.args.rows.now) in
     let after : suc at ≡ at + 1 = omega arith in
-    Adds-to (Adds-then {xs = flat_map bytes (take at all)} c.loop-place.invariant c.add_column.ensures) (flat_map-next bytes all at (shown_column c.column.result) c.column.ensures ∙ ap (λ (n : ℕ). flat_map bytes (take n all)) after)
+    Adds-to (Adds-then {xs = flat_map bytes (take at all)} c.loop-place.invariant c.add_column.ensures)
+    (flat_map-next bytes all at (shown_column c.column.result) c.column.ensures ∙ ap (λ (n : ℕ). flat_map bytes (take n all)) after)

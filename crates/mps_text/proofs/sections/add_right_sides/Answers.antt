@@ -7,4 +7,6 @@ use Rattle.mps_text.proofs.sections.add_right_sides.Goals as goal
 
 pub loop-row-preserved : goal.loop-row-preserved
 loop-row-preserved g c =
-    Adds-to (Adds-then c.loop-row.invariant c.add_right_side.ensures) (flat_map-next_item (λ r. right_side_bytes (shown_row r)) c.args.rows.now c.loop-row.row-index c.row-item.result c.row-item.is (omega arith))
+    Adds-to (Adds-then c.loop-row.invariant c.add_right_side.ensures)
+    (flat_map-next_item (λ r. right_side_bytes (shown_row r)) c.args.rows.now c.loop-row.row-index c.row-item.result c.row-item.is
+    (omega arith))

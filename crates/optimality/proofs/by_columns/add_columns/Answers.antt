@@ -11,7 +11,9 @@ loop-column-preserved c =
     let fits_given : SFits w128 c.in_ok-given.given = search rules in
     let narrow = simp to_z-of_z at c.in_ok-narrow.ensures in
     let added = simp to_z-of_z at c.in_ok-add_at.ensures in
-    columns-step c.args.multipliers.now c.loop-column.column c.args.program.now.columns c.entries.result c.in_ok-narrow.field-0 c.args.sums.now c.loop-column.sums c.add_at.new.sums c.entries.ensures (narrow ∙ c.in_ok-given.ensures) added c.loop-column.invariant
+    columns-step c.args.multipliers.now c.loop-column.column c.args.program.now.columns c.entries.result c.in_ok-narrow.field-0
+    c.args.sums.now c.loop-column.sums c.add_at.new.sums c.entries.ensures (narrow ∙ c.in_ok-given.ensures) added
+    c.loop-column.invariant
 
 pub returns : goal.returns
 returns c =

@@ -5,4 +5,5 @@ use Rattle.optimality.proofs.by_columns.add_columns.Given as goal
 
 -- the sums so far, and what the columns that are left are given
 abbrev pub invariant-loop-column : goal.invariant-loop-column
-invariant-loop-column l = (q : ℕ) → number_at l.sums q +ℤ columns_given l.multipliers l.column (drop l.column l.program.columns) q ≡ number_at l.initial.sums q +ℤ columns_given l.multipliers 0 l.program.columns q
+invariant-loop-column l = (q : ℕ) → number_at l.sums q +ℤ columns_given l.multipliers l.column (drop l.column l.program.columns) q
+    ≡ number_at l.initial.sums q +ℤ columns_given l.multipliers 0 l.program.columns q

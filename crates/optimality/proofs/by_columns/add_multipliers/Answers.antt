@@ -13,5 +13,7 @@ loop-i-preserved c =
     let fits_number : SFits w128 (get_or c.args.rows.now c.loop-i.i (0, pos 0)).1 = search rules in
     let number = simp to_z-of_z at c.in_ok-narrow.ensures in
     let added = simp to_z-of_z at c.in_ok-add_at.ensures in
-    let more : AreGivenMore (at_place t.0 t.1) c.loop-i.multipliers c.add_at.new.sums = subst (λ (n : ℤ). AreGivenMore (at_place t.0 n) c.loop-i.multipliers c.add_at.new.sums) number added in
-    λ row. multipliers-step c.args.rows.now c.loop-i.i (0, pos 0) c.loop-i.multipliers c.add_at.new.sums row c.loop-i-test.true (more row) (c.loop-i.invariant row)
+    let more : AreGivenMore (at_place t.0 t.1) c.loop-i.multipliers c.add_at.new.sums =
+    subst (λ (n : ℤ). AreGivenMore (at_place t.0 n) c.loop-i.multipliers c.add_at.new.sums) number added in
+    λ row. multipliers-step c.args.rows.now c.loop-i.i (0, pos 0) c.loop-i.multipliers c.add_at.new.sums row c.loop-i-test.true (more row)
+    (c.loop-i.invariant row)

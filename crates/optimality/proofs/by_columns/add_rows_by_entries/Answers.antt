@@ -11,4 +11,5 @@ returns c =
     let rows = c.args.rows.now in
     let same : (row : ℕ) → number_at ys row ≡ number_in rows row =
     λ row. ap (λ (ns : List ℤ). number_at ns row) c.as_slice.ensures.value ∙ c.in_ok-multipliers.ensures row in
-    IfSome_then c.add_columns.result c.add_columns.ensures (λ _ more. columns-have c.args.program.now rows ys c.args.sums.now c.add_columns.new.sums c.well_formed-2.ensures same more)
+    IfSome_then c.add_columns.result c.add_columns.ensures (λ _ more. columns-have c.args.program.now rows ys c.args.sums.now
+    c.add_columns.new.sums c.well_formed-2.ensures same more)

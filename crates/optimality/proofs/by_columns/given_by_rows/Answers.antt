@@ -11,4 +11,5 @@ loop-i-preserved c =
     let fits_multiplier : SFits w64 c.number_at.result = search rules in
     let fits_number : SFits w64 c.entry-row.result.1 = search rules in
     let added = simp to_z-of_z at c.in_ok-sum.ensures in
-    simp to_z-of_z (entry-added c.args.multipliers.now c.args.entries.now c.loop-i.i c.entry-row.result (to_z w128 c.loop-i.sum-bits) c.in_ok-sum.sum c.number_at.result _ c.entry-row.ensures c.number_at.ensures added c.loop-i.invariant)
+    simp to_z-of_z (entry-added c.args.multipliers.now c.args.entries.now c.loop-i.i c.entry-row.result (to_z w128 c.loop-i.sum-bits)
+    c.in_ok-sum.sum c.number_at.result _ c.entry-row.ensures c.number_at.ensures added c.loop-i.invariant)

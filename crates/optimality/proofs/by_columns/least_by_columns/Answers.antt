@@ -22,4 +22,5 @@ returns c =
     let scale : c.in_ok-scale.scale ≡ pos leaf.scale = narrow ∙ c.from.ensures in
     let given : HaveAll p ys cuts rows numbers = subst (λ (ns : List ℤ). HaveAll p ys cuts rows ns) (sym c.as_slice.ensures.value) c.in_ok-given.ensures in
     let least = simp to_z-of_z at c.least_given.ensures in
-    IfSome_then c.least_given.result least (λ n e. e ∙ ap (λ (k : ℤ). least_with k (number_at numbers) p.columns) scale ∙ given-is p leaf.scale ys cuts rows numbers given)
+    IfSome_then c.least_given.result least (λ n e. e ∙ ap (λ (k : ℤ). least_with k (number_at numbers) p.columns) scale ∙ given-is p
+    leaf.scale ys cuts rows numbers given)

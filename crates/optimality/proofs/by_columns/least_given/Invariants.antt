@@ -7,4 +7,5 @@ use Rattle.optimality.proofs.by_columns.least_given.Given as goal
 -- the sum so far, and that of the columns that are left
 abbrev pub invariant-loop-column : goal.invariant-loop-column
 invariant-loop-column l =
-    l.sum +ℤ least_sum (with_given l.scale (number_at l.given)) l.column (drop l.column l.program.columns) ≡ least_sum (with_given l.scale (number_at l.given)) 0 l.program.columns
+    l.sum +ℤ least_sum (with_given l.scale (number_at l.given)) l.column (drop l.column l.program.columns)
+    ≡ least_sum (with_given l.scale (number_at l.given)) 0 l.program.columns

@@ -30,6 +30,13 @@ returns-clause-too_large c =
     let fits : SFits w128 c.signed-factor.result = search rules in
     let s = c.args.split.now in
     let factor : unsigned_abs c.signed-factor.result ≡ c.args.multiplier = ap unsigned_abs c.signed-factor.ensures ∙ signed-size s.is_high c.args.multiplier in
-    let form : form_size c.as_slice.result.now ≡ form_size (cut_of s).form = ap form_size c.as_slice.ensures.value ∙ sym (side-size s.is_high s.form.items s.most) in
-    let product : unsigned_abs c.signed-factor.result * form_size c.as_slice.result.now ≡ c.args.multiplier * form_size (cut_of s).form = ap₂ (λ (a b : ℕ). a * b) factor form in
-    too-large-weaker c.add_wide_form.result (simp to_z-of_z at c.add_wide_form.ensures.too_large) (λ reached. (reached.0, subst (λ (n : ℕ). 2 ^ 126 ≤ unsigned_abs (number_at c.args.sums.now.numbers.items reached.0) + n) product reached.1))
+    let form : form_size c.as_slice.result.now ≡ form_size (cut_of s).form =
+    ap form_size c.as_slice.ensures.value ∙ sym (side-size s.is_high s.form.items s.most) in
+    let product : unsigned_abs c.signed-factor.result * form_size c.as_slice.result.now ≡ c.args.multiplier * form_size (cut_of s).form =
+    ap₂ (λ (a b : ℕ). a * b) factor form in
+    too-large-weaker c.add_wide_form.result (simp to_z-of_z at c.add_wide_form.ensures.too_large)
+    (λ reached. (
+      reached.0,
+      subst (λ (n : ℕ). 2 ^ 126 ≤ unsigned_abs (number_at c.args.sums.now.numbers.items reached.0) +
+          n) product reached.1,
+    ))

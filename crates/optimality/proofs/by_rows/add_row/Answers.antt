@@ -28,7 +28,8 @@ returns-clause-value c =
     ∙ sym (get_or-map form_held c.args.forms.now c.args.row c.index-forms-row.result [] c.if-row-forms.false) in
     let first = simp to_z-of_z at c.in_ok-add_short_form.ensures.value in
     let second = simp to_z-of_z at c.add_form.ensures.value in
-    on_ok_weaker c.add_form.result (λ more. subst (λ (f : Form). AreGivenMore (form_given k f) before after) form (forms-given k short rest before c.add_short_form.new.sums.numbers.items after first more)) second
+    on_ok_weaker c.add_form.result (λ more. subst (λ (f : Form). AreGivenMore (form_given k f) before after) form
+    (forms-given k short rest before c.add_short_form.new.sums.numbers.items after first more)) second
 
 pub returns-clause-too_large : goal.returns-clause-too_large
 returns-clause-too_large c =

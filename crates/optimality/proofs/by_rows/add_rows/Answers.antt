@@ -16,7 +16,8 @@ pub loop-i-preserved : goal.loop-i-preserved
 loop-i-preserved c =
     let fits_number : SFits w128 (get_or c.args.rows.now c.loop-i.i (0, pos 0)).1 = search rules in
     let added = simp to_z-of_z at c.in_ok-add_row.ensures.value in
-    rows-step c.args.rows.now (forms_held c.args.forms.now) c.loop-i.i (0, pos 0) c.args.sums.now.numbers.items c.loop-i.sums.numbers.items c.add_row.new.sums.numbers.items c.loop-i-test.true added c.loop-i.invariant
+    rows-step c.args.rows.now (forms_held c.args.forms.now) c.loop-i.i (0, pos 0) c.args.sums.now.numbers.items c.loop-i.sums.numbers.items
+    c.add_row.new.sums.numbers.items c.loop-i-test.true added c.loop-i.invariant
 
 pub returns-in_err-add_row-clause-too_large : goal.returns-in_err-add_row-clause-too_large
 returns-in_err-add_row-clause-too_large c =
@@ -25,5 +26,8 @@ returns-in_err-add_row-clause-too_large c =
     too-large-passed (Unit {0}) c.from_residual.result c.in_err-add_row.field-0.0 c.from_residual.ensures.1 c.in_err-add_row.ensures.too_large
     (λ reached. (
       reached.0,
-      reach (step-within (λ (t : ℕ × ℤ). t.1 *ℤ number_in (form_at forms t.0) reached.0) (λ (t : ℕ × ℤ). unsigned_abs t.1 * form_size (form_at forms t.0)) (row-within forms reached.0) c.args.rows.now c.loop-i.i (0, pos 0) (number_at c.loop-i.sums.numbers.items reached.0) (number_at c.args.sums.now.numbers.items reached.0) c.loop-i-test.true (c.loop-i.invariant reached.0)) (simp to_z-of_z at reached.1),
+      reach (step-within (λ (t : ℕ × ℤ). t.1 *ℤ number_in (form_at forms t.0) reached.0)
+          (λ (t : ℕ × ℤ). unsigned_abs t.1 * form_size (form_at forms t.0)) (row-within forms reached.0) c.args.rows.now c.loop-i.i
+          (0, pos 0) (number_at c.loop-i.sums.numbers.items reached.0) (number_at c.args.sums.now.numbers.items reached.0)
+          c.loop-i-test.true (c.loop-i.invariant reached.0)) (simp to_z-of_z at reached.1),
     ))

@@ -24,7 +24,9 @@ returns-clause-value c =
     let now = simp to_z-of_z at c.least_part.ensures in
     let was = simp to_z-of_z at c.least_part-2.ensures in
     let minus = simp to_z-of_z at c.minus.ensures.value in
-    IfOk-weaker c.minus.result _ _ (λ n e. change-is c.args.program.now.columns (pos c.args.scale) c.args.column c.args.number c.bounds-bounds.result c.cost.result c.scaled-cost.result c.in_ok-reduced.reduced c.least_part.result c.least_part-2.result n c.bounds-bounds.ensures c.cost.ensures product reduced now was e) minus
+    IfOk-weaker c.minus.result _ _ (λ n e. change-is c.args.program.now.columns (pos c.args.scale) c.args.column c.args.number
+    c.bounds-bounds.result c.cost.result c.scaled-cost.result c.in_ok-reduced.reduced c.least_part.result c.least_part-2.result n
+    c.bounds-bounds.ensures c.cost.ensures product reduced now was e) minus
 
 pub returns-in_err-reduced-clause-too_large : goal.returns-in_err-reduced-clause-too_large
 returns-in_err-reduced-clause-too_large c =
@@ -52,7 +54,9 @@ returns-clause-too_large c =
     let was : c.least_part-2.result ≡ least_part c.bounds-bounds.result c.scaled-cost.result = simp to_z-of_z at c.least_part-2.ensures in
     let within : c.args.column < length cs = search rules in
     let small = part-apart c.bounds-bounds.result c.scaled-cost.result c.args.number in
-    let is : unsigned_abs (c.least_part.result -ℤ c.least_part-2.result) ≡ unsigned_abs (least_part c.bounds-bounds.result (c.scaled-cost.result +ℤ c.args.number) -ℤ least_part c.bounds-bounds.result c.scaled-cost.result) =
+    let is : unsigned_abs (c.least_part.result -ℤ c.least_part-2.result)
+    ≡ unsigned_abs (least_part c.bounds-bounds.result (c.scaled-cost.result +ℤ c.args.number) -ℤ least_part c.bounds-bounds.result
+    c.scaled-cost.result) =
     ap₂ (λ (a b : ℤ). unsigned_abs (a -ℤ b)) (now ∙ ap (λ (n : ℤ). least_part c.bounds-bounds.result n) reduced) was in
     too-large-weaker c.minus.result (simp to_z-of_z at c.minus.ensures.too_large)
     (λ large. let reached : 2 ^ 127 ≤ unsigned_abs (c.least_part.result -ℤ c.least_part-2.result) = large in (within, omega arith))

@@ -13,7 +13,8 @@ overflow_add-sum c =
     let fits : SFits w128 c.cost_part-sum.result = search rules in
     let room : c.column_count-column-end.result < 2 ^ 64 = search rules in
     let so_far : unsigned_abs (to_z w128 c.loop-column.sum-bits) ≤ 1 + c.loop-column.column * 2 ^ 63 = omega (arith, c.loop-column.invariant.1) in
-    simp to_z-of_z (sum-room (to_z w128 c.loop-column.sum-bits) c.cost_part-sum.result c.loop-column.column c.column_count-column-end.result so_far c.cost_part-sum.ensures.size c.loop-column-test.true room)
+    simp to_z-of_z (sum-room (to_z w128 c.loop-column.sum-bits) c.cost_part-sum.result c.loop-column.column c.column_count-column-end.result
+    so_far c.cost_part-sum.ensures.size c.loop-column-test.true room)
 
 pub loop-column-preserved : goal.loop-column-preserved
 loop-column-preserved c =
@@ -22,7 +23,12 @@ loop-column-preserved c =
     let fits : SFits w128 c.cost_part-sum.result = search rules in
     let room : c.column_count-column-end.result < 2 ^ 64 = search rules in
     let so_far : unsigned_abs sum ≤ 1 + c.loop-column.column * 2 ^ 63 = omega (arith, c.loop-column.invariant.1) in
-    let fits_sum : SFits w128 (sum +ℤ part) = sum-room sum part c.loop-column.column c.column_count-column-end.result so_far c.cost_part-sum.ensures.size c.loop-column-test.true room in
+    let fits_sum : SFits w128 (sum +ℤ part) = sum-room sum part c.loop-column.column c.column_count-column-end.result so_far
+    c.cost_part-sum.ensures.size c.loop-column-test.true room in
     let both = abs-sum sum part in
     let within : unsigned_abs (sum +ℤ part) ≤ (c.loop-column.column + 1) * 2 ^ 63 = omega (arith, c.loop-column.invariant.1, c.cost_part-sum.ensures.size) in
-    simp to_z-of_z (alone-step c.loop-column.column c.args.program.now.columns sum (sum +ℤ part) part _ c.cost_part-sum.ensures.part refl c.loop-column.invariant.0, within)
+    simp to_z-of_z (
+      alone-step c.loop-column.column c.args.program.now.columns sum (sum +ℤ
+          part) part _ c.cost_part-sum.ensures.part refl c.loop-column.invariant.0,
+      within,
+    )

@@ -30,7 +30,8 @@ loop-column-preserved c =
     let held = c.loop-column.invariant.1 in
     let room = c.loop-column.invariant.2 in
     let before_total = simp to_z-of_z at c.loop-column.invariant.0 in (
-      simp to_z-of_z (total-step (pos c.args.scale) cs c.in-Some.column c.in-Some.number before after c.args.sums.now.numbers.items total c.in_ok-total.total c.args.alone c.in-Some.ensures.taken added before_total),
+      simp to_z-of_z (total-step (pos c.args.scale) cs c.in-Some.column c.in-Some.number before after c.args.sums.now.numbers.items total
+          c.in_ok-total.total c.args.alone c.in-Some.ensures.taken added before_total),
       omega arith,
       simp to_z-of_z (omega arith),
     )
@@ -43,7 +44,8 @@ returns-in_err-total-clause-too_large c =
     let total = to_z w128 c.loop-column.total-bits in
     let fits_number : SFits w128 c.in-Some.number = search rules in
     too-large-passed ℤ c.from_residual.result c.in_err-total.field-0.0 c.from_residual.ensures.1 c.in_err-total.ensures.too_large
-    (λ large. by-either cs c.args.scale c.in-Some.column c.in-Some.number total before after c.args.sums.now.numbers.items c.in-Some.ensures.taken c.loop-column.invariant.1 c.loop-column.invariant.2 (simp to_z-of_z at large))
+    (λ large. by-either cs c.args.scale c.in-Some.column c.in-Some.number total before after c.args.sums.now.numbers.items
+    c.in-Some.ensures.taken c.loop-column.invariant.1 c.loop-column.invariant.2 (simp to_z-of_z at large))
 
 pub returns-clause-size : goal.returns-clause-size
 returns-clause-size c =
@@ -54,4 +56,5 @@ pub returns-clause-value : goal.returns-clause-value
 returns-clause-value c =
     let fits_alone : SFits w128 c.args.alone = c.ranges.alone in
     let before = simp to_z-of_z at c.loop-column.invariant.0 in
-    total-end (pos c.args.scale) c.args.program.now.columns c.loop-column.sums.numbers.items c.args.sums.now.numbers.items (to_z w128 c.loop-column.total-bits) c.args.alone c.in_default.ensures.taken.0 before
+    total-end (pos c.args.scale) c.args.program.now.columns c.loop-column.sums.numbers.items c.args.sums.now.numbers.items
+    (to_z w128 c.loop-column.total-bits) c.args.alone c.in_default.ensures.taken.0 before

@@ -23,7 +23,8 @@ returns-clause-value c =
     let wide : c.from.result ≡ pos leaf.scale = c.from.ensures in
     let times = simp to_z-of_z at c.in_ok-alone.ensures.value in
     let alone : c.in_ok-alone.alone ≡ pos leaf.scale *ℤ least_alone p.columns = times ∙ ap₂ (λ (a b : ℤ). a *ℤ b) wide c.requires.all.alone in
-    IfOk-weaker c.least_total.result _ _ (λ n e. least-is p leaf.scale leaf.multipliers.items (cuts_of c.args.splits.now) c.args.rows.now numbers c.well_formed-2.ensures c.in_ok-reduce.ensures.value n
+    IfOk-weaker c.least_total.result _ _ (λ n e. least-is p leaf.scale leaf.multipliers.items (cuts_of c.args.splits.now) c.args.rows.now
+    numbers c.well_formed-2.ensures c.in_ok-reduce.ensures.value n
     (e ∙ ap (λ (a : ℤ). a +ℤ least_with (pos leaf.scale) (number_at numbers) p.columns) alone)) (simp to_z-of_z at c.least_total.ensures.value)
 
 pub returns-in_err-alone-clause-too_large : goal.returns-in_err-alone-clause-too_large
@@ -32,7 +33,8 @@ returns-in_err-alone-clause-too_large c =
     let leaf = c.args.leaf.now in
     let fits_from : SFits w128 c.from.result = search rules in
     let fits_before : SFits w128 c.args.all.now.alone = search rules in
-    let is : unsigned_abs (c.from.result *ℤ c.args.all.now.alone) ≡ unsigned_abs (pos leaf.scale *ℤ least_alone p.columns) = ap₂ (λ (a b : ℤ). unsigned_abs (a *ℤ b)) c.from.ensures c.requires.all.alone in
+    let is : unsigned_abs (c.from.result *ℤ c.args.all.now.alone) ≡ unsigned_abs (pos leaf.scale *ℤ least_alone p.columns) =
+    ap₂ (λ (a b : ℤ). unsigned_abs (a *ℤ b)) c.from.ensures c.requires.all.alone in
     let small = scaled-size leaf.scale (costs_size p.columns) (least_alone p.columns) (alone-size p.columns) in
     too-large-passed ℤ c.from_residual.result c.in_err-alone.field-0.0 c.from_residual.ensures.1 c.in_err-alone.ensures.too_large
     (λ large. let reached : 2 ^ 127 ≤ unsigned_abs (c.from.result *ℤ c.args.all.now.alone) = simp to_z-of_z at large in omega arith)
@@ -53,12 +55,14 @@ pub returns-clause-size : goal.returns-clause-size
 returns-clause-size c =
     let p = c.args.checker.now.program.now in
     let leaf = c.args.leaf.now in
-    let given = sizes-given p c.well_formed-2.ensures (length p.columns) leaf.multipliers.items (cuts_of c.args.splits.now) c.args.rows.now c.reduce.new.sums.numbers.items c.in_ok-reduce.ensures.value in
+    let given = sizes-given p c.well_formed-2.ensures (length p.columns) leaf.multipliers.items (cuts_of c.args.splits.now) c.args.rows.now
+    c.reduce.new.sums.numbers.items c.in_ok-reduce.ensures.value in
     IfOk-weaker c.least_total.result _ _ (λ n small. omega (arith, small, given)) c.least_total.ensures.size
 
 pub returns-clause-too_large : goal.returns-clause-too_large
 returns-clause-too_large c =
     let p = c.args.checker.now.program.now in
     let leaf = c.args.leaf.now in
-    let given = sizes-given p c.well_formed-2.ensures (length p.columns) leaf.multipliers.items (cuts_of c.args.splits.now) c.args.rows.now c.reduce.new.sums.numbers.items c.in_ok-reduce.ensures.value in
+    let given = sizes-given p c.well_formed-2.ensures (length p.columns) leaf.multipliers.items (cuts_of c.args.splits.now) c.args.rows.now
+    c.reduce.new.sums.numbers.items c.in_ok-reduce.ensures.value in
     too-large-weaker c.least_total.result c.least_total.ensures.too_large (λ large. omega (arith, large, given))

@@ -28,7 +28,8 @@ returns-clause-value c =
     let with_rows = c.add_rows.new.sums.numbers.items in
     let cuts = cuts_of c.args.splits.now in
     on_ok_weaker c.add_rows.result (λ more q.
-    in_turn (number_at empty q) (number_at with_cuts q) (number_at with_rows q) (cuts_given leaf.multipliers.items cuts q) (rows_given c.args.rows.now (row_forms c.args.program.now) q) (c.clear.ensures q)
+    in_turn (number_at empty q) (number_at with_cuts q) (number_at with_rows q) (cuts_given leaf.multipliers.items cuts q)
+    (rows_given c.args.rows.now (row_forms c.args.program.now) q) (c.clear.ensures q)
     (c.in_ok-add_cuts.ensures.value q ∙ ap (λ (ys : List ℕ). number_at empty q +ℤ cuts_given ys cuts q) c.as_slice.ensures.value)
     (more q ∙ ap (λ (fs : List Form). number_at with_cuts q +ℤ rows_given c.args.rows.now fs q) forms)) c.add_rows.ensures.value
 
@@ -43,6 +44,8 @@ returns-clause-too_large c =
     (λ reached.
     let q = reached.0 in
     let given : number_at with_cuts q ≡ cuts_given leaf.multipliers.items cuts q =
-    from_none (number_at empty q) (number_at with_cuts q) (cuts_given leaf.multipliers.items cuts q) (c.clear.ensures q) (c.in_ok-add_cuts.ensures.value q ∙ ap (λ (ys : List ℕ). number_at empty q +ℤ cuts_given ys cuts q) c.as_slice.ensures.value) in
+    from_none (number_at empty q) (number_at with_cuts q) (cuts_given leaf.multipliers.items cuts q) (c.clear.ensures q)
+    (c.in_ok-add_cuts.ensures.value q ∙ ap (λ (ys : List ℕ). number_at empty q +ℤ cuts_given ys cuts q) c.as_slice.ensures.value) in
     given-reached c.args.program.now c.well_formed-2.ensures leaf.multipliers.items cuts c.args.rows.now (number_at with_cuts q) q given
-    (subst (λ (fs : List Form). 2 ^ 126 ≤ unsigned_abs (number_at with_cuts q) + size_of (λ t. unsigned_abs t.1 * form_size (form_at fs t.0)) c.args.rows.now) forms reached.1))
+    (subst (λ (fs : List Form). 2 ^ 126 ≤ unsigned_abs (number_at with_cuts q) + size_of
+    (λ t. unsigned_abs t.1 * form_size (form_at fs t.0)) c.args.rows.now) forms reached.1))

@@ -16,7 +16,8 @@ returns-clause-too_large c =
     let cuts = cuts_of c.args.splits.now in
     let fits_cuts : SFits w128 c.in_ok-of_cuts.of_cuts = search rules in
     let fits_rows : SFits w128 c.in_ok-of_rows.of_rows = search rules in
-    let of_cuts : c.in_ok-of_cuts.of_cuts ≡ cuts_right ys cuts = c.in_ok-of_cuts.ensures.value ∙ ap (λ (ms : List ℕ). cuts_right ms cuts) c.as_slice.ensures.value in
+    let of_cuts : c.in_ok-of_cuts.of_cuts ≡ cuts_right ys cuts =
+    c.in_ok-of_cuts.ensures.value ∙ ap (λ (ms : List ℕ). cuts_right ms cuts) c.as_slice.ensures.value in
     let of_rows : c.in_ok-of_rows.of_rows ≡ rows_right table c.args.rows.now = c.in_ok-of_rows.ensures.value in
     let small = right-within table ys cuts c.args.rows.now in
     let cuts_size = ap unsigned_abs of_cuts in

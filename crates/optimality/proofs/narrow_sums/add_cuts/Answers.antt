@@ -9,4 +9,5 @@ pub loop-i-preserved : goal.loop-i-preserved
 loop-i-preserved c =
     let split = c.index-splits-i.result in
     cuts-step c.args.multipliers.now c.args.splits.now c.loop-i.i 0 split c.args.sums.now c.loop-i.sums c.add_cut.new.sums (search rules) (search rules)
-    (subst (λ (s : OpenSplit). AreGivenMore (form_given (pos (get_or c.args.multipliers.now c.loop-i.i 0)) (cut_of s).form) c.loop-i.sums c.add_cut.new.sums) c.index-splits-i.is c.in_ok-add_cut.ensures) c.loop-i.invariant
+    (subst (λ (s : OpenSplit). AreGivenMore (form_given (pos (get_or c.args.multipliers.now c.loop-i.i 0)) (cut_of s).form) c.loop-i.sums
+    c.add_cut.new.sums) c.index-splits-i.is c.in_ok-add_cut.ensures) c.loop-i.invariant

@@ -11,7 +11,8 @@ loop-i-preserved c =
     let fits_number : SFits w64 (get_or c.args.form.now c.loop-i.i (0, pos 0)).1 = search rules in
     let added = simp to_z-of_z at c.in_ok-add_product.ensures in
     let before = simp to_z-of_z at c.loop-i.invariant in
-    simp to_z-of_z (form-step c.args.factor c.args.form.now c.loop-i.i (0, pos 0) c.args.sums.now c.loop-i.sums c.add_product.new.sums c.loop-i-test.true added before)
+    simp to_z-of_z (form-step c.args.factor c.args.form.now c.loop-i.i (0, pos 0) c.args.sums.now c.loop-i.sums c.add_product.new.sums
+    c.loop-i-test.true added before)
 
 pub returns : goal.returns
 returns c =

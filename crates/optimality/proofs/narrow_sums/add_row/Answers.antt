@@ -25,4 +25,5 @@ returns c =
     let second = simp to_z-of_z at c.add_form.ensures in
     IfSome_then c.add_form.result second (λ _ more.
     subst (λ (k : ℤ). AreGivenMore (form_given k (form_at (forms_held c.args.forms.now) c.args.row)) before c.add_form.new.sums) factor
-    (subst (λ (f : Form). AreGivenMore (form_given c.in_ok-factor.factor f) before c.add_form.new.sums) form (forms-given c.in_ok-factor.factor short rest before c.add_short_form.new.sums c.add_form.new.sums first more)))
+    (subst (λ (f : Form). AreGivenMore (form_given c.in_ok-factor.factor f) before c.add_form.new.sums) form
+    (forms-given c.in_ok-factor.factor short rest before c.add_short_form.new.sums c.add_form.new.sums first more)))

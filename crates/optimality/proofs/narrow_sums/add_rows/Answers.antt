@@ -10,4 +10,5 @@ pub loop-i-preserved : goal.loop-i-preserved
 loop-i-preserved c =
     let fits_number : SFits w128 (get_or c.args.rows.now c.loop-i.i (0, pos 0)).1 = search rules in
     let added = simp to_z-of_z at c.in_ok-add_row.ensures in
-    rows-step c.args.rows.now (forms_held c.args.forms.now) c.loop-i.i (0, pos 0) c.args.sums.now c.loop-i.sums c.add_row.new.sums c.loop-i-test.true added c.loop-i.invariant
+    rows-step c.args.rows.now (forms_held c.args.forms.now) c.loop-i.i (0, pos 0) c.args.sums.now c.loop-i.sums c.add_row.new.sums
+    c.loop-i-test.true added c.loop-i.invariant

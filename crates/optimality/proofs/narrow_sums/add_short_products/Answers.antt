@@ -27,7 +27,8 @@ add_small-requires-clause-low c =
     let number = simp to_z-of_z at c.from.ensures in
     let product = short_product c.args.factor t.1 c.requires.low c.requires.high fits_number in
     let fits_product : SFits w64 (c.args.factor *ℤ c.from.result) = subst (λ (n : ℤ). SFits w64 (c.args.factor *ℤ n)) (sym number) product in
-    simp to_z-of_z (subst (λ (n : ℤ). neg_ℤ (pos (2 ^ 62)) ≤ℤ (c.args.factor *ℤ n)) (sym number) (short_low c.args.factor t.1 c.requires.low c.requires.high fits_number))
+    simp to_z-of_z (subst (λ (n : ℤ). neg_ℤ (pos (2 ^ 62)) ≤ℤ (c.args.factor *ℤ n)) (sym number)
+    (short_low c.args.factor t.1 c.requires.low c.requires.high fits_number))
 
 pub add_small-requires-clause-high : goal.add_small-requires-clause-high
 add_small-requires-clause-high c =
@@ -38,7 +39,8 @@ add_small-requires-clause-high c =
     let number = simp to_z-of_z at c.from.ensures in
     let product = short_product c.args.factor t.1 c.requires.low c.requires.high fits_number in
     let fits_product : SFits w64 (c.args.factor *ℤ c.from.result) = subst (λ (n : ℤ). SFits w64 (c.args.factor *ℤ n)) (sym number) product in
-    simp to_z-of_z (subst (λ (n : ℤ). (c.args.factor *ℤ n) ≤ℤ pos (2 ^ 62)) (sym number) (short_high c.args.factor t.1 c.requires.low c.requires.high fits_number))
+    simp to_z-of_z (subst (λ (n : ℤ). (c.args.factor *ℤ n) ≤ℤ pos (2 ^ 62)) (sym number)
+    (short_high c.args.factor t.1 c.requires.low c.requires.high fits_number))
 
 pub loop-i-preserved : goal.loop-i-preserved
 loop-i-preserved c =

@@ -16,5 +16,6 @@ returns c =
     let high = simp to_z-of_z at c.if-sum-ge-MOST_SUM.false in
     let above : neg_ℤ (pos (2 ^ 62)) ≤ℤ get_or before place (pos 0) = omega (arith, ints) in
     let below : get_or before place (pos 0) <ℤ pos (2 ^ 62) = omega (arith, ints) in
-    let fits : SFits w64 (get_or before place (pos 0) +ℤ c.args.number) = small_sum (get_or before place (pos 0)) c.args.number above below c.requires.low c.requires.high in
+    let fits : SFits w64 (get_or before place (pos 0) +ℤ c.args.number) =
+    small_sum (get_or before place (pos 0)) c.args.number above below c.requires.low c.requires.high in
     simp to_z-of_z (more-set before before place c.args.number (λ q. refl) c.if-place-sums.false)

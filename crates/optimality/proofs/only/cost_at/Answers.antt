@@ -8,10 +8,12 @@ use Rattle.optimality.proofs.only.cost_at.Goals as goal
 pub returns-then-value : goal.returns-then-value
 returns-then-value c =
     let fits : SFits w64 c.cost-cost.result = search rules in
-    let at = cost-at c.args.column c.args.program.now.columns c.args.values.now c.cost-cost.result c.value-value.result c.cost-cost.ensures c.value-value.ensures in
+    let at = cost-at c.args.column c.args.program.now.columns c.args.values.now c.cost-cost.result c.value-value.result c.cost-cost.ensures
+    c.value-value.ensures in
     simp to_z-of_z (rw (add-one, at, c.if-value.true) refl)
 
 pub returns-else-value : goal.returns-else-value
 returns-else-value c =
-    let at = cost-at c.args.column c.args.program.now.columns c.args.values.now c.cost-cost.result c.value-value.result c.cost-cost.ensures c.value-value.ensures in
+    let at = cost-at c.args.column c.args.program.now.columns c.args.values.now c.cost-cost.result c.value-value.result c.cost-cost.ensures
+    c.value-value.ensures in
     rw (add-one, at, c.if-value.false) refl

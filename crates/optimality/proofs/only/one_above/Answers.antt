@@ -15,4 +15,5 @@ overflow_add-sum c =
     let small = abs-within c.cost_at.result fits in
     let room : c.column_count-column-end.result < 2 ^ 64 = search rules in
     let cost : unsigned_abs c.from-sum.result ≤ 2 ^ 63 = rw number small in
-    simp to_z-of_z (sum-room (to_z w128 c.loop-column.sum-bits) c.from-sum.result c.loop-column.column c.column_count-column-end.result c.loop-column.invariant.1 cost c.loop-column-test.true room)
+    simp to_z-of_z (sum-room (to_z w128 c.loop-column.sum-bits) c.from-sum.result c.loop-column.column c.column_count-column-end.result
+    c.loop-column.invariant.1 cost c.loop-column-test.true room)

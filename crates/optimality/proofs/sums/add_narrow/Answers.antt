@@ -14,7 +14,8 @@ loop-i-preserved c =
     let fits_number : SFits w64 (get_or c.args.form.now c.loop-i.i (0, pos 0)).1 = search rules in
     let added = simp to_z-of_z at c.in_ok-add_product.ensures.value in
     let before = simp to_z-of_z at c.loop-i.invariant in
-    simp to_z-of_z (form-step c.args.factor c.args.form.now c.loop-i.i (0, pos 0) c.args.sums.now.numbers.items c.loop-i.sums.numbers.items c.add_product.new.sums.numbers.items c.loop-i-test.true added before)
+    simp to_z-of_z (form-step c.args.factor c.args.form.now c.loop-i.i (0, pos 0) c.args.sums.now.numbers.items c.loop-i.sums.numbers.items
+    c.add_product.new.sums.numbers.items c.loop-i-test.true added before)
 
 pub returns-clause-value : goal.returns-clause-value
 returns-clause-value c =
@@ -30,4 +31,9 @@ returns-in_err-add_product-clause-too_large c =
     let fits_number : SFits w64 (get_or c.args.form.now c.loop-i.i (0, pos 0)).1 = search rules in
     let before = simp to_z-of_z at c.loop-i.invariant in
     too-large-passed (Unit {0}) c.from_residual.result c.in_err-add_product.field-0.0 c.from_residual.ensures.1 c.in_err-add_product.ensures.too_large
-    (λ large. (t.0, reach (form-step-within c.args.factor c.args.form.now c.loop-i.i (0, pos 0) t.0 (number_at c.loop-i.sums.numbers.items t.0) (number_at c.args.sums.now.numbers.items t.0) c.loop-i-test.true (before t.0)) (simp to_z-of_z at large)))
+    (λ large. (
+      t.0,
+      reach (form-step-within c.args.factor c.args.form.now c.loop-i.i (0, pos 0) t.0
+          (number_at c.loop-i.sums.numbers.items t.0) (number_at c.args.sums.now.numbers.items t.0) c.loop-i-test.true (before t.0))
+          (simp to_z-of_z at large),
+    ))

@@ -4,4 +4,5 @@ use Rattle.optimality.proofs.sums.add_short_form.Given as goal
 
 -- the sums so far, and what the terms that are left give
 abbrev pub invariant-loop-i : goal.invariant-loop-i
-invariant-loop-i l = (q : ℕ) → number_at l.sums.numbers.items q +ℤ form_given l.factor (drop l.i l.form) q ≡ number_at l.fn.sums.numbers.items q +ℤ form_given l.factor l.form q
+invariant-loop-i l = (q : ℕ) → number_at l.sums.numbers.items q +ℤ form_given l.factor (drop l.i l.form) q
+    ≡ number_at l.fn.sums.numbers.items q +ℤ form_given l.factor l.form q

@@ -20,9 +20,12 @@ loop-i-preserved c =
     let fits_number : SFits w64 (get_or c.args.terms.now c.loop-i.i (0, pos 0)).1 = search rules in
     let number = simp to_z-of_z at c.from.ensures in
     let added = simp to_z-of_z at c.in_ok-add.ensures.value in
-    let more : AreGivenMore (at_place t.0 t.1) c.loop-i.sums.numbers.items c.add.new.self.numbers.items = subst (λ (n : ℤ). AreGivenMore (at_place t.0 n) c.loop-i.sums.numbers.items c.add.new.self.numbers.items) number added in (
-      terms-step c.args.terms.now c.loop-i.i (0, pos 0) c.args.sums.now.numbers.items c.loop-i.sums.numbers.items c.add.new.self.numbers.items c.loop-i-test.true more c.loop-i.invariant.0,
-      λ q. let within = more-within c.loop-i.sums.numbers.items c.add.new.self.numbers.items t more q in let small = abs-within t.1 fits_number in let before = c.loop-i.invariant.1 q in omega arith,
+    let more : AreGivenMore (at_place t.0 t.1) c.loop-i.sums.numbers.items c.add.new.self.numbers.items =
+    subst (λ (n : ℤ). AreGivenMore (at_place t.0 n) c.loop-i.sums.numbers.items c.add.new.self.numbers.items) number added in (
+      terms-step c.args.terms.now c.loop-i.i (0, pos 0) c.args.sums.now.numbers.items c.loop-i.sums.numbers.items
+          c.add.new.self.numbers.items c.loop-i-test.true more c.loop-i.invariant.0,
+      λ q. let within = more-within c.loop-i.sums.numbers.items c.add.new.self.numbers.items t more q in let small =
+          abs-within t.1 fits_number in let before = c.loop-i.invariant.1 q in omega arith,
     )
 
 pub returns-in_err-add-clause-too_large : goal.returns-in_err-add-clause-too_large
@@ -36,4 +39,5 @@ returns-in_err-add-clause-too_large c =
     let room : length c.args.terms.now < 2 ^ 64 = search rules in
     let next : c.loop-i.i < length c.args.terms.now = c.loop-i-test.true in
     too-large-passed (Unit {0}) c.from_residual.result c.in_err-add.field-0.0 c.from_residual.ensures.1 c.in_err-add.ensures.too_large
-    (λ large. let reached = subst (λ (n : ℤ). 2 ^ 127 ≤ unsigned_abs (number_at c.loop-i.sums.numbers.items t.0) + unsigned_abs n) number (simp to_z-of_z at large) in absurd (omega arith))
+    (λ large. let reached = subst (λ (n : ℤ). 2 ^ 127 ≤ unsigned_abs (number_at c.loop-i.sums.numbers.items t.0) + unsigned_abs n) number
+    (simp to_z-of_z at large) in absurd (omega arith))

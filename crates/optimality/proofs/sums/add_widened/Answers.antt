@@ -18,7 +18,8 @@ loop-i-preserved c =
     let number = simp to_z-of_z at c.from.ensures in
     let added = simp to_z-of_z at c.in_ok-add_multiple.ensures.value in
     let before = simp to_z-of_z at c.loop-i.invariant in
-    simp to_z-of_z (form-step c.args.factor c.args.form.now c.loop-i.i (0, pos 0) c.args.sums.now.numbers.items c.loop-i.sums.numbers.items c.add_multiple.new.sums.numbers.items c.loop-i-test.true
+    simp to_z-of_z (form-step c.args.factor c.args.form.now c.loop-i.i (0, pos 0) c.args.sums.now.numbers.items c.loop-i.sums.numbers.items
+    c.add_multiple.new.sums.numbers.items c.loop-i-test.true
     (subst (λ (n : ℤ). AreGivenMore (at_place t.0 (c.args.factor *ℤ n)) c.loop-i.sums.numbers.items c.add_multiple.new.sums.numbers.items) number added) before)
 
 pub returns-clause-value : goal.returns-clause-value
@@ -39,6 +40,8 @@ returns-in_err-add_multiple-clause-too_large c =
     too-large-passed (Unit {0}) c.from_residual.result c.in_err-add_multiple.field-0.0 c.from_residual.ensures.1 c.in_err-add_multiple.ensures.too_large
     (λ large. (
       t.0,
-      reach (form-step-within c.args.factor c.args.form.now c.loop-i.i (0, pos 0) t.0 (number_at c.loop-i.sums.numbers.items t.0) (number_at c.args.sums.now.numbers.items t.0) c.loop-i-test.true (before t.0))
-          (subst (λ (n : ℤ). 2 ^ 126 ≤ unsigned_abs (number_at c.loop-i.sums.numbers.items t.0) + unsigned_abs c.args.factor * unsigned_abs n) number (simp to_z-of_z at large)),
+      reach (form-step-within c.args.factor c.args.form.now c.loop-i.i (0, pos 0) t.0 (number_at c.loop-i.sums.numbers.items t.0)
+          (number_at c.args.sums.now.numbers.items t.0) c.loop-i-test.true (before t.0))
+          (subst (λ (n : ℤ). 2 ^ 126 ≤ unsigned_abs (number_at c.loop-i.sums.numbers.items t.0) + unsigned_abs c.args.factor * unsigned_abs
+          n) number (simp to_z-of_z at large)),
     ))

@@ -14,6 +14,8 @@ loop-place-preserved-in-Continue-1 c =
     let pushed = simp to_z-of_z at c.in_ok-push.ensures.items in
     let all = c.args.sums.now.numbers.items in
     let t : ℕ × ℤ = (c.in-Some.place, c.in-Some.number) in (
-      taken-pushed (number_at all) c.loop-place.form.items c.push.new.self.items t c.loop-place.sums.numbers.items c.take.new.self.numbers.items c.in-Some.ensures.taken pushed c.loop-place.invariant.0,
-      size-pushed (λ (q : ℕ). unsigned_abs (number_at all q)) c.loop-place.form.items c.push.new.self.items t c.loop-place.sums.numbers.items c.take.new.self.numbers.items c.in-Some.ensures.taken pushed c.loop-place.invariant.1,
+      taken-pushed (number_at all) c.loop-place.form.items c.push.new.self.items t c.loop-place.sums.numbers.items
+          c.take.new.self.numbers.items c.in-Some.ensures.taken pushed c.loop-place.invariant.0,
+      size-pushed (λ (q : ℕ). unsigned_abs (number_at all q)) c.loop-place.form.items c.push.new.self.items t
+          c.loop-place.sums.numbers.items c.take.new.self.numbers.items c.in-Some.ensures.taken pushed c.loop-place.invariant.1,
     )

@@ -11,4 +11,5 @@ pub loop-row-preserved : goal.loop-row-preserved
 loop-row-preserved c =
     let named = slice_get-map (λ (r : TableRow). r.name) c.args.program.now.rows c.loop-row.row ∙ c.row_name.ensures in
     let distinct = IsDistinct-tail bytes_eq c.args.program.now.objective (row_names c.args.program.now) c.well_formed-2.ensures.rows_differ in
-    one_more (row_names c.args.program.now) c.loop-row.names.keys c.insert.new.self.keys c.row_name.result c.loop-row.row distinct c.loop-row.invariant named c.in_ok-insert.ensures.keys
+    one_more (row_names c.args.program.now) c.loop-row.names.keys c.insert.new.self.keys c.row_name.result c.loop-row.row distinct
+    c.loop-row.invariant named c.in_ok-insert.ensures.keys

@@ -9,6 +9,8 @@ use Rattle.outcome.proofs.costs.worth_left.Given as goal
 -- with what the other categories leave it is the whole
 abbrev pub invariant-loop-category : goal.invariant-loop-category
 invariant-loop-category l = record {
-  sum_is : l.sum + worth_from (λ category. sum_by (quantity_of (book_of l.book) category) l.choices) l.category (drop l.category l.book.rules.categories) ≡ worth_from (λ category. sum_by (quantity_of (book_of l.book) category) l.choices) 0 l.book.rules.categories;
+  sum_is : l.sum + worth_from (λ category. sum_by (quantity_of (book_of l.book) category) l.choices) l.category
+      (drop l.category l.book.rules.categories) ≡ worth_from (λ category. sum_by (quantity_of (book_of l.book) category) l.choices) 0
+      l.book.rules.categories;
   small : l.sum ≤ l.category * (GREATEST_VALUE * GREATEST_QUANTITY);
 }

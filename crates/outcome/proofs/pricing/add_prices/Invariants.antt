@@ -7,4 +7,5 @@ use Rattle.outcome.proofs.pricing.add_prices.Given as goal
 
 -- the lines so far are added
 abbrev pub invariant-loop-choice : goal.invariant-loop-choice
-invariant-loop-choice g l = Adds g.S.Sink.taken g.S.Sink.failures l.initial.writer l.writer (flat_map (price_line (sale_of l.book) l.prices) (take l.choice-index l.choices))
+invariant-loop-choice g l = Adds g.S.Sink.taken g.S.Sink.failures l.initial.writer l.writer
+    (flat_map (price_line (sale_of l.book) l.prices) (take l.choice-index l.choices))

@@ -6,4 +6,5 @@ use Rattle.outcome.proofs.reading.broken_bound.Given as goal
 
 -- no bound before the column is broken
 abbrev pub invariant-loop-column : goal.invariant-loop-column
-invariant-loop-column l = position_from breaks l.column (zip (drop l.column l.program.columns) (drop l.column l.values)) ≡ position breaks (zip l.program.columns l.values)
+invariant-loop-column l = position_from breaks l.column (zip (drop l.column l.program.columns) (drop l.column l.values))
+    ≡ position breaks (zip l.program.columns l.values)

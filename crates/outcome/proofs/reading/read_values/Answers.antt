@@ -22,7 +22,8 @@ returns c =
     let lines = lines_of c.args.bytes.now in
     let fine : first_fault (solution_line_fault names) [] lines ≡ None = fine_unless _ _ _ c.in_ok-take_solution.ensures.answer in
     let size : length c.take_solution.new.said ≡ c.in_ok-said.said.len = omega (arith, c.take_solution.auto.said, c.deref_mut.ensures.len) in
-    let said : c.deref.result.now ≡ said_by names lines = c.deref.ensures.value ∙ take_at c.take_solution.new.said _ c.in_ok-said.said.len size ∙ c.in_ok-take_solution.ensures.said in
+    let said : c.deref.result.now ≡ said_by names lines =
+    c.deref.ensures.value ∙ take_at c.take_solution.new.said _ c.in_ok-said.said.len size ∙ c.in_ok-take_solution.ensures.said in
     let read : c.new.result ≡ map (is_one lines) names =
     c.new.ensures ∙ c.in_ok-values_from.ensures ∙ ap (map (λ (o : Option Bool). unwrap_or o false)) said ∙ read_off names lines in
     ap (λ (vs : List Bool). Ok vs) read ∙ unless_fine _ _ fine

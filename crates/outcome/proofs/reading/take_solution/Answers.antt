@@ -19,7 +19,8 @@ take_lines-requires-clause-nothing c = c.requires.nothing ∙ ap (λ (names : Li
 pub returns-clause-answer : goal.returns-clause-answer
 returns-clause-answer c =
     let lines = lines_of c.args.bytes.now in
-    answers-parsed is_solution_memory c.take_lines.result _ (c.take_lines.ensures.answer ∙ ap (λ (names : List (List ℕ)). unless (first_fault (solution_line_fault names) [] lines) (Ok tt)) c.in_ok-columns.ensures)
+    answers-parsed is_solution_memory c.take_lines.result _ (c.take_lines.ensures.answer ∙ ap
+    (λ (names : List (List ℕ)). unless (first_fault (solution_line_fault names) [] lines) (Ok tt)) c.in_ok-columns.ensures)
 
 pub returns-clause-said : goal.returns-clause-said
 returns-clause-said c =

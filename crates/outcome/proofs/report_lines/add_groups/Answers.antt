@@ -19,6 +19,7 @@ loop-i-preserved g c =
     let lt : at < length groups = omega (arith, listed, c.requires) in
     let place : at + 1 - 1 ≡ at = omega arith in
     let group : c.group.result.now ≡ get_or groups at [] = c.group.ensures ∙ ap (λ (n : ℕ). get_or groups n []) place in
-    let choices : c.choices.result.now ≡ get_or allocations at [] = c.choices.ensures.choices ∙ c.index-allocations-i.is ∙ get_or_default allocations at c.index-allocations-i.result [] listed in
+    let choices : c.choices.result.now ≡ get_or allocations at [] =
+    c.choices.ensures.choices ∙ c.index-allocations-i.is ∙ get_or_default allocations at c.index-allocations-i.result [] listed in
     let more = more_at book first 1 at (at + 1) groups allocations c.group.result.now c.choices.result.now c.requires lt (omega arith) group choices in
     Adds-to (Adds-then {xs = in_turn (group_report book first) 1 (zip (take at groups) (take at allocations))} c.loop-i.invariant c.add_group.ensures) more

@@ -9,4 +9,5 @@ loop-bidder-preserved g c =
     let at = c.loop-bidder.bidder-index in
     let all = c.args.bidders.now in
     let lt : at < length all = omega arith in
-    Adds-to (Adds-then c.loop-bidder.invariant c.add_further.ensures) (flat_map-next_or (λ further. 43 ∷ bidder_name (sale_of c.args.book.now).names further) all at 0 lt)
+    Adds-to (Adds-then c.loop-bidder.invariant c.add_further.ensures)
+    (flat_map-next_or (λ further. 43 ∷ bidder_name (sale_of c.args.book.now).names further) all at 0 lt)

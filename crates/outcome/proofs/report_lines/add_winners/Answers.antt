@@ -10,4 +10,5 @@ loop-choice-preserved g c =
     let at = c.loop-choice.choice-index in
     let all = c.args.choices.now in
     let lt : at < length all = omega arith in
-    Adds-to (Adds-then c.loop-choice.invariant c.add_winner.ensures) (flat_map-next_or (winner_line (sale_of c.args.book.now)) all at (record { bidder = 0; bid = 0 }) lt)
+    Adds-to (Adds-then c.loop-choice.invariant c.add_winner.ensures)
+    (flat_map-next_or (winner_line (sale_of c.args.book.now)) all at (record { bidder = 0; bid = 0 }) lt)

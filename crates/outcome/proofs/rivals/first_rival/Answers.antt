@@ -22,8 +22,10 @@ returns-in-Some c =
     let book = book_of c.args.book.now in
     let a = c.args.choices.now in
     let at = c.loop-winner.winner-index in
-    let next = rivals_at lots book (sized lots book c.taken-taken.ensures.book) a c.requires at _ c.taken-taken.result c.rival_of.result c.loop-winner-test.true c.taken-taken.ensures.loads c.rival_of.ensures in
-    sym (c.loop-winner.invariant ∙ next ∙ ap (λ (o : Option Choice). option_or o (rivals_from lots book (sized lots book c.taken-taken.ensures.book) a c.requires (at + 1))) c.in-Some.is)
+    let next = rivals_at lots book (sized lots book c.taken-taken.ensures.book) a c.requires at _ c.taken-taken.result c.rival_of.result
+    c.loop-winner-test.true c.taken-taken.ensures.loads c.rival_of.ensures in
+    sym (c.loop-winner.invariant ∙ next ∙ ap (λ (o : Option Choice). option_or o
+    (rivals_from lots book (sized lots book c.taken-taken.ensures.book) a c.requires (at + 1))) c.in-Some.is)
 
 pub loop-winner-preserved : goal.loop-winner-preserved
 loop-winner-preserved c =
@@ -31,5 +33,7 @@ loop-winner-preserved c =
     let book = book_of c.args.book.now in
     let a = c.args.choices.now in
     let at = c.loop-winner.winner-index in
-    let next = rivals_at lots book (sized lots book c.taken-taken.ensures.book) a c.requires at _ c.taken-taken.result c.rival_of.result c.loop-winner-test.true c.taken-taken.ensures.loads c.rival_of.ensures in
-    c.loop-winner.invariant ∙ next ∙ ap (λ (o : Option Choice). option_or o (rivals_from lots book (sized lots book c.taken-taken.ensures.book) a c.requires (at + 1))) c.in_default.is
+    let next = rivals_at lots book (sized lots book c.taken-taken.ensures.book) a c.requires at _ c.taken-taken.result c.rival_of.result
+    c.loop-winner-test.true c.taken-taken.ensures.loads c.rival_of.ensures in
+    c.loop-winner.invariant ∙ next ∙ ap (λ (o : Option Choice). option_or o
+    (rivals_from lots book (sized lots book c.taken-taken.ensures.book) a c.requires (at + 1))) c.in_default.is

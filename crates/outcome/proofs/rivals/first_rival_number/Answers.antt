@@ -23,9 +23,12 @@ returns c =
     let lots = lots_in c.args.book.now.rules in
     let at : c.args.own ≡ (c.from.result - 1) + 1 = omega (arith, c.from.ensures, c.if-own-eq0.false) in
     let suc_at : c.args.own ≡ suc (c.from.result - 1) = omega arith in
-    let found : bid_at form c.args.own ≡ Some c.in_ok-won.won.now = ap (λ (n : ℕ). bid_at form n) suc_at ∙ slice_get_read form (length form) (c.from.result - 1) c.in_ok-won.won.now refl c.in_ok-won.ensures.lookup.3.0 c.in_ok-won.ensures.lookup.1 in
+    let found : bid_at form c.args.own ≡ Some c.in_ok-won.won.now = ap (λ (n : ℕ). bid_at form n) suc_at
+    ∙ slice_get_read form (length form) (c.from.result - 1) c.in_ok-won.won.now refl c.in_ok-won.ensures.lookup.3.0
+    c.in_ok-won.ensures.lookup.1 in
     let fits : SFits w64 c.net.result = search rules in
-    let net_is : c.net.result ≡ net lots c.in_ok-won.won.now = c.net.ensures.net ∙ ap (λ (t : Terms). net (lots_in t) c.in_ok-won.won.now) c.rules.ensures.rules in
+    let net_is : c.net.result ≡ net lots c.in_ok-won.won.now =
+    c.net.ensures.net ∙ ap (λ (t : Terms). net (lots_in t) c.in_ok-won.won.now) c.rules.ensures.rules in
     c.first_suiting.ensures
     ∙ ap₂ (λ (z : ℤ) (q : List ℕ). first_suiting lots form c.args.own z q) (to_z-of_z w64 c.net.result fits ∙ net_is) c.without-others.ensures
     ∙ sym (ap (λ (o : Option Bid). option_map_or (λ x. first_suiting lots form c.args.own (net lots x) (left c.args.taken.now x.package)) o None) found)

@@ -9,7 +9,8 @@ use Rattle.outcome.proofs.rivals.first_suiting.Goals.{else-number-own-via-then-n
 pub returns-then-suits : goal.returns-then-suits
 returns-then-suits c =
     let lots = lots_in c.args.book.now.rules in
-    sym (suiting_here lots c.args.bids.now c.args.own _ c.args.others.now c.loop-place.place c.index-bids-place.result c.loop-place-test.true c.if-number-own.true c.index-bids-place.is c.if-suits.ensures)
+    sym (suiting_here lots c.args.bids.now c.args.own _ c.args.others.now c.loop-place.place c.index-bids-place.result
+    c.loop-place-test.true c.if-number-own.true c.index-bids-place.is c.if-suits.ensures)
     ∙ sym c.loop-place.invariant
     ∙ ap (λ (net : ℤ). first_suiting lots c.args.bids.now c.args.own net c.args.others.now) (to_z-of_z w64 c.args.net c.ranges.net)
 
@@ -17,6 +18,8 @@ pub loop-place-preserved : goal.loop-place-preserved
 loop-place-preserved c =
     let lots = lots_in c.args.book.now.rules in
     c.loop-place.invariant ∙ elim c.else-number-own.branch [
-      | else-number-own-via-then-number-own+else-suits w ↦ suiting_later lots c.args.bids.now c.args.own _ c.args.others.now c.loop-place.place w.index-bids-place.result c.loop-place-test.true w.if-number-own.true w.index-bids-place.is w.if-suits.ensures
-      | else-number-own-via-else-number-own w ↦ own_skipped lots c.args.bids.now c.args.own _ c.args.others.now c.loop-place.place c.loop-place-test.true w.if-number-own.false
+      | else-number-own-via-then-number-own+else-suits w ↦ suiting_later lots c.args.bids.now c.args.own _ c.args.others.now
+          c.loop-place.place w.index-bids-place.result c.loop-place-test.true w.if-number-own.true w.index-bids-place.is w.if-suits.ensures
+      | else-number-own-via-else-number-own w ↦ own_skipped lots c.args.bids.now c.args.own _ c.args.others.now c.loop-place.place
+          c.loop-place-test.true w.if-number-own.false
     ]

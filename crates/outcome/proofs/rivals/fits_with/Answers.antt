@@ -12,4 +12,5 @@ fits-requires c =
     omega (arith, ap length c.in-Some.ensures)
 
 pub returns-in-None : goal.returns-in-None
-returns-in-None c = sym (large-fails (lots_in c.args.book.now.rules) (both_packages c.args.others.now c.args.own.now) c.rules-rules.ensures.lots.supplies c.in-None.ensures)
+returns-in-None c = sym (large-fails (lots_in c.args.book.now.rules) (both_packages c.args.others.now c.args.own.now)
+    c.rules-rules.ensures.lots.supplies c.in-None.ensures)

@@ -20,7 +20,8 @@ overflow_cast-lots_taken c =
     let book = c.args.book.now in
     let lots : Lots = lots_in book.rules in
     let place = c.loop-category.category in
-    let count = counted book.rules.categories c.categories-category-end.result.now (c.categories-category-end.ensures.value ∙ ap (λ (t : Terms). t.categories) c.rules.ensures.rules) in
+    let count = counted book.rules.categories c.categories-category-end.result.now
+    (c.categories-category-end.ensures.value ∙ ap (λ (t : Terms). t.categories) c.rules.ensures.rules) in
     let within : place < length lots.supply = omega (arith, c.loop-category-test.true) in
     let most = feasible_at lots (book_of book) _ c.args.choices.now c.requires place within in
     let small = small-at lots.supply place c.rules.ensures.lots.supplies in
@@ -47,10 +48,12 @@ pub of-requires : goal.of-requires
 of-requires c =
     let book = c.args.book.now in
     let lots : Lots = lots_in book.rules in
-    let count = counted book.rules.categories c.categories-category-end.result.now (c.categories-category-end.ensures.value ∙ ap (λ (t : Terms). t.categories) c.rules.ensures.rules) in
+    let count = counted book.rules.categories c.categories-category-end.result.now
+    (c.categories-category-end.ensures.value ∙ ap (λ (t : Terms). t.categories) c.rules.ensures.rules) in
     let ended : c.loop-category.category ≡ length lots.supply = omega (arith, c.loop-category-test.false, c.loop-category.auto.category-end) in
     let f = λ (category : ℕ). sum_by (quantity_of (book_of book) category) c.args.choices.now in
-    let whole : c.loop-category.lots.items ≡ loads lots (book_of book) c.args.choices.now = c.loop-category.invariant ∙ ap (λ (n : ℕ). map f (range_with_len 0 n)) ended in
+    let whole : c.loop-category.lots.items ≡ loads lots (book_of book) c.args.choices.now =
+    c.loop-category.invariant ∙ ap (λ (n : ℕ). map f (range_with_len 0 n)) ended in
     let size = loads_length lots (book_of book) c.args.choices.now in
     let few = c.rules.ensures.lots.categories in
     let some = c.categories-category-end.ensures.terms.some_category in
@@ -59,6 +62,7 @@ of-requires c =
     let is : IsPackage (loads lots (book_of book) c.args.choices.now) = record {
       some = omega arith;
       few = omega arith;
-      each = small-package (loads lots (book_of book) c.args.choices.now) (small-fits lots (loads lots (book_of book) c.args.choices.now) c.rules.ensures.lots.supplies c.requires.fit);
+      each = small-package (loads lots (book_of book) c.args.choices.now)
+          (small-fits lots (loads lots (book_of book) c.args.choices.now) c.rules.ensures.lots.supplies c.requires.fit);
     } in
     subst IsPackage (sym whole) is

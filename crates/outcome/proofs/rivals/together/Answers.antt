@@ -21,7 +21,8 @@ returns-then-from-gt-GREATEST_QUANTITY c =
     let p = c.quantities-theirs.result.now in
     let q = c.quantities-ours.result.now in
     let at = c.loop-place.place in
-    let same : length p ≡ length q = omega (arith, c.requires, ap length c.quantities-theirs.ensures.quantities, ap length c.quantities-ours.ensures.quantities) in
+    let same : length p ≡ length q =
+    omega (arith, c.requires, ap length c.quantities-theirs.ensures.quantities, ap length c.quantities-ours.ensures.quantities) in
     let within : at < length p = c.loop-place-test.true in
     let size = both-length p q same in
     let here = both-at p q at within same in
@@ -34,7 +35,8 @@ loop-place-preserved c =
     let p = c.quantities-theirs.result.now in
     let q = c.quantities-ours.result.now in
     let at = c.loop-place.place in
-    let same : length p ≡ length q = omega (arith, c.requires, ap length c.quantities-theirs.ensures.quantities, ap length c.quantities-ours.ensures.quantities) in
+    let same : length p ≡ length q =
+    omega (arith, c.requires, ap length c.quantities-theirs.ensures.quantities, ap length c.quantities-ours.ensures.quantities) in
     let within : at < length p = c.loop-place-test.true in
     let size = both-length p q same in
     let here = both-at p q at within same in
@@ -44,7 +46,8 @@ loop-place-preserved c =
           ∙ ap₂ (λ (xs : List ℕ) (n : ℕ). xs ++ n ∷ []) c.loop-place.invariant.lots_are (sym here)
           ∙ sym (take_more (both_packages p q) at 0 (omega arith));
       small = list_all_more is_small (both_packages p q) at 0 (omega arith)
-          ∙ and_from (are_small (take at (both_packages p q))) (is_small (get_or (both_packages p q) at 0)) c.loop-place.invariant.small (le-leb (get_or (both_packages p q) at 0) GREATEST_QUANTITY low);
+          ∙ and_from (are_small (take at (both_packages p q))) (is_small (get_or (both_packages p q) at 0)) c.loop-place.invariant.small
+          (le-leb (get_or (both_packages p q) at 0) GREATEST_QUANTITY low);
     }
 
 whole : (p q : List ℕ) (n : ℕ) → length p ≡ length q → length p ≤ n → take n (both_packages p q) ≡ both_packages p q
@@ -54,15 +57,18 @@ pub of-requires : goal.of-requires
 of-requires c =
     let p = c.quantities-theirs.result.now in
     let q = c.quantities-ours.result.now in
-    let same : length p ≡ length q = omega (arith, c.requires, ap length c.quantities-theirs.ensures.quantities, ap length c.quantities-ours.ensures.quantities) in
+    let same : length p ≡ length q =
+    omega (arith, c.requires, ap length c.quantities-theirs.ensures.quantities, ap length c.quantities-ours.ensures.quantities) in
     let all = whole p q c.loop-place.place same c.loop-place-test.false in
     subst IsPackage (sym (c.loop-place.invariant.lots_are ∙ all))
-    (package-both p q same (subst IsPackage (sym c.quantities-theirs.ensures.quantities) c.quantities-theirs.ensures.package) (ap (λ (xs : List ℕ). are_small xs) (sym all) ∙ c.loop-place.invariant.small))
+    (package-both p q same (subst IsPackage (sym c.quantities-theirs.ensures.quantities) c.quantities-theirs.ensures.package)
+    (ap (λ (xs : List ℕ). are_small xs) (sym all) ∙ c.loop-place.invariant.small))
 
 pub returns : goal.returns
 returns c =
     let p = c.quantities-theirs.result.now in
     let q = c.quantities-ours.result.now in
-    let same : length p ≡ length q = omega (arith, c.requires, ap length c.quantities-theirs.ensures.quantities, ap length c.quantities-ours.ensures.quantities) in
+    let same : length p ≡ length q =
+    omega (arith, c.requires, ap length c.quantities-theirs.ensures.quantities, ap length c.quantities-ours.ensures.quantities) in
     c.of.ensures ∙ c.loop-place.invariant.lots_are ∙ whole p q c.loop-place.place same c.loop-place-test.false
     ∙ ap₂ (λ (x y : List ℕ). both_packages x y) c.quantities-theirs.ensures.quantities c.quantities-ours.ensures.quantities

@@ -25,7 +25,8 @@ of-requires c =
     let p = c.quantities-all.result.now in
     let q = c.quantities-part.result.now in
     let all = whole p q c.loop-place.place c.loop-place-test.false in
-    subst IsPackage (sym (c.loop-place.invariant ∙ all)) (package-left p q (subst IsPackage (sym c.quantities-all.ensures.quantities) c.quantities-all.ensures.package))
+    subst IsPackage (sym (c.loop-place.invariant ∙ all)) (package-left p q
+    (subst IsPackage (sym c.quantities-all.ensures.quantities) c.quantities-all.ensures.package))
 
 pub returns : goal.returns
 returns c =

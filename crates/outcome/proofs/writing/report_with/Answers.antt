@@ -6,4 +6,5 @@ pub returns-clause-err : goal.returns-clause-err
 returns-clause-err g c = tells-front _ c.flush.result c.new-writer.ensures c.add_report_with.ensures c.flush.ensures.adds c.flush.ensures.err (search rules)
 
 pub returns-clause-succeeded : goal.returns-clause-succeeded
-returns-clause-succeeded g c = tells-quiet _ c.flush.result c.new-writer.ensures c.add_report_with.ensures c.flush.ensures.adds c.flush.ensures.ok (search rules)
+returns-clause-succeeded g c =
+    tells-quiet _ c.flush.result c.new-writer.ensures c.add_report_with.ensures c.flush.ensures.adds c.flush.ensures.ok (search rules)

@@ -14,11 +14,14 @@ loop-place-init c = refl
 pub loop-place-preserved : goal.loop-place-preserved
 loop-place-preserved c =
     let book = book_of c.args.book.now in
-    let bidders : length c.bidders.result.now ≡ length book = length_book c.args.book.now c.rules.result.now c.bidders.result.now c.bidders.ensures.value c.rules.ensures.rules in
+    let bidders : length c.bidders.result.now ≡ length book =
+    length_book c.args.book.now c.rules.result.now c.bidders.result.now c.bidders.ensures.value c.rules.ensures.rules in
     let within : c.loop-place.place < length book = (let l = c.loop-place-test.true in omega arith) in
     let next = next_form book c.loop-place.place within in
-    let here : sum_by (λ (form : List Bid). length form) (drop c.loop-place.place book) ≡ length (form_of book (c.loop-place.place + 1)) + sum_by (λ (form : List Bid). length form) (drop (c.loop-place.place + 1) book) =
-    ap (sum_by (λ (form : List Bid). length form)) next ∙ sum_by-cons (λ (form : List Bid). length form) (form_of book (c.loop-place.place + 1)) (drop (c.loop-place.place + 1) book) in
+    let here : sum_by (λ (form : List Bid). length form) (drop c.loop-place.place book)
+    ≡ length (form_of book (c.loop-place.place + 1)) + sum_by (λ (form : List Bid). length form) (drop (c.loop-place.place + 1) book) =
+    ap (sum_by (λ (form : List Bid). length form)) next ∙ sum_by-cons (λ (form : List Bid). length form)
+    (form_of book (c.loop-place.place + 1)) (drop (c.loop-place.place + 1) book) in
     let count = c.bid_count.ensures in
     let sub = c.saturating_sub-left.ensures in
     let so_far = c.loop-place.invariant in
@@ -27,8 +30,10 @@ loop-place-preserved c =
 pub returns : goal.returns
 returns c =
     let book = book_of c.args.book.now in
-    let bidders : length c.bidders.result.now ≡ length book = length_book c.args.book.now c.rules.result.now c.bidders.result.now c.bidders.ensures.value c.rules.ensures.rules in
+    let bidders : length c.bidders.result.now ≡ length book =
+    length_book c.args.book.now c.rules.result.now c.bidders.result.now c.bidders.ensures.value c.rules.ensures.rules in
     let over : length book ≤ c.loop-place.place = (let l = c.loop-place-test.false in omega arith) in
-    let none : sum_by (λ (form : List Bid). length form) (drop c.loop-place.place book) ≡ 0 = ap (sum_by (λ (form : List Bid). length form)) (drop_all c.loop-place.place book over) in
+    let none : sum_by (λ (form : List Bid). length form) (drop c.loop-place.place book) ≡ 0 =
+    ap (sum_by (λ (form : List Bid). length form)) (drop_all c.loop-place.place book over) in
     let so_far = c.loop-place.invariant in
     grind (arith, nat_tests)

@@ -14,7 +14,8 @@ use Rattle.presolve.proofs.flags.flags_of_form.Goals.{then-is_kept_beside, else-
 
 pub sieves-requires-clause-sized : goal.sieves-requires-clause-sized
 sieves-requires-clause-sized c =
-    let rivals = are_rivals (lots_in c.args.rules.now) (length c.args.rules.now.categories) c.args.bids.now c.in_ok-rivals.rivals.items c.requires.sized c.in_ok-rivals.ensures in
+    let rivals = are_rivals (lots_in c.args.rules.now) (length c.args.rules.now.categories) c.args.bids.now c.in_ok-rivals.rivals.items
+    c.requires.sized c.in_ok-rivals.ensures in
     rw (c.deref.ensures.value, c.categories.ensures.value) rivals.sized
 
 pub sieves-requires-clause-many : goal.sieves-requires-clause-many
@@ -30,7 +31,8 @@ is_kept_beside-requires-clause-rivals c =
     let rivals = are_rivals (lots_in c.args.rules.now) n c.args.bids.now items c.requires.sized c.in_ok-rivals.ensures in
     let at : c.rival-item.result ≡ slice_index_or items c.loop-place.place c.rival-item.result = rw c.deref-rival-items.ensures.value at c.rival-item.is in
     let small : c.loop-place.place < length items = rw c.deref-rival-items.ensures.value at c.loop-place-test.true in
-    let size : length c.rival-item.result.bid.now.package ≡ n = subst (λ (s : SizedBid). length s.bid.now.package ≡ n) (sym at) (rivals.sized c.loop-place.place c.rival-item.result small) in
+    let size : length c.rival-item.result.bid.now.package ≡ n =
+    subst (λ (s : SizedBid). length s.bid.now.package ≡ n) (sym at) (rivals.sized c.loop-place.place c.rival-item.result small) in
     rw (size, c.deref-in-loop-place.ensures.value) rivals
 
 pub is_kept_beside-requires-clause-sieves : goal.is_kept_beside-requires-clause-sieves
@@ -46,23 +48,27 @@ is_kept_beside-requires-clause-many c =
 
 pub overflow_sub-from : goal.overflow_sub-from
 overflow_sub-from c =
-    let numbers = is_numbered (lots_in c.args.rules.now) c.args.bids.now c.in_ok-rivals.rivals.items c.in_ok-rivals.ensures c.loop-place.place c.rival-item.result
+    let numbers = is_numbered (lots_in c.args.rules.now) c.args.bids.now c.in_ok-rivals.rivals.items c.in_ok-rivals.ensures
+    c.loop-place.place c.rival-item.result
     (rw c.deref-rival-items.ensures.value at c.loop-place-test.true) (rw c.deref-rival-items.ensures.value at c.rival-item.is) in
     rw c.from.ensures numbers.0
 
 pub index_mut-requires : goal.index_mut-requires
 index_mut-requires c =
-    let numbers = is_numbered (lots_in c.args.rules.now) c.args.bids.now c.in_ok-rivals.rivals.items c.in_ok-rivals.ensures c.loop-place.place c.rival-item.result
+    let numbers = is_numbered (lots_in c.args.rules.now) c.args.bids.now c.in_ok-rivals.rivals.items c.in_ok-rivals.ensures
+    c.loop-place.place c.rival-item.result
     (rw c.deref-rival-items.ensures.value at c.loop-place-test.true) (rw c.deref-rival-items.ensures.value at c.rival-item.is) in
     omega (arith, numbers.0, numbers.1, c.from.ensures, c.loop-place.invariant.count)
 
 -- a bid that fits is beside the others as it is in the form
-stands_beside : (lots : Lots) (form : List Bid) (items : List SizedBid) (k : ℕ) (x : SizedBid) → IsOrdered lots form items → k < length items → x ≡ slice_index_or items k x
+stands_beside : (lots : Lots) (form : List Bid) (items : List SizedBid) (k : ℕ) (x : SizedBid) → IsOrdered lots form items
+    → k < length items → x ≡ slice_index_or items k x
     → (int_le (pos 0) x.net && not (list_any (beats x) items)) ≡ stands lots form x.bid.now
 stands_beside lots form items k x o within is =
     let mine : TellsItsNet lots x = subst (TellsItsNet lots) (sym is) (o.nets k x within) in
     let reported : TellsItsSize x = subst TellsItsSize (sym is) (o.reported k x within) in
-    let fit : fits lots x.bid.now.package ≡ true = subst (λ (s : SizedBid). fits lots s.bid.now.package ≡ true) (sym is) (all_fit lots form items o k x within) in
+    let fit : fits lots x.bid.now.package ≡ true =
+    subst (λ (s : SizedBid). fits lots s.bid.now.package ≡ true) (sym is) (all_fit lots form items o k x within) in
     ap₂ (λ (z : ℤ) (b : Bool). int_le (pos 0) z && not b) mine (rivals_suffice lots form items x o reported mine fit)
 
 pub loop-place-preserved : goal.loop-place-preserved
@@ -77,7 +83,8 @@ loop-place-preserved c =
     let small : idx < length items = rw c.deref-rival-items.ensures.value at c.loop-place-test.true in
     let numbers = is_numbered lots bids items c.in_ok-rivals.ensures idx rival small at in
     let answer : c.is_kept_beside.result ≡ test rival.bid.now =
-    c.is_kept_beside.ensures ∙ ap (λ (beside : List SizedBid). int_le (pos 0) rival.net && not (list_any (beats rival) beside)) c.deref-in-loop-place.ensures.value
+    c.is_kept_beside.ensures ∙ ap (λ (beside : List SizedBid). int_le (pos 0) rival.net && not (list_any (beats rival) beside))
+    c.deref-in-loop-place.ensures.value
     ∙ stands_beside lots bids items idx rival c.in_ok-rivals.ensures small at in
     record {
       count = elim c.if-is_kept_beside.branch [
@@ -87,8 +94,10 @@ loop-place-preserved c =
       each = λ i in_form. (let h = c.loop-place.invariant.each i in_form in
           elim c.if-is_kept_beside.branch [
             | then-is_kept_beside w ↦ (let passed : test rival.bid.now ≡ true = sym answer ∙ w.if-is_kept_beside.true in
-                let within' : rival.number < 1 + length c.loop-place.flags.items = subst (λ (n : ℕ). rival.number < 1 + n) (sym c.loop-place.invariant.count) numbers.1 in
-                rw (w.flags-is, w.from.ensures) (after_passing test i c.deref-rival-items.result.now idx rival c.loop-place.flags.items _ c.loop-place-test.true c.rival-item.is passed numbers.0 within' h))
+                let within' : rival.number < 1 + length c.loop-place.flags.items =
+                subst (λ (n : ℕ). rival.number < 1 + n) (sym c.loop-place.invariant.count) numbers.1 in
+                rw (w.flags-is, w.from.ensures) (after_passing test i c.deref-rival-items.result.now idx rival c.loop-place.flags.items _
+                c.loop-place-test.true c.rival-item.is passed numbers.0 within' h))
             | else-is_kept_beside w ↦ (let failed : test rival.bid.now ≡ false = sym answer ∙ w.if-is_kept_beside.false in
                 rw w.flags-is (after_failing test (1 + i) c.deref-rival-items.result.now idx rival _ _ c.loop-place-test.true c.rival-item.is failed h))
           ]);
@@ -99,5 +108,7 @@ returns c =
     let lots = lots_in c.args.rules.now in
     let bids = c.args.bids.now in
     let items = c.in_ok-rivals.rivals.items in
-    flags_by_number lots (stands lots bids) bids items c.loop-place.flags.items c.in_ok-rivals.ensures c.loop-place.invariant.count (λ i small. (let h = rw c.deref-rival-items.ensures.value at (c.loop-place.invariant.each i small) in none_left_over _ (1 + i) items c.loop-place.place _ _ (let e = rw c.deref-rival-items.ensures.value at c.loop-place-test.false in omega arith) h))
+    flags_by_number lots (stands lots bids) bids items c.loop-place.flags.items c.in_ok-rivals.ensures c.loop-place.invariant.count
+    (λ i small. (let h = rw c.deref-rival-items.ensures.value at (c.loop-place.invariant.each i small) in none_left_over _ (1 + i) items
+    c.loop-place.place _ _ (let e = rw c.deref-rival-items.ensures.value at c.loop-place-test.false in omega arith) h))
     ∙ all_kept lots bids bids

@@ -9,5 +9,6 @@ use Rattle.presolve.proofs.flags.flags_of_form.Given as goal
 abbrev pub invariant-loop-place : goal.invariant-loop-place
 invariant-loop-place l = record {
   count : length l.flags.items ≡ length l.bids;
-  each : (i : ℕ) → i < length l.bids → (slice_index_or l.flags.items i false || list_any (passes (stands (lots_in l.rules) l.bids) (1 + i)) (drop l.place l.rival-items)) ≡ list_any (passes (stands (lots_in l.rules) l.bids) (1 + i)) l.rival-items;
+  each : (i : ℕ) → i < length l.bids → (slice_index_or l.flags.items i false || list_any (passes (stands (lots_in l.rules) l.bids) (1 + i))
+      (drop l.place l.rival-items)) ≡ list_any (passes (stands (lots_in l.rules) l.bids) (1 + i)) l.rival-items;
 }

@@ -11,7 +11,9 @@ use Rattle.presolve.proofs.keeping.keep_bidder.Goals as goal
 pub returns-then-has-clause-added : goal.returns-then-has-clause-added
 returns-then-has-clause-added c =
     let book = book_of c.args.book.now in
-    sym (ap (λ (os : List Offer). offers c.args.kept.now.items ++ os) (none_inside (lots_in c.args.book.now.rules) book (has c.args.group.now) c.args.bidder 1 (form_of book c.args.bidder) (sym c.has.ensures.member ∙ c.if-has.true)) ∙ append-nil (offers c.args.kept.now.items))
+    sym (ap (λ (os : List Offer). offers c.args.kept.now.items ++ os)
+    (none_inside (lots_in c.args.book.now.rules) book (has c.args.group.now) c.args.bidder 1 (form_of book c.args.bidder)
+    (sym c.has.ensures.member ∙ c.if-has.true)) ∙ append-nil (offers c.args.kept.now.items))
 
 pub returns-clause-added : goal.returns-clause-added
 returns-clause-added c =

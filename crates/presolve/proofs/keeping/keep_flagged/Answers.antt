@@ -18,7 +18,8 @@ loop-place-preserved c =
       | then-flags-place+in_ok-push w ↦
           record {
             so_far = rw (w.kept-is, w.in_ok-push.ensures.items)
-                (flagged_more c.args.bidder before.place bids flags x _ before.kept.items _ c.loop-place-test.true long c.index-bids-place.is w.if-flags-place.true refl before.invariant.so_far);
+                (flagged_more c.args.bidder before.place bids flags x _ before.kept.items _ c.loop-place-test.true long
+                c.index-bids-place.is w.if-flags-place.true refl before.invariant.so_far);
             each = rw (w.kept-is, w.in_ok-push.ensures.items) (All-push IsKeptBid before.kept.items _ before.invariant.each record {
               some_bidder = c.requires.some;
               bidders = c.requires.bidders;
@@ -31,7 +32,8 @@ loop-place-preserved c =
           }
       | else-flags-place w ↦
           record {
-            so_far = rw w.kept-is (flagged_less c.args.bidder before.place bids flags x before.kept.items _ c.loop-place-test.true long c.index-bids-place.is w.if-flags-place.false before.invariant.so_far);
+            so_far = rw w.kept-is (flagged_less c.args.bidder before.place bids flags x before.kept.items _ c.loop-place-test.true long
+                c.index-bids-place.is w.if-flags-place.false before.invariant.so_far);
             each = rw w.kept-is before.invariant.each;
           }
     ]

@@ -14,5 +14,7 @@ returns-in-Some-clause-added c =
     let b = c.args.bidder in
     let form = form_of (book_of c.args.book.now) b in
     let bids : c.bids.result.now ≡ form = c.bids.ensures.bids ∙ c.in-Some.ensures.bids in
-    let own = ap₂ (λ (xs : List Bid) (flags : List Bool). flagged_from b 1 xs flags) bids c.requires.flags ∙ by_flags (lots_in c.args.book.now.rules) form b 1 form in
-    subst (λ (os : List Offer). OnOk c.keep_flagged.result (offers c.keep_flagged.new.kept.items ≡ offers c.args.kept.now.items ++ os)) own c.keep_flagged.ensures.added
+    let own = ap₂ (λ (xs : List Bid) (flags : List Bool). flagged_from b 1 xs flags) bids c.requires.flags
+    ∙ by_flags (lots_in c.args.book.now.rules) form b 1 form in
+    subst (λ (os : List Offer). OnOk c.keep_flagged.result (offers c.keep_flagged.new.kept.items ≡ offers c.args.kept.now.items ++ os)) own
+    c.keep_flagged.ensures.added

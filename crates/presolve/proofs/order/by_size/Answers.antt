@@ -11,5 +11,6 @@ returns c =
     let lots = lots_in c.args.rules.now in
     let items = c.in_ok-ordered.ordered.items in
     let order = subst (λ (form : List Bid). IsOrdered lots form items) c.bids.ensures.bids c.in_ok-ordered.ensures in
-    let numbers = whole items c.deref-bid-items.result.now c.loop-bid.bid-index c.loop-bid.numbers.items c.deref-bid-items.ensures.value c.loop-bid-test.false c.loop-bid.invariant.own in
+    let numbers = whole items c.deref-bid-items.result.now c.loop-bid.bid-index c.loop-bid.numbers.items c.deref-bid-items.ensures.value
+    c.loop-bid-test.false c.loop-bid.invariant.own in
     subst (λ (ns : List ℕ). IsBySize lots c.args.form.now.bids ns) (sym numbers) (is_by_size lots c.args.form.now.bids items order)

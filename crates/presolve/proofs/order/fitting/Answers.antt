@@ -14,13 +14,16 @@ loop-place-preserved c =
     elim c.if-fits.branch [
       | then-fits+in_ok-push w ↦
           rw (w.fitting-is, w.in_ok-push.ensures.items) (record {
-            so_far = fitting_more lots bids before.place c.index-bids-place.result w.sized.result before.fitting.items c.loop-place-test.true c.index-bids-place.is (sym c.fits.ensures ∙ w.if-fits.true) w.sized.ensures.same before.invariant.so_far;
+            so_far = fitting_more lots bids before.place c.index-bids-place.result w.sized.result before.fitting.items
+                c.loop-place-test.true c.index-bids-place.is (sym c.fits.ensures ∙ w.if-fits.true) w.sized.ensures.same
+                before.invariant.so_far;
             reported = All-push TellsItsSize before.fitting.items w.sized.result before.invariant.reported w.sized.ensures.reported;
             nets = All-push (TellsItsNet lots) before.fitting.items w.sized.result before.invariant.nets w.sized.ensures.net;
           })
       | else-fits w ↦
           rw w.fitting-is (record {
-            so_far = fitting_less lots bids before.place c.index-bids-place.result before.fitting.items c.loop-place-test.true c.index-bids-place.is (sym c.fits.ensures ∙ w.if-fits.false) before.invariant.so_far;
+            so_far = fitting_less lots bids before.place c.index-bids-place.result before.fitting.items c.loop-place-test.true
+                c.index-bids-place.is (sym c.fits.ensures ∙ w.if-fits.false) before.invariant.so_far;
             reported = before.invariant.reported;
             nets = before.invariant.nets;
           })

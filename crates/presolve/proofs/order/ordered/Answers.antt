@@ -16,8 +16,11 @@ returns c =
       fitting = c.in_ok-ordered.ordered.items;
       same = c.in_ok-ordered.ensures.same;
       moved = sort.permutation;
-      rising = all_pairs (λ (s t : SizedBid). IsUpTo s.size s.number t.size t.number) (λ s t u h k. up_to_trans s.size s.number t.size t.number u.size u.number h k) c.sort_unstable_by_key.new.self.items
+      rising = all_pairs (λ (s t : SizedBid). IsUpTo s.size s.number t.size t.number)
+          (λ s t u h k. up_to_trans s.size s.number t.size t.number u.size u.number h k) c.sort_unstable_by_key.new.self.items
           (λ k d l. up_to _ _ _ _ (rising k d (omega arith) l));
-      reported = All-permutation TellsItsSize c.in_ok-ordered.ordered.items c.sort_unstable_by_key.new.self.items sort.permutation c.in_ok-ordered.ensures.reported;
-      nets = All-permutation (TellsItsNet (lots_in c.args.rules.now)) c.in_ok-ordered.ordered.items c.sort_unstable_by_key.new.self.items sort.permutation c.in_ok-ordered.ensures.nets;
+      reported = All-permutation TellsItsSize c.in_ok-ordered.ordered.items c.sort_unstable_by_key.new.self.items sort.permutation
+          c.in_ok-ordered.ensures.reported;
+      nets = All-permutation (TellsItsNet (lots_in c.args.rules.now)) c.in_ok-ordered.ordered.items c.sort_unstable_by_key.new.self.items
+          sort.permutation c.in_ok-ordered.ensures.nets;
     }

@@ -8,7 +8,8 @@ returns c =
     let sorted = c.args.sorted.now in
     let number = c.args.number in
     let parted = IsPartitionedBy-ltb (λ (n : ℕ). n) sorted number c.requires in
-    let point = IsPartitionPoint-from_clause (λ (n : ℕ). ltb n number) sorted c.partition_point.result c.partition_point.ensures.partitioned parted (λ a r q k. search rules) in
+    let point = IsPartitionPoint-from_clause (λ (n : ℕ). ltb n number) sorted c.partition_point.result c.partition_point.ensures.partitioned
+    parted (λ a r q k. search rules) in
     record {
       within = c.partition_point.ensures.bound;
       lower = λ k small. (let passes = point.0 k 0 (omega arith) small in grind (arith, nat_tests));

@@ -6,7 +6,8 @@ use Rattle.presolve.proofs.ranks.places_of.Goals as goal
 
 pub count_lower-requires : goal.count_lower-requires
 count_lower-requires c =
-    subst (λ (xs : List ℕ). IsNonDecreasing xs) (sym c.deref.ensures.value) (IsNonDecreasingBy-from_sort (λ (n : ℕ). n) c.sort_unstable.new.self.items c.sort_unstable.ensures.sorted)
+    subst (λ (xs : List ℕ). IsNonDecreasing xs) (sym c.deref.ensures.value)
+    (IsNonDecreasingBy-from_sort (λ (n : ℕ). n) c.sort_unstable.new.self.items c.sort_unstable.ensures.sorted)
 
 pub returns-clause-within : goal.returns-clause-within
 returns-clause-within c k d small =
@@ -15,5 +16,6 @@ returns-clause-within c k d small =
     let lower = inv.lower k (let count = inv.count in omega arith) in
     let within = lower.within in
     let same : slice_index_or places k d ≡ slice_index places k = get_or_default places k d 0 small in
-    let count : length c.sort_unstable.new.self.items ≡ length c.args.numbers.now = (let sorted = c.sort_unstable.ensures.len in let copied = c.in_ok-sorted.ensures.len in omega arith) in
+    let count : length c.sort_unstable.new.self.items ≡ length c.args.numbers.now =
+    (let sorted = c.sort_unstable.ensures.len in let copied = c.in_ok-sorted.ensures.len in omega arith) in
     omega arith

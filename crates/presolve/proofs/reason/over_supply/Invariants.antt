@@ -8,4 +8,5 @@ use Rattle.presolve.proofs.reason.over_supply.Given as goal
 abbrev pub invariant-loop-category : goal.invariant-loop-category
 invariant-loop-category l =
     find (λ (place : ℕ). nat_lt (slice_index (lots_in l.rules).supply place) (slice_index l.package place)) (range_with_len 0 (length l.package))
-    ≡ find (λ (place : ℕ). nat_lt (slice_index (lots_in l.rules).supply place) (slice_index l.package place)) (range_with_len l.category (length l.package - l.category))
+    ≡ find (λ (place : ℕ). nat_lt (slice_index (lots_in l.rules).supply place) (slice_index l.package place))
+    (range_with_len l.category (length l.package - l.category))

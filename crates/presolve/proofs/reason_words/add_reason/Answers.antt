@@ -6,4 +6,5 @@ use Rattle.presolve.proofs.reason_words.add_reason.Goals as goal
 
 pub returns-in-Dominated : goal.returns-in-Dominated
 returns-in-Dominated g c =
-    rw c.in-Dominated.is (Adds-to c.add_number-in-Dominated.ensures (ap (λ (xs : List ℕ). codes " is dominated by bid " ++ xs) (append-nil (decimal c.in-Dominated.by))))
+    rw c.in-Dominated.is (Adds-to c.add_number-in-Dominated.ensures
+    (ap (λ (xs : List ℕ). codes " is dominated by bid " ++ xs) (append-nil (decimal c.in-Dominated.by))))

@@ -21,4 +21,5 @@ returns g c =
     let chain = rw c.map.ensures.f at h.1 in
     let every : chain.0 ≡ range_with_len 1 (count + 1 - 1) = chain.1 ∙ ap₂ range_with_len start (ap₂ (λ (e s : ℕ). e - s) end start) in
     IfOk-weaker c.in_ok-made.made _ _ (λ forms are. made_for_all of_form (book_of book) (count + 1 - 1) _ whole are)
-    (made_for_each of_form (book_of book) (range_with_len 1 (count + 1 - 1)) c.in_ok-made.made h.0 (subst (λ bidders. AllZip (IsMade of_form (book_of book)) bidders h.0) every chain.2) h.2)
+    (made_for_each of_form (book_of book) (range_with_len 1 (count + 1 - 1)) c.in_ok-made.made h.0
+    (subst (λ bidders. AllZip (IsMade of_form (book_of book)) bidders h.0) every chain.2) h.2)

@@ -10,12 +10,14 @@ use Rattle.presolve.proofs.reasons.reasons_of_form.Goals as goal
 pub sieves-requires-clause-sized : goal.sieves-requires-clause-sized
 sieves-requires-clause-sized c =
     let n = length c.args.rules.now.categories in
-    rw (c.deref.ensures.value, c.categories.ensures.value) (numbered-all (λ (x : Bid). length x.package ≡ n) (lots_in c.args.rules.now) c.args.bids.now c.in_ok-rivals.rivals.items c.in_ok-rivals.ensures c.requires.sized)
+    rw (c.deref.ensures.value, c.categories.ensures.value) (numbered-all (λ (x : Bid). length x.package ≡ n) (lots_in c.args.rules.now)
+    c.args.bids.now c.in_ok-rivals.rivals.items c.in_ok-rivals.ensures c.requires.sized)
 
 pub why_left_out-requires-clause-sized : goal.why_left_out-requires-clause-sized
 why_left_out-requires-clause-sized c =
     let n = length c.args.rules.now.categories in
-    rw c.deref-in-loop-place.ensures.value (numbered-all (λ (x : Bid). length x.package ≡ n) (lots_in c.args.rules.now) c.args.bids.now c.in_ok-rivals.rivals.items c.in_ok-rivals.ensures c.requires.sized)
+    rw c.deref-in-loop-place.ensures.value (numbered-all (λ (x : Bid). length x.package ≡ n) (lots_in c.args.rules.now) c.args.bids.now
+    c.in_ok-rivals.rivals.items c.in_ok-rivals.ensures c.requires.sized)
 
 pub why_left_out-requires-clause-sieves : goal.why_left_out-requires-clause-sieves
 why_left_out-requires-clause-sieves c =
@@ -36,7 +38,8 @@ loop-place-preserved c =
     let more = c.push_reserved.ensures.len in
     let same = c.push_reserved.ensures.capacity in
     record {
-      own = c.push_reserved.ensures.items ∙ ap (λ (xs : List (Option Reason)). xs ++ c.why_left_out.result ∷ []) before.own ∙ ap (λ (why : Option Reason). map (why_left_out lots bids) (take place bids) ++ why ∷ []) own
+      own = c.push_reserved.ensures.items ∙ ap (λ (xs : List (Option Reason)). xs ++ c.why_left_out.result ∷ []) before.own
+          ∙ ap (λ (why : Option Reason). map (why_left_out lots bids) (take place bids) ++ why ∷ []) own
           ∙ sym (ap (map (why_left_out lots bids)) (take_more bids place any c.loop-place-test.true) ∙ map-append (why_left_out lots bids) (take place bids) _);
       filled = omega arith;
       room = omega arith;

@@ -20,9 +20,12 @@ loop-left-preserved c = λ k d candidate taken within.
     elim c.match-get.branch [
       | in-Some+else-does_beat w ↦
           let is : w.in-Some.rival.now ≡ slice_index_or rivals (c.args.first + trailing_zeros w64 left) w.in-Some.rival.now = search rules in
-          let same : w.in-Some.rival.now ≡ slice_index_or rivals (c.args.first + k) d = is ∙ ap (λ (n : ℕ). slice_index_or rivals n w.in-Some.rival.now) (sym at) ∙ get_or_default rivals (c.args.first + k) w.in-Some.rival.now d within in
+          let same : w.in-Some.rival.now ≡ slice_index_or rivals (c.args.first + k) d = is
+          ∙ ap (λ (n : ℕ). slice_index_or rivals n w.in-Some.rival.now) (sym at)
+          ∙ get_or_default rivals (c.args.first + k) w.in-Some.rival.now d within in
           ap (beats bid) (sym same) ∙ sym w.if-does_beat.ensures
-      | in_default w ↦ absurd (both_ways (nat_lt (c.args.first + trailing_zeros w64 left) (length rivals)) (sym w.in_default.ensures.lookup.0) (lt-ltb (c.args.first + trailing_zeros w64 left) (length rivals) (omega arith)))
+      | in_default w ↦ absurd (both_ways (nat_lt (c.args.first + trailing_zeros w64 left) (length rivals))
+          (sym w.in_default.ensures.lookup.0) (lt-ltb (c.args.first + trailing_zeros w64 left) (length rivals) (omega arith)))
     ])
     (λ (gone : bit_at left k ≡ 0). c.loop-left.invariant k d candidate gone within)
     (lowest_taken left k c.loop-left-test.true (omega arith) taken)

@@ -16,11 +16,13 @@ returns-clause-before c = λ i before.
     let mask : ℕ = 1 * 2 ^ own % 2 ^ 64 - 1 in
     ⊎_elim
     (λ (earlier : i / 64 < at).
-    ap (λ (n : ℕ). bit_at n (i % 64)) (get_or-set_other left at (i / 64) mask 0 (omega arith) ∙ c.loop-word.invariant.full (i / 64) (let last = c.loop-word-test.false in omega arith))
+    ap (λ (n : ℕ). bit_at n (i % 64)) (get_or-set_other left at (i / 64) mask 0 (omega arith) ∙ c.loop-word.invariant.full (i / 64)
+    (let last = c.loop-word-test.false in omega arith))
     ∙ bit_at_ones 64 (i % 64) (omega arith))
     (λ (here : at ≤ i / 64).
     let same : i / 64 ≡ at = omega arith in
     let within : at < length left = (let count = c.loop-word.invariant.count in let all = c.requires in omega arith) in
-    ap (λ (n : ℕ). bit_at n (i % 64)) (ap (λ (n : ℕ). slice_index (slice_set left at mask) n) same ∙ get_or-set_same left at mask 0 within ∙ ap (λ (n : ℕ). n - 1) low)
+    ap (λ (n : ℕ). bit_at n (i % 64)) (ap (λ (n : ℕ). slice_index (slice_set left at mask) n) same ∙ get_or-set_same left at mask 0 within ∙
+    ap (λ (n : ℕ). n - 1) low)
     ∙ bit_at_ones own (i % 64) (omega arith))
     (cases_lt (i / 64) at)

@@ -17,10 +17,12 @@ returns-clause-others c = λ i inside other.
     let within : at < length left = (let some = c.requires in omega arith) in
     ⊎_elim
     (λ (here : i / 64 ≡ at).
-    let none : bit_at bit (i % 64) ≡ 0 = ap (λ (n : ℕ). bit_at n (i % 64)) (one_shl own 64 (omega arith)) ∙ bit_at-pow_other own (i % 64) (λ e. other (omega arith)) in
+    let none : bit_at bit (i % 64) ≡ 0 =
+    ap (λ (n : ℕ). bit_at n (i % 64)) (one_shl own 64 (omega arith)) ∙ bit_at-pow_other own (i % 64) (λ e. other (omega arith)) in
     ap (λ (n : ℕ). bit_at n (i % 64)) (ap (λ (n : ℕ). slice_index (slice_set left at word) n) here ∙ get_or-set_same left at word 0 within)
     ∙ bit_at_not w64 bit (i % 64) (omega arith) (omega arith) ∙ ap (λ (n : ℕ). 1 - n) none)
     (λ (apart : i / 64 ≢ at).
-    ap (λ (n : ℕ). bit_at n (i % 64)) (get_or-set_other left at (i / 64) word 0 apart ∙ c.loop-word.invariant.full (i / 64) (let last = c.loop-word-test.false in let long = length-set left at word in omega arith))
+    ap (λ (n : ℕ). bit_at n (i % 64)) (get_or-set_other left at (i / 64) word 0 apart ∙ c.loop-word.invariant.full (i / 64)
+    (let last = c.loop-word-test.false in let long = length-set left at word in omega arith))
     ∙ bit_at_ones 64 (i % 64) (omega arith))
     (cases_eq (i / 64) at)

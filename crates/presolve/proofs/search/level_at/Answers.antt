@@ -15,6 +15,7 @@ returns-clause-sifts c = λ rivals x are within is i d inside beaten.
     let there : HasPlace place sieve = its.places place within in
     let level = c.index-2.result.now in
     let rank = c.index.ensures ∙ get_or_default sieve.ranks.items place c.index.result.now 0 there.ranked in
-    let at : level ≡ slice_index_or sieve.levels.items (slice_index sieve.ranks.items place) level = c.index-2.ensures ∙ ap (λ (n : ℕ). slice_index_or sieve.levels.items n level) (c.from.ensures ∙ rank) in
+    let at : level ≡ slice_index_or sieve.levels.items (slice_index sieve.ranks.items place) level =
+    c.index-2.ensures ∙ ap (λ (n : ℕ). slice_index_or sieve.levels.items n level) (c.from.ensures ∙ rank) in
     subst (λ (words : List ℕ). IsMarked words i) (sym (c.deref.ensures.value ∙ ap (λ (l : Level). l.words.items) at))
     (its.sifts place x level within i d inside (subst (λ (s : SizedBid). beats s (slice_index_or rivals i d) ≡ true) is beaten))

@@ -15,11 +15,14 @@ loop-place-preserved c =
     let before = c.loop-place.invariant in
     let args = c.args in
     let within : place < length left = (let count = before.count in let small = c.loop-place-test.true in omega arith) in
-    let word : ℕ = bit_and (bit_and (bit_and (bit_and (slice_index left place) (slice_index args.first.now place)) (slice_index args.second.now place)) (slice_index args.third.now place)) (slice_index args.fourth.now place) in
+    let word : ℕ = bit_and (bit_and (bit_and (bit_and (slice_index left place) (slice_index args.first.now place))
+    (slice_index args.second.now place)) (slice_index args.third.now place)) (slice_index args.fourth.now place) in
     record {
       count = length-set left place word ∙ before.count;
       kept = λ j k small. set_word
-          (λ (j w : ℕ). bit_at (slice_index args.left.now j) k ≡ 1 → bit_at (slice_index args.first.now j) k ≡ 1 → bit_at (slice_index args.second.now j) k ≡ 1 → bit_at (slice_index args.third.now j) k ≡ 1 → bit_at (slice_index args.fourth.now j) k ≡ 1 → bit_at w k ≡ 1)
+          (λ (j w : ℕ). bit_at (slice_index args.left.now j) k ≡ 1 → bit_at (slice_index args.first.now j) k ≡ 1 → bit_at
+          (slice_index args.second.now j) k ≡ 1 → bit_at (slice_index args.third.now j) k ≡ 1
+          → bit_at (slice_index args.fourth.now j) k ≡ 1 → bit_at w k ≡ 1)
           left place word within
           (λ j earlier. before.kept j k earlier)
           (λ own first second third fourth.

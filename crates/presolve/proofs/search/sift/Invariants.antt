@@ -8,5 +8,6 @@ use Rattle.presolve.proofs.search.sift.Given as goal
 abbrev pub invariant-loop-group : goal.invariant-loop-group
 invariant-loop-group l = record {
   count : length l.left ≡ length l.initial.left;
-  sifts : (rivals : List SizedBid) (x : SizedBid) → All (IsSieve rivals) l.sieves → l.place < length rivals → x ≡ slice_index_or rivals l.place x → Sifts rivals x l.initial.left → Sifts rivals x l.left;
+  sifts : (rivals : List SizedBid) (x : SizedBid) → All (IsSieve rivals) l.sieves → l.place < length rivals
+      → x ≡ slice_index_or rivals l.place x → Sifts rivals x l.initial.left → Sifts rivals x l.left;
 }

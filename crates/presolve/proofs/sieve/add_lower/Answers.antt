@@ -16,7 +16,8 @@ loop-place-preserved c =
     let first = c.index.result.now in
     let second = c.index-in-loop-place.result.now in
     let word : ℕ = bit_or first second in
-    let within : place < length so_far = (let small = c.loop-place-test.true in let end = c.len-place-end.ensures in let count = before.count in omega (arith, c.args.so_far.now.words.ok.0)) in
+    let within : place < length so_far = (let small = c.loop-place-test.true in let end = c.len-place-end.ensures in let count =
+    before.count in omega (arith, c.args.so_far.now.words.ok.0)) in
     let inside : place < length level = (let long = before.long in let count = before.count in let both = c.requires in omega arith) in
     let mine : first ≡ slice_index so_far place = c.index.ensures ∙ get_or_default so_far place first 0 within in
     let its : second ≡ slice_index level place = c.index-in-loop-place.ensures ∙ get_or_default level place second 0 inside in
@@ -44,4 +45,5 @@ returns-clause-same c =
     let both = c.requires in
     let last = c.loop-place-test.false in
     let end = c.len-place-end.ensures in
-    same_number_lists c.loop-place.level.words.items c.loop-place.so_far.words.items (omega arith) (λ k inside. inv.same k (omega (arith, c.args.so_far.now.words.ok.0)))
+    same_number_lists c.loop-place.level.words.items c.loop-place.so_far.words.items (omega arith)
+    (λ k inside. inv.same k (omega (arith, c.args.so_far.now.words.ok.0)))

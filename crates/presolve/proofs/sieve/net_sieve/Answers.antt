@@ -10,4 +10,5 @@ returns c =
     let rivals = c.args.rivals.now in
     let numbers = c.deref.result.now in
     let same : numbers ≡ map (λ (s : SizedBid). shortfall s.net) rivals = c.deref.ensures.value ∙ c.in_ok-shortfalls.ensures in
-    IfOk-weaker c.sieve_of.result (AreSieved numbers) (IsSieve rivals) (λ sieve made. is_sieve rivals numbers (λ (s : SizedBid). shortfall s.net) sieve no_shorter same made) c.sieve_of.ensures
+    IfOk-weaker c.sieve_of.result (AreSieved numbers) (IsSieve rivals)
+    (λ sieve made. is_sieve rivals numbers (λ (s : SizedBid). shortfall s.net) sieve no_shorter same made) c.sieve_of.ensures

@@ -33,7 +33,8 @@ loop-place-preserved c =
           (slice_index ranks i) i (before.marks i d earlier))
           (λ (here : place ≤ i).
           let at : place ≡ i = omega arith in
-          let own : slice_index_or (slice_set levels r new) (slice_index ranks place) d ≡ new = ap (λ (n : ℕ). slice_index_or (slice_set levels r new) n d) rank ∙ get_or-set_same levels r new d within in
+          let own : slice_index_or (slice_set levels r new) (slice_index ranks place) d ≡ new =
+          ap (λ (n : ℕ). slice_index_or (slice_set levels r new) n d) rank ∙ get_or-set_same levels r new d within in
           subst (λ (n : ℕ). IsMarked (slice_index_or (slice_set levels r new) (slice_index ranks n) d).words.items n) at
           (subst (λ (level : Level). IsMarked level.words.items place) (sym own) c.mark.ensures.own))
           (cases_lt i place);
@@ -47,5 +48,6 @@ returns c =
     record {
       within = λ k d small. (let most = c.greatest.ensures k d small in let count = inv.count in let from = c.from-count.ensures in omega arith);
       long = inv.long;
-      marks = λ i r d inside small is. subst (λ (n : ℕ). IsMarked (slice_index_or levels n d).words.items i) is (inv.marks i d (let all = c.loop-place-test.false in omega arith));
+      marks = λ i r d inside small is. subst (λ (n : ℕ). IsMarked (slice_index_or levels n d).words.items i) is
+          (inv.marks i d (let all = c.loop-place-test.false in omega arith));
     }

@@ -10,10 +10,12 @@ use Rattle.presolve.proofs.sieve.sieve_of.Goals as goal
 pub loop-rank-init : goal.loop-rank-init
 loop-rank-init c =
     let ranks = c.in_ok-ranks.ranks.items in
-    let made : AreLevels (λ r s. r ≡ s) ranks c.in_ok-levels.levels.items = subst (λ (xs : List ℕ). AreLevels (λ r s. r ≡ s) xs c.in_ok-levels.levels.items) c.deref.ensures.value c.in_ok-levels.ensures in
+    let made : AreLevels (λ r s. r ≡ s) ranks c.in_ok-levels.levels.items =
+    subst (λ (xs : List ℕ). AreLevels (λ r s. r ≡ s) xs c.in_ok-levels.levels.items) c.deref.ensures.value c.in_ok-levels.ensures in
     record {
       count = refl;
-      room = (let long = c.in_ok-words.ensures.len in let all = c.div_ceil.ensures in let count = c.len.ensures in omega (arith, c.in_ok-words.words.ok.0, c.in_ok-ranks.ranks.ok.0));
+      room = (let long = c.in_ok-words.ensures.len in let all = c.div_ceil.ensures in let count = c.len.ensures in omega
+          (arith, c.in_ok-words.words.ok.0, c.in_ok-ranks.ranks.ok.0));
       long = made.long;
       lower = λ i r d inside none low. absurd (omega arith);
       so_far = λ i inside none. absurd (omega arith);
@@ -30,19 +32,23 @@ loop-rank-preserved c =
     let new = c.add_lower.new.level in
     let more = c.add_lower.new.so_far in
     let added = c.add_lower.ensures in
-    let within : rank < length levels = (let small = c.loop-rank-test.true in let end = c.len-rank-end.ensures in let count = before.count in omega (arith, c.in_ok-levels.levels.ok.0)) in
+    let within : rank < length levels = (let small = c.loop-rank-test.true in let end = c.len-rank-end.ensures in let count = before.count
+    in omega (arith, c.in_ok-levels.levels.ok.0)) in
     let was : slice_index_or levels rank old ≡ old = sym c.index_mut.ensures.value in
     let room : length more.words.items ≡ div_ceil (length ranks) 64 = added.count ∙ before.room in
     let so_far : (i : ℕ) → i < length ranks → slice_index ranks i < rank + 1 → IsMarked more.words.items i = λ i inside up. ⊎_elim
     (λ (lower : slice_index ranks i < rank). added.lower i (before.so_far i inside lower))
-    (λ (here : rank ≤ slice_index ranks i). added.own i (subst (λ (level : Level). IsMarked level.words.items i) was (before.own i rank old inside (omega arith) within (omega arith))))
+    (λ (here : rank ≤ slice_index ranks i). added.own i (subst (λ (level : Level). IsMarked level.words.items i) was
+    (before.own i rank old inside (omega arith) within (omega arith))))
     (cases_lt (slice_index ranks i) rank) in
     record {
       count = length-set levels rank new ∙ before.count;
       room = room;
-      long = All-set (λ (level : Level). length level.words.items ≡ div_ceil (length ranks) 64) levels rank new (ap (λ (xs : List ℕ). length xs) added.same ∙ room) before.long;
+      long = All-set (λ (level : Level). length level.words.items ≡ div_ceil (length ranks) 64) levels rank new
+          (ap (λ (xs : List ℕ). length xs) added.same ∙ room) before.long;
       lower = λ i r d inside small low. ⊎_elim
-          (λ (earlier : r < rank). subst (λ (level : Level). IsMarked level.words.items i) (sym (get_or-set_other levels rank r new d (omega arith))) (before.lower i r d inside earlier low))
+          (λ (earlier : r < rank). subst (λ (level : Level). IsMarked level.words.items i)
+          (sym (get_or-set_other levels rank r new d (omega arith))) (before.lower i r d inside earlier low))
           (λ (here : rank ≤ r).
           let at : rank ≡ r = omega arith in
           subst (λ (n : ℕ). IsMarked (slice_index_or (slice_set levels rank new) n d).words.items i) at
@@ -58,12 +64,14 @@ pub returns : goal.returns
 returns c =
     let ranks = c.in_ok-ranks.ranks.items in
     let inv = c.loop-rank.invariant in
-    let made : AreLevels (λ r s. r ≡ s) ranks c.in_ok-levels.levels.items = subst (λ (xs : List ℕ). AreLevels (λ r s. r ≡ s) xs c.in_ok-levels.levels.items) c.deref.ensures.value c.in_ok-levels.ensures in
+    let made : AreLevels (λ r s. r ≡ s) ranks c.in_ok-levels.levels.items =
+    subst (λ (xs : List ℕ). AreLevels (λ r s. r ≡ s) xs c.in_ok-levels.levels.items) c.deref.ensures.value c.in_ok-levels.ensures in
     record {
       ranked = c.in_ok-ranks.ensures;
       levels = record {
         within = λ k d small. (let most = made.within k d small in let count = inv.count in omega arith);
         long = inv.long;
-        marks = λ i r d inside small low. inv.lower i r d inside (let count = inv.count in let last = c.loop-rank-test.false in let end = c.len-rank-end.ensures in omega (arith, c.in_ok-levels.levels.ok.0)) low;
+        marks = λ i r d inside small low. inv.lower i r d inside (let count = inv.count in let last = c.loop-rank-test.false in let end =
+            c.len-rank-end.ensures in omega (arith, c.in_ok-levels.levels.ok.0)) low;
       };
     }

@@ -11,7 +11,9 @@ invariant-loop-rank l = record {
   count : length l.levels.items ≡ length l.initial.levels.items;
   room : length l.so_far.words.items ≡ div_ceil (length l.ranks.items) 64;
   long : All (λ level. length level.words.items ≡ div_ceil (length l.ranks.items) 64) l.levels.items;
-  lower : (i r : ℕ) (d : Level) → i < length l.ranks.items → r < l.rank → slice_index l.ranks.items i ≤ r → IsMarked (slice_index_or l.levels.items r d).words.items i;
+  lower : (i r : ℕ) (d : Level) → i < length l.ranks.items → r < l.rank → slice_index l.ranks.items i ≤ r
+      → IsMarked (slice_index_or l.levels.items r d).words.items i;
   so_far : (i : ℕ) → i < length l.ranks.items → slice_index l.ranks.items i < l.rank → IsMarked l.so_far.words.items i;
-  own : (i r : ℕ) (d : Level) → i < length l.ranks.items → l.rank ≤ r → r < length l.levels.items → slice_index l.ranks.items i ≡ r → IsMarked (slice_index_or l.levels.items r d).words.items i;
+  own : (i r : ℕ) (d : Level) → i < length l.ranks.items → l.rank ≤ r → r < length l.levels.items → slice_index l.ranks.items i ≡ r
+      → IsMarked (slice_index_or l.levels.items r d).words.items i;
 }

@@ -16,4 +16,5 @@ pub returns : goal.returns
 returns g c =
     let line : ℕ → List ℕ = λ number. cond (number == c.args.last) [] (replaced_line c.args.rules.now c.args.bidder c.args.last number) in
     Adds-to c.loop-place.invariant
-    (numbered-all (λ (form : ℕ × ℕ). cond (form.1 == c.args.bidder) (line form.0) []) c.args.bidders.now c.loop-place.place c.loop-place-test.false ∙ own-lines line c.args.bidder (enumerate_from 1 c.args.bidders.now))
+    (numbered-all (λ (form : ℕ × ℕ). cond (form.1 == c.args.bidder) (line form.0) []) c.args.bidders.now c.loop-place.place
+    c.loop-place-test.false ∙ own-lines line c.args.bidder (enumerate_from 1 c.args.bidders.now))

@@ -9,4 +9,5 @@ use Rattle.presolve.proofs.writing.add_replaced_by.Given as goal
 abbrev pub invariant-loop-place : goal.invariant-loop-place
 invariant-loop-place g l =
     Adds g.S.Sink.taken g.S.Sink.failures l.initial.writer l.writer
-    (flat_map (λ (form : ℕ × ℕ). cond (form.1 == l.bidder) (cond (form.0 == l.last) [] (replaced_line l.rules l.bidder l.last form.0)) []) (take l.place (enumerate_from 1 l.bidders)))
+    (flat_map (λ (form : ℕ × ℕ). cond (form.1 == l.bidder) (cond (form.0 == l.last) [] (replaced_line l.rules l.bidder l.last form.0)) [])
+    (take l.place (enumerate_from 1 l.bidders)))

@@ -21,24 +21,35 @@ use Rattle.prices.proofs.cover.check_cover.Goals as goal
 
 pub raised-requires-clause-small : goal.raised-requires-clause-small
 raised-requires-clause-small c =
-    subst (λ (p : Table). AllByRecursion (λ (x : TableColumn). IsSmall x.cost) p.columns) (sym c.requires.program) (small_costs (lots_in c.args.book.now.rules) (book_of c.args.book.now) (λ b. false) c.rules-within_limits.ensures.lots c.rules-within_limits.ensures.book)
+    subst (λ (p : Table). AllByRecursion (λ (x : TableColumn). IsSmall x.cost) p.columns) (sym c.requires.program)
+    (small_costs (lots_in c.args.book.now.rules) (book_of c.args.book.now) (λ b. false) c.rules-within_limits.ensures.lots
+    c.rules-within_limits.ensures.book)
 
 -- the program that the certificate is checked against, and its bound
 module _ (c : goal.After-drop-program-inside-8) where
   judged : c.in-Ok.program ≡ raised_program (lots_in c.args.book.now.rules) (book_of c.args.book.now) c.args.first.now (price_in c.args.prices.now)
   judged = c.in-Ok.ensures ∙ ap (raised (surplus (book_of c.args.book.now) c.args.first.now (price_in c.args.prices.now))) c.requires.program
 
-  least : to_z w128 (of_z w128 (pos 0 -ℤ to_z w128 c.revenue_of.result)) ≡ neg_ℤ (pos (revenue (lots_in c.args.book.now.rules) (book_of c.args.book.now) c.args.first.now (price_in c.args.prices.now)))
-  least = negated c.revenue_of.result (revenue (lots_in c.args.book.now.rules) (book_of c.args.book.now) c.args.first.now (price_in c.args.prices.now)) c.revenue_of.ensures.revenue c.revenue_of.ensures.small
+  least : to_z w128 (of_z w128 (pos 0 -ℤ to_z w128 c.revenue_of.result))
+      ≡ neg_ℤ (pos (revenue (lots_in c.args.book.now.rules) (book_of c.args.book.now) c.args.first.now (price_in c.args.prices.now)))
+  least = negated c.revenue_of.result (revenue (lots_in c.args.book.now.rules) (book_of c.args.book.now) c.args.first.now
+      (price_in c.args.prices.now)) c.revenue_of.ensures.revenue c.revenue_of.ensures.small
 
 pub returns-clause-covers : goal.returns-clause-covers
 returns-clause-covers c = on_ok_weaker c.check_certificate.result (λ sound.
-    bound_covers (lots_in c.args.book.now.rules) (book_of c.args.book.now) c.args.first.now (price_in c.args.prices.now) c.in-Ok.program (to_z w128 (of_z w128 (pos 0 -ℤ to_z w128 c.revenue_of.result))) c.rules-within_limits.ensures.book c.requires.feasible c.requires.prices (judged c) (least c) sound) c.check_certificate.ensures.sound
+    bound_covers (lots_in c.args.book.now.rules) (book_of c.args.book.now) c.args.first.now (price_in c.args.prices.now) c.in-Ok.program
+    (to_z w128 (of_z w128 (pos 0 -ℤ to_z w128 c.revenue_of.result))) c.rules-within_limits.ensures.book c.requires.feasible
+    c.requires.prices (judged c) (least c) sound) c.check_certificate.ensures.sound
 
 pub returns-clause-first : goal.returns-clause-first
-returns-clause-first c = subst (λ (p : Table). IsVerdict c.check_certificate.result (certificate_fault p (neg_ℤ (pos (revenue (lots_in c.args.book.now.rules) (book_of c.args.book.now) c.args.first.now (price_in c.args.prices.now)))) c.args.text.now)) (judged c)
+returns-clause-first c = subst (λ (p : Table). IsVerdict c.check_certificate.result
+    (certificate_fault p (neg_ℤ (pos (revenue (lots_in c.args.book.now.rules) (book_of c.args.book.now) c.args.first.now
+    (price_in c.args.prices.now)))) c.args.text.now)) (judged c)
     (subst (λ (z : ℤ). IsVerdict c.check_certificate.result (certificate_fault c.in-Ok.program z c.args.text.now)) (least c) c.check_certificate.ensures.first)
 
 pub returns-clause-too_large : goal.returns-clause-too_large
-returns-clause-too_large c = subst (λ (p : Table). IfErr c.check_certificate.result (λ fault. fault.kind ≡ TooLarge → IsLargeAt p (neg_ℤ (pos (revenue (lots_in c.args.book.now.rules) (book_of c.args.book.now) c.args.first.now (price_in c.args.prices.now)))) c.args.text.now fault.line)) (judged c)
-    (subst (λ (z : ℤ). IfErr c.check_certificate.result (λ fault. fault.kind ≡ TooLarge → IsLargeAt c.in-Ok.program z c.args.text.now fault.line)) (least c) c.check_certificate.ensures.too_large)
+returns-clause-too_large c = subst (λ (p : Table). IfErr c.check_certificate.result
+    (λ fault. fault.kind ≡ TooLarge → IsLargeAt p (neg_ℤ (pos (revenue (lots_in c.args.book.now.rules) (book_of c.args.book.now)
+    c.args.first.now (price_in c.args.prices.now)))) c.args.text.now fault.line)) (judged c)
+    (subst (λ (z : ℤ). IfErr c.check_certificate.result (λ fault. fault.kind ≡ TooLarge → IsLargeAt c.in-Ok.program z c.args.text.now
+    fault.line)) (least c) c.check_certificate.ensures.too_large)

@@ -8,6 +8,7 @@ use Rattle.prices.proofs.gains.surplus_of.Given as goal
 -- the whole sum is that from here on
 abbrev pub invariant-loop-choice : goal.invariant-loop-choice
 invariant-loop-choice l = record {
-  surplus : surplus (book_of l.book) (drop l.choice-index l.choices) (price_in l.prices) l.bidder ≡ surplus (book_of l.book) l.choices (price_in l.prices) l.bidder;
+  surplus : surplus (book_of l.book) (drop l.choice-index l.choices) (price_in l.prices) l.bidder
+      ≡ surplus (book_of l.book) l.choices (price_in l.prices) l.bidder;
   one : count_by (λ c. c.bidder == l.bidder) (drop l.choice-index l.choices) ≤ 1;
 }

@@ -13,7 +13,8 @@ module _ (c : goal.After-from) where
   small = let below = c.ranges.weight in omega arith
 
   few : (pos 0 ≤ℤ it) × (it ≤ℤ pos (2 ^ 48))
-  few = cost_few (lots_in c.args.book.now.rules) (book_of c.args.book.now) c.args.first.now c.args.group.now c.args.without.now c.rules-within_limits.ensures.book c.requires.first c.choices-rising.ensures.rising c.requires.without
+  few = cost_few (lots_in c.args.book.now.rules) (book_of c.args.book.now) c.args.first.now c.args.group.now c.args.without.now
+      c.rules-within_limits.ensures.book c.requires.first c.choices-rising.ensures.rising c.requires.without
 
 pub overflow_mul-result : goal.overflow_mul-result
 overflow_mul-result c = product_fits c.from.result c.cost-cost.result c.args.weight (it c) c.from.ensures c.cost-cost.ensures (small c) (few c).0 (few c).1
@@ -22,7 +23,9 @@ pub returns-clause-product : goal.returns-clause-product
 returns-clause-product c = product_is c.from.result c.cost-cost.result c.args.weight (it c) c.from.ensures c.cost-cost.ensures (small c) (few c).0 (few c).1
 
 pub returns-clause-low : goal.returns-clause-low
-returns-clause-low c = rw (product_is c.from.result c.cost-cost.result c.args.weight (it c) c.from.ensures c.cost-cost.ensures (small c) (few c).0 (few c).1) (product_few c.args.weight (it c) (small c) (few c).0 (few c).1).0
+returns-clause-low c = rw (product_is c.from.result c.cost-cost.result c.args.weight (it c) c.from.ensures c.cost-cost.ensures (small c)
+    (few c).0 (few c).1) (product_few c.args.weight (it c) (small c) (few c).0 (few c).1).0
 
 pub returns-clause-high : goal.returns-clause-high
-returns-clause-high c = rw (product_is c.from.result c.cost-cost.result c.args.weight (it c) c.from.ensures c.cost-cost.ensures (small c) (few c).0 (few c).1) (product_few c.args.weight (it c) (small c) (few c).0 (few c).1).1
+returns-clause-high c = rw (product_is c.from.result c.cost-cost.result c.args.weight (it c) c.from.ensures c.cost-cost.ensures (small c)
+    (few c).0 (few c).1) (product_few c.args.weight (it c) (small c) (few c).0 (few c).1).1

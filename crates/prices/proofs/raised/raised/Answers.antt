@@ -11,4 +11,5 @@ pub returns : goal.returns
 returns c =
     c.with_costs.ensures
     ∙ ap (λ (costs : List ℤ). costed_program c.args.program costs) c.in_ok-costs.ensures
-    ∙ ap (λ (columns : List TableColumn). record c.args.program { columns = columns }) (costed_is_raised (surplus (book_of c.args.book.now) c.args.first.now (price_in c.args.prices.now)) c.args.program.columns)
+    ∙ ap (λ (columns : List TableColumn). record c.args.program { columns = columns })
+    (costed_is_raised (surplus (book_of c.args.book.now) c.args.first.now (price_in c.args.prices.now)) c.args.program.columns)

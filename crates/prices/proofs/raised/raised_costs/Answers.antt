@@ -12,5 +12,7 @@ pub loop-column-preserved : goal.loop-column-preserved
 loop-column-preserved c =
     let fits : SFits w64 c.raised_cost.result = search rules in
     let within : c.loop-column.column < length c.args.program.now.columns = omega (arith, c.loop-column-test.true, c.column_count-column-end.ensures) in
-    cost_pushed (raised_cost (surplus (book_of c.args.book.now) c.args.first.now (price_in c.args.prices.now))) c.args.program.now.columns c.loop-column.column c.loop-column.costs.items c.push.new.self.items c.raised_cost.result
-    c.raised_cost.ensures within (c.in_ok-push.ensures.items ∙ ap (λ (z : ℤ). c.loop-column.costs.items ++ z ∷ []) (to_z-of_z w64 c.raised_cost.result fits)) c.loop-column.invariant
+    cost_pushed (raised_cost (surplus (book_of c.args.book.now) c.args.first.now (price_in c.args.prices.now))) c.args.program.now.columns
+    c.loop-column.column c.loop-column.costs.items c.push.new.self.items c.raised_cost.result
+    c.raised_cost.ensures within (c.in_ok-push.ensures.items ∙ ap (λ (z : ℤ). c.loop-column.costs.items ++ z ∷ [])
+    (to_z-of_z w64 c.raised_cost.result fits)) c.loop-column.invariant

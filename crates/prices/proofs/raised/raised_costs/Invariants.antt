@@ -8,4 +8,5 @@ use Rattle.prices.proofs.raised.raised_costs.Given as goal
 -- with those of the other columns they are all
 abbrev pub invariant-loop-column : goal.invariant-loop-column
 invariant-loop-column l =
-    l.costs.items ++ map (raised_cost (surplus (book_of l.book) l.first (price_in l.prices))) (drop l.column l.program.columns) ≡ map (raised_cost (surplus (book_of l.book) l.first (price_in l.prices))) l.program.columns
+    l.costs.items ++ map (raised_cost (surplus (book_of l.book) l.first (price_in l.prices))) (drop l.column l.program.columns)
+    ≡ map (raised_cost (surplus (book_of l.book) l.first (price_in l.prices))) l.program.columns

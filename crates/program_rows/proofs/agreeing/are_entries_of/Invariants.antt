@@ -6,4 +6,5 @@ use Rattle.program_rows.proofs.agreeing.are_entries_of.Given as goal
 
 -- those so far pass
 abbrev pub invariant-loop-i : goal.invariant-loop-i
-invariant-loop-i l = list_all (comparing.entry_stands (map shown_row l.rows) (map shown_row l.others) (shown_column l.column)) l.entries ≡ list_all (comparing.entry_stands (map shown_row l.rows) (map shown_row l.others) (shown_column l.column)) (drop l.i l.entries)
+invariant-loop-i l = list_all (comparing.entry_stands (map shown_row l.rows) (map shown_row l.others) (shown_column l.column)) l.entries
+    ≡ list_all (comparing.entry_stands (map shown_row l.rows) (map shown_row l.others) (shown_column l.column)) (drop l.i l.entries)

@@ -14,9 +14,11 @@ returns-then-place-rows c =
     let fits : SFits w64 c.coefficient_of.result = search rules in
     let count = length-map c.args.rows.now shown_row in
     to_z-of_z w64 c.coefficient_of.result fits ∙ c.coefficient_of.ensures
-    ∙ place_found (λ (r : TableRow). bytes_eq c.args.name.now r.name) (λ place. coefficient_at place (shown_column c.args.column.now)) (map shown_row c.args.rows.now) c.row_place-place.result c.row_place-place.ensures (omega arith)
+    ∙ place_found (λ (r : TableRow). bytes_eq c.args.name.now r.name) (λ place. coefficient_at place (shown_column c.args.column.now))
+    (map shown_row c.args.rows.now) c.row_place-place.result c.row_place-place.ensures (omega arith)
 
 pub returns : goal.returns
 returns c =
     let count = length-map c.args.rows.now shown_row in
-    place_none (λ (r : TableRow). bytes_eq c.args.name.now r.name) (λ place. coefficient_at place (shown_column c.args.column.now)) (map shown_row c.args.rows.now) c.row_place-place.result c.row_place-place.ensures (omega arith)
+    place_none (λ (r : TableRow). bytes_eq c.args.name.now r.name) (λ place. coefficient_at place (shown_column c.args.column.now))
+    (map shown_row c.args.rows.now) c.row_place-place.result c.row_place-place.ensures (omega arith)

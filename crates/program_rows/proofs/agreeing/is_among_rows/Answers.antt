@@ -11,9 +11,15 @@ use Rattle.program_rows.proofs.agreeing.is_among_rows.Goals as goal
 pub returns-then-place-others : goal.returns-then-place-others
 returns-then-place-others c =
     c.agrees_with_row.ensures
-    ∙ stand_found (λ (r : TableRow). bytes_eq c.args.row.now.name.items r.name) (row_agrees (shown_row c.args.row.now)) (map shown_row c.args.others.now) c.row_place-place.result (shown_row c.row_at.result.now) (c.row_place-place.ensures ∙ ap (λ (n : List ℕ). position_or_len (λ (r : TableRow). bytes_eq n r.name) (map shown_row c.args.others.now)) c.as_slice.ensures.value) c.row_at.ensures
+    ∙ stand_found (λ (r : TableRow). bytes_eq c.args.row.now.name.items r.name) (row_agrees (shown_row c.args.row.now))
+    (map shown_row c.args.others.now) c.row_place-place.result (shown_row c.row_at.result.now)
+    (c.row_place-place.ensures ∙ ap (λ (n : List ℕ). position_or_len (λ (r : TableRow). bytes_eq n r.name)
+    (map shown_row c.args.others.now)) c.as_slice.ensures.value) c.row_at.ensures
 
 pub returns : goal.returns
 returns c =
     let count = length-map c.args.others.now shown_row in
-    stand_none (λ (r : TableRow). bytes_eq c.args.row.now.name.items r.name) (row_agrees (shown_row c.args.row.now)) (map shown_row c.args.others.now) c.row_place-place.result (c.row_place-place.ensures ∙ ap (λ (n : List ℕ). position_or_len (λ (r : TableRow). bytes_eq n r.name) (map shown_row c.args.others.now)) c.as_slice.ensures.value) (omega arith)
+    stand_none (λ (r : TableRow). bytes_eq c.args.row.now.name.items r.name) (row_agrees (shown_row c.args.row.now))
+    (map shown_row c.args.others.now) c.row_place-place.result (c.row_place-place.ensures ∙ ap
+    (λ (n : List ℕ). position_or_len (λ (r : TableRow). bytes_eq n r.name) (map shown_row c.args.others.now)) c.as_slice.ensures.value)
+    (omega arith)

@@ -11,7 +11,8 @@ use Rattle.program_rows.proofs.broken.sum_of.Goals as goal
 pub sum_at-requires-clause-within : goal.sum_at-requires-clause-within
 sum_at-requires-clause-within c =
     let listed : c.in-Some.places.items ≡ ones_from 0 c.args.values.now = rw c.in-Some.is at c.requires.ones in
-    subst (λ (places : List ℕ). AllByRecursion (λ i. i < length c.args.columns.now) places) (sym (c.as_slice.ensures.value ∙ listed)) (ones-within 0 (length c.args.columns.now) c.args.values.now (let sized = c.requires.sized in omega arith))
+    subst (λ (places : List ℕ). AllByRecursion (λ i. i < length c.args.columns.now) places) (sym (c.as_slice.ensures.value ∙ listed))
+    (ones-within 0 (length c.args.columns.now) c.args.values.now (let sized = c.requires.sized in omega arith))
 
 pub returns-in-Some : goal.returns-in-Some
 returns-in-Some c =

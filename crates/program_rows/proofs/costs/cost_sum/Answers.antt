@@ -17,4 +17,9 @@ loop-i-preserved c =
     let next : c.add_at_one-sum.result ≡ sum +ℤ cond value c.cost.result (pos 0) =
     c.add_at_one-sum.ensures ∙ ap (λ n. sum +ℤ cond value n (pos 0)) number in
     let bounds = sum_bounds value c.cost.result sum c.add_at_one-sum.result c.loop-i.i c.cost.type_inv c.loop-i.invariant.0 c.loop-i.invariant.1 next in
-    rw same (bounds.0, bounds.1, sum_step (λ (x : TableColumn). x.cost) c.args.columns.now c.args.values.now c.loop-i.i c.cost.result false sum c.add_at_one-sum.result _ c.cost.ensures c.loop-i-test.true next c.loop-i.invariant.2)
+    rw same (
+      bounds.0,
+      bounds.1,
+      sum_step (λ (x : TableColumn). x.cost) c.args.columns.now c.args.values.now c.loop-i.i c.cost.result false
+          sum c.add_at_one-sum.result _ c.cost.ensures c.loop-i-test.true next c.loop-i.invariant.2,
+    )

@@ -8,4 +8,8 @@ use Rattle.program_rows.proofs.entries.write_categories.Given as goal
 
 -- what is written, and what is left, is all
 abbrev pub invariant-loop-place : goal.invariant-loop-place
-invariant-loop-place l = (take l.count l.entries ++ entries_from (lots_in l.rules) (l.first + l.place) (drop l.place (map Category (range_with_len 0 (length (lots_in l.rules).supply)))) (offer_of l.bid) ≡ take l.start l.initial.entries ++ entries_from (lots_in l.rules) l.first (map Category (range_with_len 0 (length (lots_in l.rules).supply))) (offer_of l.bid)) × (l.count ≤ l.start + l.place) × (length l.entries ≡ length l.initial.entries)
+invariant-loop-place l = (take l.count l.entries ++ entries_from (lots_in l.rules) (l.first + l.place)
+    (drop l.place (map Category (range_with_len 0 (length (lots_in l.rules).supply)))) (offer_of l.bid)
+    ≡ take l.start l.initial.entries ++ entries_from (lots_in l.rules) l.first
+    (map Category (range_with_len 0 (length (lots_in l.rules).supply))) (offer_of l.bid)) × (l.count
+    ≤ l.start + l.place) × (length l.entries ≡ length l.initial.entries)

@@ -9,4 +9,5 @@ pub loop-row-preserved : goal.loop-row-preserved
 loop-row-preserved c =
     let names = map (λ (x : TableRow). x.name) c.args.program.now.rows in
     let named = slice_get-map (λ (x : TableRow). x.name) c.args.program.now.rows c.loop-row.row ∙ c.row_name.ensures in
-    ap (λ h. fold sip.write h (drop (c.loop-row.row + 1) names)) c.write.ensures ∙ sym (folds_on sip.write c.loop-row.hasher names c.loop-row.row c.row_name.result.now named) ∙ c.loop-row.invariant
+    ap (λ h. fold sip.write h (drop (c.loop-row.row + 1) names)) c.write.ensures
+    ∙ sym (folds_on sip.write c.loop-row.hasher names c.loop-row.row c.row_name.result.now named) ∙ c.loop-row.invariant

@@ -5,4 +5,5 @@ use Rattle.program_rows.proofs.name_set.with_row_names.Given as goal
 
 -- the names that are left come after those before
 abbrev pub invariant-loop-row : goal.invariant-loop-row
-invariant-loop-row l = fold sip.write l.hasher (drop l.row (map (λ (x : TableRow). x.name) l.program.rows)) ≡ fold sip.write l.fn.hasher (map (λ (x : TableRow). x.name) l.program.rows)
+invariant-loop-row l = fold sip.write l.hasher (drop l.row (map (λ (x : TableRow). x.name) l.program.rows))
+    ≡ fold sip.write l.fn.hasher (map (λ (x : TableRow). x.name) l.program.rows)

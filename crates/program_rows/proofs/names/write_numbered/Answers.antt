@@ -22,7 +22,8 @@ pub returns-clause-written : goal.returns-clause-written
 returns-clause-written c =
     let short = length-decimal-le 5 c.from.result (omega arith) (omega arith) (omega arith) in
     let some = decimal_nonempty c.from.result (omega arith) in
-    numbered_written _ c.args.name.now c.args.letter c.write_digits-at.result c.from.result c.args.number c.args.end c.from.ensures (omega arith) (omega arith) c.write_digits-at.ensures.written
+    numbered_written _ c.args.name.now c.args.letter c.write_digits-at.result c.from.result c.args.number c.args.end c.from.ensures
+    (omega arith) (omega arith) c.write_digits-at.ensures.written
 
 pub returns-clause-start : goal.returns-clause-start
 returns-clause-start c =

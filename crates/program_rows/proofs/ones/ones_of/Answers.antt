@@ -17,5 +17,6 @@ loop-place-preserved c =
 pub returns : goal.returns
 returns c =
     sym (append-nil c.loop-place.ones.items)
-    ∙ ap (λ (rest : List Bool). c.loop-place.ones.items ++ ones_from c.loop-place.place rest) (sym (drop_all c.loop-place.place c.args.values.now c.loop-place-test.false))
+    ∙ ap (λ (rest : List Bool). c.loop-place.ones.items ++ ones_from c.loop-place.place rest)
+    (sym (drop_all c.loop-place.place c.args.values.now c.loop-place-test.false))
     ∙ c.loop-place.invariant

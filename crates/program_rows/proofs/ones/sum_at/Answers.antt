@@ -8,7 +8,8 @@ use Rattle.program_rows.proofs.SumFacts.{number_there, near_low, near_high}
 use Rattle.program_rows.proofs.ones.sum_at.Goals as goal
 
 pub add_coefficient-sum-requires-clause-within : goal.add_coefficient-sum-requires-clause-within
-add_coefficient-sum-requires-clause-within c = place-within (λ i. i < length c.args.columns.now) c.args.places.now c.loop-place.place-index c.loop-place-test.true c.requires.within
+add_coefficient-sum-requires-clause-within c =
+    place-within (λ i. i < length c.args.columns.now) c.args.places.now c.loop-place.place-index c.loop-place-test.true c.requires.within
 
 pub loop-place-preserved : goal.loop-place-preserved
 loop-place-preserved c =
@@ -22,5 +23,6 @@ loop-place-preserved c =
     rw same (
       near_low sum c.add_coefficient-sum.result c.loop-place.place-index c.loop-place.invariant.0 parsed.low,
       near_high sum c.add_coefficient-sum.result c.loop-place.place-index c.loop-place.invariant.1 parsed.high,
-      at-step (coefficient_at c.args.row) c.args.columns.now c.args.places.now c.loop-place.place-index there.0 sum c.add_coefficient-sum.result _ c.loop-place-test.true there.1 next c.loop-place.invariant.2,
+      at-step (coefficient_at c.args.row) c.args.columns.now c.args.places.now c.loop-place.place-index there.0 sum
+          c.add_coefficient-sum.result _ c.loop-place-test.true there.1 next c.loop-place.invariant.2,
     )

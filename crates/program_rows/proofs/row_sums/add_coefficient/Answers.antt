@@ -14,8 +14,11 @@ returns-then-value c =
     let same : to_z w128 (of_z w128 c.add_at_one.result) ≡ c.add_at_one.result = to_z-of_z w128 c.add_at_one.result fits in
     let number : to_z w64 (of_z w64 c.coefficient.result) ≡ c.coefficient.result = to_z-of_z w64 c.coefficient.result fits_number in
     let before : to_z w128 (of_z w128 c.args.sum) ≡ c.args.sum = to_z-of_z w128 c.args.sum c.ranges.sum in
-    let next : c.add_at_one.result ≡ c.args.sum +ℤ cond c.args.value c.coefficient.result (pos 0) = c.add_at_one.ensures ∙ ap (λ sum. sum +ℤ cond c.args.value (to_z w64 (of_z w64 c.coefficient.result)) (pos 0)) before ∙ ap (λ n. c.args.sum +ℤ cond c.args.value n (pos 0)) number in
-    let all = added_one c.args.value (option_map (coefficient_at c.args.row) (slice_get c.args.columns.now c.args.column)) c.args.sum c.add_at_one.result c.coefficient.result c.if-value.true c.coefficient.ensures next c.coefficient.type_inv in
+    let next : c.add_at_one.result ≡ c.args.sum +ℤ cond c.args.value c.coefficient.result (pos 0) = c.add_at_one.ensures
+    ∙ ap (λ sum. sum +ℤ cond c.args.value (to_z w64 (of_z w64 c.coefficient.result)) (pos 0)) before
+    ∙ ap (λ n. c.args.sum +ℤ cond c.args.value n (pos 0)) number in
+    let all = added_one c.args.value (option_map (coefficient_at c.args.row) (slice_get c.args.columns.now c.args.column)) c.args.sum
+    c.add_at_one.result c.coefficient.result c.if-value.true c.coefficient.ensures next c.coefficient.type_inv in
     rw same record { added = all.0; low = all.1; high = all.2 }
 
 pub returns : goal.returns

@@ -17,5 +17,6 @@ loop-i-preserved c =
     rw same (
       near_low sum c.add_coefficient-sum.result c.loop-i.i c.loop-i.invariant.0 parsed.low,
       near_high sum c.add_coefficient-sum.result c.loop-i.i c.loop-i.invariant.1 parsed.high,
-      sum_step (coefficient_at c.args.row) c.args.columns.now c.args.values.now c.loop-i.i there.0 false sum c.add_coefficient-sum.result _ there.1 c.loop-i-test.true next c.loop-i.invariant.2,
+      sum_step (coefficient_at c.args.row) c.args.columns.now c.args.values.now c.loop-i.i there.0 false sum c.add_coefficient-sum.result _
+          there.1 c.loop-i-test.true next c.loop-i.invariant.2,
     )

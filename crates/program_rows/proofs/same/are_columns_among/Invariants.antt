@@ -6,4 +6,5 @@ use Rattle.program_rows.proofs.same.are_columns_among.Given as goal
 
 -- those so far pass
 abbrev pub invariant-loop-i : goal.invariant-loop-i
-invariant-loop-i l = list_all (comparing.column_stands (map shown_row l.rows) (map shown_row l.others) l.other_columns) l.columns ≡ list_all (comparing.column_stands (map shown_row l.rows) (map shown_row l.others) l.other_columns) (drop l.i l.columns)
+invariant-loop-i l = list_all (comparing.column_stands (map shown_row l.rows) (map shown_row l.others) l.other_columns) l.columns
+    ≡ list_all (comparing.column_stands (map shown_row l.rows) (map shown_row l.others) l.other_columns) (drop l.i l.columns)

@@ -6,10 +6,13 @@ use Rattle.program_rows.proofs.LookupFacts.{all_step, all_fails, all_end}
 use Rattle.program_rows.proofs.same.are_rows_among.Goals as goal
 
 pub returns-then-not-is_among_rows : goal.returns-then-not-is_among_rows
-returns-then-not-is_among_rows c = sym (c.loop-i.invariant ∙ all_fails (comparing.row_stands (map shown_row c.args.others.now)) (map shown_row c.args.rows.now) c.loop-i.i (shown_row c.row_at.result.now) c.row_at.ensures (sym c.is_among_rows.ensures ∙ c.if-not-is_among_rows.true))
+returns-then-not-is_among_rows c = sym (c.loop-i.invariant ∙ all_fails (comparing.row_stands (map shown_row c.args.others.now))
+    (map shown_row c.args.rows.now) c.loop-i.i (shown_row c.row_at.result.now) c.row_at.ensures
+    (sym c.is_among_rows.ensures ∙ c.if-not-is_among_rows.true))
 
 pub loop-i-preserved : goal.loop-i-preserved
-loop-i-preserved c = c.loop-i.invariant ∙ all_step (comparing.row_stands (map shown_row c.args.others.now)) (map shown_row c.args.rows.now) c.loop-i.i (shown_row c.row_at.result.now) c.row_at.ensures (sym c.is_among_rows.ensures ∙ c.if-not-is_among_rows.false)
+loop-i-preserved c = c.loop-i.invariant ∙ all_step (comparing.row_stands (map shown_row c.args.others.now)) (map shown_row c.args.rows.now)
+    c.loop-i.i (shown_row c.row_at.result.now) c.row_at.ensures (sym c.is_among_rows.ensures ∙ c.if-not-is_among_rows.false)
 
 pub returns : goal.returns
 returns c =

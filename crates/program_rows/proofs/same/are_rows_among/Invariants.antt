@@ -6,4 +6,5 @@ use Rattle.program_rows.proofs.same.are_rows_among.Given as goal
 
 -- those so far pass
 abbrev pub invariant-loop-i : goal.invariant-loop-i
-invariant-loop-i l = list_all (comparing.row_stands (map shown_row l.others)) (map shown_row l.rows) ≡ list_all (comparing.row_stands (map shown_row l.others)) (drop l.i (map shown_row l.rows))
+invariant-loop-i l = list_all (comparing.row_stands (map shown_row l.others)) (map shown_row l.rows)
+    ≡ list_all (comparing.row_stands (map shown_row l.others)) (drop l.i (map shown_row l.rows))

@@ -13,7 +13,8 @@ invariant_of-result c =
     let lots = lots_in rules_ in
     let bids = c.bids-bids.ensures.bids in
     let rows = c.in_ok-rows.ensures ∙ ap (λ ks. map owner_of (subjects lots (offers ks))) bids in
-    let columns = c.in_ok-add_worth_owner.ensures ∙ ap (λ os. os ++ map (λ k. None) (worth_column lots)) (c.in_ok-columns.ensures ∙ ap (λ ks. map (λ o. Some o.bidder) (offers ks)) bids) in record {
+    let columns = c.in_ok-add_worth_owner.ensures ∙ ap (λ os. os ++ map (λ k. None) (worth_column lots))
+    (c.in_ok-columns.ensures ∙ ap (λ ks. map (λ o. Some o.bidder) (offers ks)) bids) in record {
       lots = lots;
       offers = offers c.args.kept.now;
       is = λ i. shared (c.in_ok-program.ensures i) (rows i) (columns i);

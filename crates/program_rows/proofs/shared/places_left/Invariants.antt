@@ -5,4 +5,5 @@ use Rattle.program_rows.proofs.shared.places_left.Given as goal
 
 -- the answer for the owner before, the places so far, and those that are to come
 abbrev pub invariant-loop-i : goal.invariant-loop-i
-invariant-loop-i l = (l.is_last_out ≡ is_out (has l.group) l.last) × (l.places.items ++ places_left (has l.group) l.i (drop l.i l.owners) ≡ places_left (has l.group) 0 l.owners)
+invariant-loop-i l = (l.is_last_out ≡ is_out (has l.group) l.last)
+    × (l.places.items ++ places_left (has l.group) l.i (drop l.i l.owners) ≡ places_left (has l.group) 0 l.owners)

@@ -26,8 +26,11 @@ returns-in_err-program-clause-refused g c =
     let text = only_text (text_bytes input) in
     let before = state (g.S.Sink.taken c.args.out.now) (g.S.Sink.failures c.args.out.now) in
     let f = c.in_err-program.field-0.0 in
-    let refused = program-refuses f (sized PROGRAM_LIMIT (0, kind.TooLarge) meaning text) (program-refused text f (rw c.first_text.ensures at c.in_err-program.ensures.too_large) (rw c.first_text.ensures at c.in_err-program.ensures.meaning)) in
-    if-err-of (IsUnwritten request.Check input before before) c.from_residual.result (refusal.Program f) c.from_residual.ensures.1 (inl (by_refusal (stop _ _ (refusal.Program f) refused) refl))
+    let refused = program-refuses f (sized PROGRAM_LIMIT (0, kind.TooLarge) meaning text)
+    (program-refused text f (rw c.first_text.ensures at c.in_err-program.ensures.too_large)
+    (rw c.first_text.ensures at c.in_err-program.ensures.meaning)) in
+    if-err-of (IsUnwritten request.Check input before before) c.from_residual.result (refusal.Program f) c.from_residual.ensures.1
+    (inl (by_refusal (stop _ _ (refusal.Program f) refused) refl))
 
 pub returns-in_err-write_sizes-clause-refused : goal.returns-in_err-write_sizes-clause-refused
 returns-in_err-write_sizes-clause-refused g c =
@@ -37,13 +40,21 @@ returns-in_err-write_sizes-clause-refused g c =
     let before = state (g.S.Sink.taken c.args.out.now) (g.S.Sink.failures c.args.out.now) in
     let after = state (g.S.Sink.taken c.write_sizes.new.out) (g.S.Sink.failures c.write_sizes.new.out) in
     let f = c.in_err-write_sizes.field-0.0 in
-    let parsed = program-parsed text p (rw c.first_text.ensures at c.in_ok-program.ensures.too_large) (rw c.first_text.ensures at c.in_ok-program.ensures.meaning) in
-    let whole : answer request.Check input ≡ Ok (sizes_text p) = ap (λ (r : Result Table (ℕ × MpsFaultKind)). and_then (refused_as program_refused r) (λ program. Ok (sizes_text program))) parsed in
-    if-err-of (IsUnwritten request.Check input before after) c.from_residual-in_err-write_sizes.result (refusal.Write f) c.from_residual-in_err-write_sizes.ensures.1
+    let parsed = program-parsed text p (rw c.first_text.ensures at c.in_ok-program.ensures.too_large)
+    (rw c.first_text.ensures at c.in_ok-program.ensures.meaning) in
+    let whole : answer request.Check input ≡ Ok (sizes_text p) =
+    ap (λ (r : Result Table (ℕ × MpsFaultKind)). and_then (refused_as program_refused r) (λ program. Ok (sizes_text program))) parsed in
+    if-err-of (IsUnwritten request.Check input before after) c.from_residual-in_err-write_sizes.result (refusal.Write f)
+    c.from_residual-in_err-write_sizes.ensures.1
     (inl (cut-short _ (sizes_text p) before after f whole c.in_err-write_sizes.ensures.err c.in_err-write_sizes.ensures.failed))
 
 pub returns-clause-written : goal.returns-clause-written
 returns-clause-written g c =
     let p = c.in_ok-program.program in
-    let parsed = program-parsed (only_text (text_bytes c.args.input.now)) p (rw c.first_text.ensures at c.in_ok-program.ensures.too_large) (rw c.first_text.ensures at c.in_ok-program.ensures.meaning) in
-    (sizes_text p, ap (λ (r : Result Table (ℕ × MpsFaultKind)). and_then (refused_as program_refused r) (λ program. Ok (sizes_text program))) parsed, c.in_ok-write_sizes.ensures.ok)
+    let parsed = program-parsed (only_text (text_bytes c.args.input.now)) p (rw c.first_text.ensures at c.in_ok-program.ensures.too_large)
+    (rw c.first_text.ensures at c.in_ok-program.ensures.meaning) in (
+      sizes_text p,
+      ap (λ (r : Result Table (ℕ × MpsFaultKind)). and_then (refused_as program_refused r)
+          (λ program. Ok (sizes_text program))) parsed,
+      c.in_ok-write_sizes.ensures.ok,
+    )

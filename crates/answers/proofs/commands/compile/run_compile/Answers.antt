@@ -7,8 +7,10 @@ use Rattle.answers.proofs.commands.compile.run_compile.Goals as goal
 
 pub returns-in-Ok-clause-faithful : goal.returns-in-Ok-clause-faithful
 returns-in-Ok-clause-faithful g c = λ k d small.
-    presolved_text_is_faithful (lots_in c.args.book.now.rules) (book_of c.args.book.now) (has (slice_index_or c.args.groups.now k d)) c.within_limits.ensures.lots c.within_limits.ensures.book
+    presolved_text_is_faithful (lots_in c.args.book.now.rules) (book_of c.args.book.now) (has (slice_index_or c.args.groups.now k d))
+    c.within_limits.ensures.lots c.within_limits.ensures.book
 
 pub returns-in-Err-clause-faithful : goal.returns-in-Err-clause-faithful
 returns-in-Err-clause-faithful g c = λ k d small.
-    presolved_text_is_faithful (lots_in c.args.book.now.rules) (book_of c.args.book.now) (has (slice_index_or c.args.groups.now k d)) c.within_limits.ensures.lots c.within_limits.ensures.book
+    presolved_text_is_faithful (lots_in c.args.book.now.rules) (book_of c.args.book.now) (has (slice_index_or c.args.groups.now k d))
+    c.within_limits.ensures.lots c.within_limits.ensures.book

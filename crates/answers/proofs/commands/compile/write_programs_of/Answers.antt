@@ -15,7 +15,8 @@ pub returns-in-Err-OutOfMemory-clause-refused : goal.returns-in-Err-OutOfMemory-
 returns-in-Err-OutOfMemory-clause-refused g c =
     let book = c.args.auction.now.book in
     let programs = map (compiled book) c.args.auction.now.groups in
-    let stopped = subst (StopsAsReported book programs (g.S.Sink.taken c.args.out.now) (g.S.Sink.taken c.run_compile.new.out)) c.in-Err-OutOfMemory.field-0-is c.in-Err-OutOfMemory.ensures.stopped in
+    let stopped = subst (StopsAsReported book programs (g.S.Sink.taken c.args.out.now) (g.S.Sink.taken c.run_compile.new.out))
+    c.in-Err-OutOfMemory.field-0-is c.in-Err-OutOfMemory.ensures.stopped in
     by_refusal (inr refl) stopped.1
 
 pub returns-in-Err-Sink-clause-refused : goal.returns-in-Err-Sink-clause-refused
@@ -23,7 +24,9 @@ returns-in-Err-Sink-clause-refused g c =
     let book = c.args.auction.now.book in
     let groups = c.args.auction.now.groups in
     let programs = map (compiled book) groups in
-    let failed = subst (FailsAsReported (g.S.Sink.failures c.args.out.now) (g.S.Sink.failures c.run_compile.new.out)) c.in-Err-Sink.field-0-is c.in-Err-Sink.ensures.failed in
-    let stopped = subst (StopsAsReported book programs (g.S.Sink.taken c.args.out.now) (g.S.Sink.taken c.run_compile.new.out)) c.in-Err-Sink.field-0-is c.in-Err-Sink.ensures.stopped in
+    let failed = subst (FailsAsReported (g.S.Sink.failures c.args.out.now) (g.S.Sink.failures c.run_compile.new.out))
+    c.in-Err-Sink.field-0-is c.in-Err-Sink.ensures.failed in
+    let stopped = subst (StopsAsReported book programs (g.S.Sink.taken c.args.out.now) (g.S.Sink.taken c.run_compile.new.out))
+    c.in-Err-Sink.field-0-is c.in-Err-Sink.ensures.stopped in
     by_put (programs_bytes book programs) (ap (λ (out : List ℕ). Ok out) (of-groups book 1 groups))
     (sent-front book programs _ _ (g.S.Sink.taken c.args.out.now) (g.S.Sink.taken c.run_compile.new.out) stopped.2) failed

@@ -21,13 +21,16 @@ returns-in_err-check_wanted-clause-refused g c =
 pub returns-then-bids-clause-written : goal.returns-then-bids-clause-written
 returns-then-bids-clause-written g c =
     let asked : c.args.bids ≡ true = search rules in
-    subst (λ (parsed : Result (List ℕ) Refusal). OnOk c.write_left_out_of.result (Writes parsed (g.S.Sink.taken c.args.out.now) (g.S.Sink.taken c.write_left_out_of.new.out)))
+    subst (λ (parsed : Result (List ℕ) Refusal). OnOk c.write_left_out_of.result
+    (Writes parsed (g.S.Sink.taken c.args.out.now) (g.S.Sink.taken c.write_left_out_of.new.out)))
     (sym (bids-as c.args.bids c.args.target (held c.args.auction.now) asked c.in_ok-check_wanted.ensures.met)) c.write_left_out_of.ensures.written
 
 pub returns-then-bids-clause-refused : goal.returns-then-bids-clause-refused
 returns-then-bids-clause-refused g c =
     let asked : c.args.bids ≡ true = search rules in
-    subst (λ (parsed : Result (List ℕ) Refusal). IfErr c.write_left_out_of.result (Ends parsed (state (g.S.Sink.taken c.args.out.now) (g.S.Sink.failures c.args.out.now)) (state (g.S.Sink.taken c.write_left_out_of.new.out) (g.S.Sink.failures c.write_left_out_of.new.out))))
+    subst (λ (parsed : Result (List ℕ) Refusal). IfErr c.write_left_out_of.result
+    (Ends parsed (state (g.S.Sink.taken c.args.out.now) (g.S.Sink.failures c.args.out.now))
+    (state (g.S.Sink.taken c.write_left_out_of.new.out) (g.S.Sink.failures c.write_left_out_of.new.out))))
     (sym (bids-as c.args.bids c.args.target (held c.args.auction.now) asked c.in_ok-check_wanted.ensures.met)) c.write_left_out_of.ensures.refused
 
 pub returns-clause-written : goal.returns-clause-written

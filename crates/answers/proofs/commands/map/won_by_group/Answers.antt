@@ -19,8 +19,10 @@ returns g c =
     let program : program_without compiler.book c.group.result.now ≡ program_without c.args.book.now (slice_index_or c.args.groups.now (c.args.k - 1) []) =
     ap₂ (λ (k : Compiling) (g : List ℕ). program_without k.book g) made c.group.ensures in
     record {
-      feasible = if-ok-weaker (IsFeasible (lots_in compiler.book.rules) (book_of compiler.book) group) (IsFeasible (lots_in c.args.book.now.rules) (book_of c.args.book.now) (λ b. false)) c.won_without.result
-          (λ a is. subst (λ (k : Compiling). IsFeasible (lots_in k.book.rules) (book_of k.book) (λ b. false) a) made (feasible-for_all (lots_in compiler.book.rules) (book_of compiler.book) group a is)) c.won_without.ensures.feasible;
+      feasible = if-ok-weaker (IsFeasible (lots_in compiler.book.rules) (book_of compiler.book) group)
+          (IsFeasible (lots_in c.args.book.now.rules) (book_of c.args.book.now) (λ b. false)) c.won_without.result
+          (λ a is. subst (λ (k : Compiling). IsFeasible (lots_in k.book.rules) (book_of k.book) (λ b. false) a) made
+          (feasible-for_all (lots_in compiler.book.rules) (book_of compiler.book) group a is)) c.won_without.ensures.feasible;
       won = subst (λ p. IfOk c.won_without.result (λ a. winners_by p 1 c.args.text.now ≡ Ok a)) program c.won_without.ensures.won;
       refuses = subst (λ p. IfErr c.won_without.result (Refuses (winners_by p 1 c.args.text.now))) program c.won_without.ensures.refuses;
     }

@@ -16,8 +16,12 @@ pub returns-clause-written : goal.returns-clause-written
 returns-clause-written g c =
     let within : c.args.k ≤ length c.args.auction.now.groups = search rules in
     let only = c.only_text-solution.ensures ∙ ap (λ (xs : List (Bor (List ℕ))). only_text (bytes_of xs)) c.as_slice.ensures.value in
-    let a = c.in_ok-allocation.allocation in
-    (allocation_text (sale_of c.args.auction.now.book) a, winners-written c.args.auction.now c.args.k c.only_text-solution.result.now within only a c.in_ok-allocation.ensures.won, c.in_ok-write_allocation.ensures.ok)
+    let a = c.in_ok-allocation.allocation in (
+      allocation_text (sale_of c.args.auction.now.book) a,
+      winners-written c.args.auction.now c.args.k c.only_text-solution.result.now within
+          only a c.in_ok-allocation.ensures.won,
+      c.in_ok-write_allocation.ensures.ok,
+    )
 
 pub returns-then-k-count-clause-refused : goal.returns-then-k-count-clause-refused
 returns-then-k-count-clause-refused g c = by_refusal (no-group c.args.auction.now c.args.k (search rules)) refl
@@ -39,6 +43,8 @@ returns-in_err-write_allocation-clause-refused g c =
     let within : c.args.k ≤ length c.args.auction.now.groups = search rules in
     let only = c.only_text-solution.ensures ∙ ap (λ (xs : List (Bor (List ℕ))). only_text (bytes_of xs)) c.as_slice.ensures.value in
     let a = c.in_ok-allocation.allocation in
-    if-err-of (Ends (output_of (request.Map c.args.k) (held c.args.auction.now)) before after) c.from_residual-in_err-write_allocation.result (refusal.Write f) c.from_residual-in_err-write_allocation.ensures.1
+    if-err-of (Ends (output_of (request.Map c.args.k) (held c.args.auction.now)) before after)
+    c.from_residual-in_err-write_allocation.result (refusal.Write f) c.from_residual-in_err-write_allocation.ensures.1
     (cut-short _ (allocation_text (sale_of c.args.auction.now.book) a) before after f
-    (winners-written c.args.auction.now c.args.k c.only_text-solution.result.now within only a c.in_ok-allocation.ensures.won) c.in_err-write_allocation.ensures.err c.in_err-write_allocation.ensures.failed)
+    (winners-written c.args.auction.now c.args.k c.only_text-solution.result.now within only a c.in_ok-allocation.ensures.won)
+    c.in_err-write_allocation.ensures.err c.in_err-write_allocation.ensures.failed)

@@ -18,7 +18,8 @@ pub returns-clause-written : goal.returns-clause-written
 returns-clause-written g c =
     let auction = c.args.auction.now in
     let all = c.in_ok-won.won.items in
-    let sent = subst (λ (won : List (List Choice)). Appends (g.S.Sink.taken c.args.out.now) (g.S.Sink.taken c.report.new.sink) (report_text (sale_of auction.book) auction.groups won)) c.as_slice.ensures.value c.in_ok-report.ensures.ok in
+    let sent = subst (λ (won : List (List Choice)). Appends (g.S.Sink.taken c.args.out.now) (g.S.Sink.taken c.report.new.sink)
+    (report_text (sale_of auction.book) auction.groups won)) c.as_slice.ensures.value c.in_ok-report.ensures.ok in
     (report_text (sale_of auction.book) auction.groups all, next _ all _ _ c.in_ok-won.ensures.won refl, sent)
 
 pub returns-in_err-check_counts-clause-refused : goal.returns-in_err-check_counts-clause-refused
@@ -31,14 +32,16 @@ returns-in_err-check_counts-clause-refused g c =
 pub returns-in_err-compiler-clause-refused : goal.returns-in_err-compiler-clause-refused
 returns-in_err-compiler-clause-refused g c =
     let before = state (g.S.Sink.taken c.args.out.now) (g.S.Sink.failures c.args.out.now) in
-    if-err-of (Ends (output_of (request.Report c.args.workers) (held c.args.auction.now)) before before) c.from_residual-in_err-compiler.result refusal.OutOfMemory c.from_residual-in_err-compiler.ensures.1
+    if-err-of (Ends (output_of (request.Report c.args.workers) (held c.args.auction.now)) before before)
+    c.from_residual-in_err-compiler.result refusal.OutOfMemory c.from_residual-in_err-compiler.ensures.1
     (by_refusal (inr refl) refl)
 
 pub returns-in_err-won-clause-refused : goal.returns-in_err-won-clause-refused
 returns-in_err-won-clause-refused g c =
     let before = state (g.S.Sink.taken c.args.out.now) (g.S.Sink.failures c.args.out.now) in
     let r = c.in_err-won.field-0.0 in
-    if-err-of (Ends (output_of (request.Report c.args.workers) (held c.args.auction.now)) before before) c.from_residual-in_err-won.result r c.from_residual-in_err-won.ensures.1
+    if-err-of (Ends (output_of (request.Report c.args.workers) (held c.args.auction.now)) before before) c.from_residual-in_err-won.result r
+    c.from_residual-in_err-won.ensures.1
     (by_refusal (stop _ _ r c.in_err-won.ensures.refuses) refl)
 
 pub returns-in_err-report-clause-refused : goal.returns-in_err-report-clause-refused
@@ -48,6 +51,9 @@ returns-in_err-report-clause-refused g c =
     let after = state (g.S.Sink.taken c.report.new.sink) (g.S.Sink.failures c.report.new.sink) in
     let all = c.in_ok-won.won.items in
     let f = c.in_err-report.field-0.0 in
-    let sent = subst (λ (won : List (List Choice)). SentFront before.taken after.taken (report_text (sale_of auction.book) auction.groups won) (written_of f)) c.as_slice.ensures.value c.in_err-report.ensures.err in
-    if-err-of (Ends (output_of (request.Report c.args.workers) (held auction)) before after) c.from_residual-in_err-report.result (refusal.Write f) c.from_residual-in_err-report.ensures.1
-    (cut-short _ (report_text (sale_of auction.book) auction.groups all) before after f (next _ all _ _ c.in_ok-won.ensures.won refl) sent c.in_err-report.ensures.failed)
+    let sent = subst (λ (won : List (List Choice)). SentFront before.taken after.taken
+    (report_text (sale_of auction.book) auction.groups won) (written_of f)) c.as_slice.ensures.value c.in_err-report.ensures.err in
+    if-err-of (Ends (output_of (request.Report c.args.workers) (held auction)) before after) c.from_residual-in_err-report.result
+    (refusal.Write f) c.from_residual-in_err-report.ensures.1
+    (cut-short _ (report_text (sale_of auction.book) auction.groups all) before after f (next _ all _ _ c.in_ok-won.ensures.won refl) sent
+    c.in_err-report.ensures.failed)

@@ -19,8 +19,13 @@ use Rattle.answers.proofs.commands.text.write_program_of_all.Goals as goal
 pub returns-clause-written : goal.returns-clause-written
 returns-clause-written g c =
     let book = c.args.auction.now.book in
-    let nobody : c.group.result.now ≡ [] = c.group.ensures ∙ ap (λ (groups : List (List ℕ)). slice_index_or groups (1 - 1) []) c.in_ok-groups.ensures in
-    (text (program_without book []), refl, subst (λ (group : List ℕ). Appends (g.S.Sink.taken c.args.out.now) (g.S.Sink.taken c.write_program_without.new.out) (text (program_without book group))) nobody c.in_ok-write_program_without.ensures.ok)
+    let nobody : c.group.result.now ≡ [] = c.group.ensures ∙ ap (λ (groups : List (List ℕ)). slice_index_or groups (1 - 1) []) c.in_ok-groups.ensures in (
+      text (program_without book []),
+      refl,
+      subst (λ (group : List ℕ). Appends (g.S.Sink.taken c.args.out.now)
+          (g.S.Sink.taken c.write_program_without.new.out) (text (program_without book group))) nobody
+          c.in_ok-write_program_without.ensures.ok,
+    )
 
 pub returns-clause-faithful : goal.returns-clause-faithful
 returns-clause-faithful g c =
@@ -30,12 +35,14 @@ returns-clause-faithful g c =
 pub returns-in_err-groups-clause-refused : goal.returns-in_err-groups-clause-refused
 returns-in_err-groups-clause-refused g c =
     let before = state (g.S.Sink.taken c.args.out.now) (g.S.Sink.failures c.args.out.now) in
-    if-err-of (Ends (output_of request.Text (held c.args.auction.now)) before before) c.from_residual.result refusal.OutOfMemory c.from_residual.ensures.1 (by_refusal (inr refl) refl)
+    if-err-of (Ends (output_of request.Text (held c.args.auction.now)) before before) c.from_residual.result refusal.OutOfMemory
+    c.from_residual.ensures.1 (by_refusal (inr refl) refl)
 
 pub returns-in_err-pages-clause-refused : goal.returns-in_err-pages-clause-refused
 returns-in_err-pages-clause-refused g c =
     let before = state (g.S.Sink.taken c.args.out.now) (g.S.Sink.failures c.args.out.now) in
-    if-err-of (Ends (output_of request.Text (held c.args.auction.now)) before before) c.from_residual-in_err-pages.result refusal.OutOfMemory c.from_residual-in_err-pages.ensures.1 (by_refusal (inr refl) refl)
+    if-err-of (Ends (output_of request.Text (held c.args.auction.now)) before before) c.from_residual-in_err-pages.result
+    refusal.OutOfMemory c.from_residual-in_err-pages.ensures.1 (by_refusal (inr refl) refl)
 
 pub returns-in_err-write_program_without-clause-refused : goal.returns-in_err-write_program_without-clause-refused
 returns-in_err-write_program_without-clause-refused g c =
@@ -44,6 +51,8 @@ returns-in_err-write_program_without-clause-refused g c =
     let after = state (g.S.Sink.taken c.write_program_without.new.out) (g.S.Sink.failures c.write_program_without.new.out) in
     let f = c.in_err-write_program_without.field-0.0 in
     let nobody : c.group.result.now ≡ [] = c.group.ensures ∙ ap (λ (groups : List (List ℕ)). slice_index_or groups (1 - 1) []) c.in_ok-groups.ensures in
-    let sent = subst (λ (group : List ℕ). SentFront before.taken after.taken (text (program_without book group)) (written_of f)) nobody c.in_err-write_program_without.ensures.err in
-    if-err-of (Ends (output_of request.Text (held c.args.auction.now)) before after) c.from_residual-in_err-write_program_without.result (refusal.Write f) c.from_residual-in_err-write_program_without.ensures.1
+    let sent = subst (λ (group : List ℕ). SentFront before.taken after.taken (text (program_without book group)) (written_of f)) nobody
+    c.in_err-write_program_without.ensures.err in
+    if-err-of (Ends (output_of request.Text (held c.args.auction.now)) before after) c.from_residual-in_err-write_program_without.result
+    (refusal.Write f) c.from_residual-in_err-write_program_without.ensures.1
     (cut-short _ (text (program_without book [])) before after f refl sent c.in_err-write_program_without.ensures.failed)

@@ -24,8 +24,10 @@ returns-clause-written g c =
     let claim = c.in_ok-claim.claim in
     let pricing = c.in_ok-pricing.pricing in
     let sent = c.in_ok-report_with.ensures.ok in (
-      report_text (sale_of auction.book) auction.groups all ++ (pricing_text (sale_of auction.book) (slice_index_or all 0 []) pricing ++ uniqueness_text (sale_of auction.book) claim),
-      next _ all _ _ (next _ all _ _ won c.in_ok-check_certificates.ensures.shown) (next _ claim _ _ c.in_ok-claim.ensures.parsed (next _ pricing _ _ c.in_ok-pricing.ensures.parsed refl)),
+      report_text (sale_of auction.book) auction.groups all ++ (pricing_text (sale_of auction.book) (slice_index_or all 0 []) pricing ++
+          uniqueness_text (sale_of auction.book) claim),
+      next _ all _ _ (next _ all _ _ won c.in_ok-check_certificates.ensures.shown)
+          (next _ claim _ _ c.in_ok-claim.ensures.parsed (next _ pricing _ _ c.in_ok-pricing.ensures.parsed refl)),
       sent,
     )
 
@@ -41,7 +43,8 @@ pub returns-in_err-compiler-clause-refused : goal.returns-in_err-compiler-clause
 returns-in_err-compiler-clause-refused g c =
     let auction = held c.args.auction.now in
     let before = state (g.S.Sink.taken c.args.out.now) (g.S.Sink.failures c.args.out.now) in
-    if-err-of (IsWithoutOutput (request.Verify c.args.workers) auction before before) c.from_residual-in_err-compiler.result refusal.OutOfMemory c.from_residual-in_err-compiler.ensures.1
+    if-err-of (IsWithoutOutput (request.Verify c.args.workers) auction before before) c.from_residual-in_err-compiler.result
+    refusal.OutOfMemory c.from_residual-in_err-compiler.ensures.1
     (inl (by_refusal (inr refl) refl))
 
 pub returns-in_err-won-clause-refused : goal.returns-in_err-won-clause-refused
@@ -58,7 +61,8 @@ returns-in_err-check_certificates-clause-refused g c =
     let before = state (g.S.Sink.taken c.args.out.now) (g.S.Sink.failures c.args.out.now) in
     let r = c.in_err-check_certificates.field-0.0 in
     let won = c.in_ok-won.ensures.won ∙ ap (λ (xs : List (List Choice)). Ok xs) (sym c.as_slice-allocations.ensures.value) in
-    if-err-of (IsWithoutOutput (request.Verify c.args.workers) auction before before) c.from_residual-in_err-check_certificates.result r c.from_residual-in_err-check_certificates.ensures.1
+    if-err-of (IsWithoutOutput (request.Verify c.args.workers) auction before before) c.from_residual-in_err-check_certificates.result r
+    c.from_residual-in_err-check_certificates.ensures.1
     (unshown c.args.workers auction c.as_slice-allocations.result.now before r won c.in_err-check_certificates.ensures.refuses)
 
 pub returns-in_err-claim-clause-refused : goal.returns-in_err-claim-clause-refused
@@ -67,7 +71,8 @@ returns-in_err-claim-clause-refused g c =
     let before = state (g.S.Sink.taken c.args.out.now) (g.S.Sink.failures c.args.out.now) in
     let r = c.in_err-claim.field-0.0 in
     let won = c.in_ok-won.ensures.won ∙ ap (λ (xs : List (List Choice)). Ok xs) (sym c.as_slice-allocations.ensures.value) in
-    if-err-of (IsWithoutOutput (request.Verify c.args.workers) auction before before) c.from_residual-in_err-claim.result r c.from_residual-in_err-claim.ensures.1
+    if-err-of (IsWithoutOutput (request.Verify c.args.workers) auction before before) c.from_residual-in_err-claim.result r
+    c.from_residual-in_err-claim.ensures.1
     (unclaimed c.args.workers auction c.as_slice-allocations.result.now before r won c.in_ok-check_certificates.ensures.shown c.in_err-claim.ensures.refuses)
 
 pub returns-in_err-pricing-clause-refused : goal.returns-in_err-pricing-clause-refused
@@ -76,13 +81,16 @@ returns-in_err-pricing-clause-refused g c =
     let before = state (g.S.Sink.taken c.args.out.now) (g.S.Sink.failures c.args.out.now) in
     let r = c.in_err-pricing.field-0.0 in
     let won = c.in_ok-won.ensures.won ∙ ap (λ (xs : List (List Choice)). Ok xs) (sym c.as_slice-allocations.ensures.value) in
-    if-err-of (IsWithoutOutput (request.Verify c.args.workers) auction before before) c.from_residual-in_err-pricing.result r c.from_residual-in_err-pricing.ensures.1
-    (unpriced c.args.workers auction c.as_slice-allocations.result.now c.in_ok-claim.claim before r won c.in_ok-check_certificates.ensures.shown c.in_ok-claim.ensures.parsed c.in_err-pricing.ensures.refuses)
+    if-err-of (IsWithoutOutput (request.Verify c.args.workers) auction before before) c.from_residual-in_err-pricing.result r
+    c.from_residual-in_err-pricing.ensures.1
+    (unpriced c.args.workers auction c.as_slice-allocations.result.now c.in_ok-claim.claim before r won
+    c.in_ok-check_certificates.ensures.shown c.in_ok-claim.ensures.parsed c.in_err-pricing.ensures.refuses)
 
 pub pricing_of-requires-clause-without : goal.pricing_of-requires-clause-without
 pricing_of-requires-clause-without g c =
     let won = c.in_ok-won.ensures.won ∙ ap (λ (xs : List (List Choice)). Ok xs) (sym c.as_slice-allocations.ensures.value) in
-    certified-greatest (held c.args.auction.now) c.as_slice-allocations.result.now c.rules-within_limits.ensures.book won c.in_ok-check_certificates.ensures.shown
+    certified-greatest (held c.args.auction.now) c.as_slice-allocations.result.now c.rules-within_limits.ensures.book won
+    c.in_ok-check_certificates.ensures.shown
 
 pub returns-in_err-report_with-clause-refused : goal.returns-in_err-report_with-clause-refused
 returns-in_err-report_with-clause-refused g c =
@@ -95,6 +103,11 @@ returns-in_err-report_with-clause-refused g c =
     let f = c.in_err-report_with.field-0.0 in
     let won = c.in_ok-won.ensures.won ∙ ap (λ (xs : List (List Choice)). Ok xs) (sym c.as_slice-allocations.ensures.value) in
     let sent = c.in_err-report_with.ensures.err in
-    if-err-of (IsWithoutOutput (request.Verify c.args.workers) (held auction) before after) c.from_residual-in_err-report_with.result (refusal.Write f) c.from_residual-in_err-report_with.ensures.1
-    (inl (cut-short _ (report_text (sale_of auction.book) auction.groups all ++ (pricing_text (sale_of auction.book) (slice_index_or all 0 []) pricing ++ uniqueness_text (sale_of auction.book) claim)) before after f
-    (next _ all _ _ (next _ all _ _ won c.in_ok-check_certificates.ensures.shown) (next _ claim _ _ c.in_ok-claim.ensures.parsed (next _ pricing _ _ c.in_ok-pricing.ensures.parsed refl))) sent c.in_err-report_with.ensures.failed))
+    if-err-of (IsWithoutOutput (request.Verify c.args.workers) (held auction) before after) c.from_residual-in_err-report_with.result
+    (refusal.Write f) c.from_residual-in_err-report_with.ensures.1
+    (inl (cut-short _ (report_text (sale_of auction.book) auction.groups all ++
+    (pricing_text (sale_of auction.book) (slice_index_or all 0 []) pricing ++ uniqueness_text (sale_of auction.book) claim)) before
+    after f
+    (next _ all _ _ (next _ all _ _ won c.in_ok-check_certificates.ensures.shown)
+    (next _ claim _ _ c.in_ok-claim.ensures.parsed (next _ pricing _ _ c.in_ok-pricing.ensures.parsed refl))) sent
+    c.in_err-report_with.ensures.failed))

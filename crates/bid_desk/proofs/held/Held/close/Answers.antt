@@ -36,15 +36,18 @@ returns-clause-recorded g c = λ less.
     let recorded : IsRecordedByChair before after chair chair' Close reply = record {
       history = c.in_ok-reply.ensures.recorded less;
       count = c.add.ensures.total;
-      own_is = one-pair-more c.chair.inside.own.items c.reserve.new.self.items c.push_pair.new.own.items (Close, c.same_reply.result) (Close, reply) c.in_ok-reserve.ensures.items c.push_pair.ensures
+      own_is = one-pair-more c.chair.inside.own.items c.reserve.new.self.items c.push_pair.new.own.items (Close, c.same_reply.result)
+          (Close, reply) c.in_ok-reserve.ensures.items c.push_pair.ensures
           (ap (λ (r : Reply Offers). (Close, r)) c.same_reply.ensures);
       share_is = c.add.ensures.amount;
     } in
-    subst (λ (h : Holding). IsRecordedByChair h after c.args.chair.now chair' Close reply) c.self.view_is (subst (λ (k : ChairOwn). IsRecordedByChair before after k chair' Close reply) c.chair.view_is recorded)
+    subst (λ (h : Holding). IsRecordedByChair h after c.args.chair.now chair' Close reply) c.self.view_is
+    (subst (λ (k : ChairOwn). IsRecordedByChair before after k chair' Close reply) c.chair.view_is recorded)
 
 pub invariant_of-chair-2 : goal.invariant_of-chair-2
 invariant_of-chair-2 g c = (
-  share-is c.chair.inside.own c.reserve.new.self c.push_pair.new.own (Close, c.same_reply.result) c.chair.inside.share.amount c.add.new.share.amount c.in_ok-reserve.ensures.items c.push_pair.ensures c.add.ensures.amount
+  share-is c.chair.inside.own c.reserve.new.self c.push_pair.new.own (Close, c.same_reply.result) c.chair.inside.share.amount
+      c.add.new.share.amount c.in_ok-reserve.ensures.items c.push_pair.ensures c.add.ensures.amount
       c.chair.invariant.0,
   omega (arith, c.add.ensures.parts, c.chair.invariant.1),
 )

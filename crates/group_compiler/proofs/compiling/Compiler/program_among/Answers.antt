@@ -25,6 +25,8 @@ returns c =
     let group = c.args.group.now in
     let choices = c.args.choices.items in
     let kept = c.in_ok-kept.kept in
-    IfOk-weaker c.build.result (λ (p : Table). p ≡ program_of (lots_in c.rules.result.now) (offers kept)) (λ (p : Table). p ≡ program_among c.args.self.now.book group choices)
-    (λ p e. e ∙ ap₂ (λ (t : Terms) (os : List Offer). program_of (lots_in t) os) c.rules.ensures.rules c.in_ok-kept.ensures ∙ ap (λ (k : Compiling). program_among k.book group choices) c.self.view_is)
+    IfOk-weaker c.build.result (λ (p : Table). p ≡ program_of (lots_in c.rules.result.now) (offers kept))
+    (λ (p : Table). p ≡ program_among c.args.self.now.book group choices)
+    (λ p e. e ∙ ap₂ (λ (t : Terms) (os : List Offer). program_of (lots_in t) os) c.rules.ensures.rules c.in_ok-kept.ensures ∙ ap
+    (λ (k : Compiling). program_among k.book group choices) c.self.view_is)
     c.build.ensures

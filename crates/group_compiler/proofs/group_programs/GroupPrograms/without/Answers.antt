@@ -12,6 +12,8 @@ pub returns : goal.returns
 returns c =
     let group = c.args.group.now in
     let book = c.self.inside.book.now in
-    IfOk-weaker c.without.result (λ (p : Table). p ≡ selection_without c.self.inside.shared (has group)) (λ (p : Table). p ≡ program_without c.args.self.now group)
-    (λ p e. e ∙ ap (λ (s : Shared). selection_without s (has group)) c.self.inside.shared_is ∙ selection_is book group c.rules-rules.ensures.book ∙ ap (λ (b : Closing). program_without b group) c.self.view_is)
+    IfOk-weaker c.without.result (λ (p : Table). p ≡ selection_without c.self.inside.shared (has group))
+    (λ (p : Table). p ≡ program_without c.args.self.now group)
+    (λ p e. e ∙ ap (λ (s : Shared). selection_without s (has group)) c.self.inside.shared_is ∙ selection_is book group
+    c.rules-rules.ensures.book ∙ ap (λ (b : Closing). program_without b group) c.self.view_is)
     c.without.ensures

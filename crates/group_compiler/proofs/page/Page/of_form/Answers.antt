@@ -16,9 +16,11 @@ build_bids-requires c =
     let rules = c.args.book.now.rules in
     let book = book_of c.args.book.now in
     let kept = c.in_ok-kept.kept in
-    let are = subst (AreOffers (lots_in rules)) (sym c.in_ok-kept.ensures) (form_offers (lots_in rules) book c.args.bidder c.requires.some c.requires.bidders c.rules-rules.ensures.book) in
+    let are = subst (AreOffers (lots_in rules)) (sym c.in_ok-kept.ensures)
+    (form_offers (lots_in rules) book c.args.bidder c.requires.some c.requires.bidders c.rules-rules.ensures.book) in
     record {
-      sized = subst (λ (t : Terms). All (λ (k : KeptBid). length k.offer.now.package ≡ length t.categories) kept) (sym c.rules-rules.ensures.rules) (offers_are_sized rules kept are);
+      sized = subst (λ (t : Terms). All (λ (k : KeptBid). length k.offer.now.package ≡ length t.categories) kept)
+          (sym c.rules-rules.ensures.rules) (offers_are_sized rules kept are);
     }
 
 pub overflow_sub-own : goal.overflow_sub-own
@@ -32,7 +34,8 @@ overflow_sub-own c =
 pub returns : goal.returns
 returns c =
     let rules = c.rules-rules.result.now in
-    let page = form_page (lots_in rules) (lots_in c.args.book.now.rules) (offers c.in_ok-kept.kept) _ c.in_ok-parts.parts.rows.items c.as_slice-rows.result.now c.in_ok-parts.parts.columns _
+    let page = form_page (lots_in rules) (lots_in c.args.book.now.rules) (offers c.in_ok-kept.kept) _ c.in_ok-parts.parts.rows.items
+    c.as_slice-rows.result.now c.in_ok-parts.parts.columns _
     (ap lots_in c.rules-rules.ensures.rules) c.in_ok-kept.ensures c.as_slice-rows.ensures.value c.in_ok-parts.ensures.rows c.in_ok-parts.ensures.columns
     (count_lots rules c.categories.result.now c.pools.result.now c.categories.ensures.value c.pools.ensures.value) in
     IfOk-weaker c.new.result _ _ (λ p e. e ∙ page) c.new.ensures

@@ -15,5 +15,8 @@ returns-clause-pages g c =
 pub invariant_of-result : goal.invariant_of-result
 invariant_of-result g c =
     let book = book_of c.args.book.now in
-    let forms = pages_in_order c.args.book.now c.in_ok-forms.forms.items c.in_ok-forms.ensures.made in
-    (subst (λ (n : ℕ). n ≤ MOST_BIDDERS) (sym (ap (λ (ps : List PageText). length ps) forms ∙ length_pages (lots_in c.args.book.now.rules) 1 book)) c.rules.ensures.book.bidders, tt)
+    let forms = pages_in_order c.args.book.now c.in_ok-forms.forms.items c.in_ok-forms.ensures.made in (
+      subst (λ (n : ℕ). n ≤ MOST_BIDDERS) (sym (ap (λ (ps : List PageText). length ps) forms ∙ length_pages (lots_in c.args.book.now.rules) 1
+          book)) c.rules.ensures.book.bidders,
+      tt,
+    )

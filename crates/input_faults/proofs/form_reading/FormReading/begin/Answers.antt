@@ -15,5 +15,6 @@ returns-clause-reads c =
     let stands = c.in_ok-go_to.ensures.stands text begun in
     record {
       stands = stands;
-      eligibility = c.parsed_eligibility-eligibility.ensures ∙ ap (parsed_eligibility t) (stands.held ∙ ap (λ (n : ℕ). numbered n (records_of text)) c.in_ok-go_to.ensures.place);
+      eligibility = c.parsed_eligibility-eligibility.ensures
+          ∙ ap (parsed_eligibility t) (stands.held ∙ ap (λ (n : ℕ). numbered n (records_of text)) c.in_ok-go_to.ensures.place);
     }

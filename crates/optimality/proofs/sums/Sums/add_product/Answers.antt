@@ -15,4 +15,5 @@ returns-clause-value c =
     let sum = simp to_z-of_z at c.in_ok-sum.ensures.value in
     let put = simp to_z-of_z at c.put.ensures.value in
     let more : c.in_ok-sum.sum -ℤ c.number_at-before.result ≡ c.args.product = omega (arith, ints, sum) in
-    on_ok_weaker c.put.result (λ given. subst (λ (n : ℤ). AreGivenMore (at_place c.args.place n) c.args.self.now.numbers.items c.put.new.self.numbers.items) more given) put
+    on_ok_weaker c.put.result (λ given. subst (λ (n : ℤ). AreGivenMore (at_place c.args.place n) c.args.self.now.numbers.items
+    c.put.new.self.numbers.items) more given) put

@@ -18,7 +18,8 @@ invariant_of-self-2 c =
     let within : c.args.place < length grown = search rules in
     record {
       listed = subst (λ (ns : List ℤ). AreListed c.list_new.new.places.items ns) (sym set)
-          (listed-too old.places.items c.list_new.new.places.items old.numbers.items grown c.args.place c.args.sum c.in_ok-list_new.ensures.kept (λ e. new (c.requires ∙ e)) old.listed c.reach.ensures.same within);
+          (listed-too old.places.items c.list_new.new.places.items old.numbers.items grown c.args.place c.args.sum
+          c.in_ok-list_new.ensures.kept (λ e. new (c.requires ∙ e)) old.listed c.reach.ensures.same within);
     }
 
 whole : (before was sum : ℤ) → before ≡ was → sum ≡ was +ℤ (sum -ℤ before)
@@ -32,4 +33,5 @@ returns-clause-value c =
     let set = simp to_z-of_z at c.set_number.ensures in
     let within : c.args.place < length grown = search rules in
     let all = set ∙ ap (λ (n : ℤ). slice_set grown c.args.place n) (whole c.args.before (number_at old.numbers.items c.args.place) c.args.sum c.requires) in
-    subst (λ (ns : List ℤ). AreGivenMore (at_place c.args.place (c.args.sum -ℤ c.args.before)) old.numbers.items ns) (sym all) (more-set old.numbers.items grown c.args.place (c.args.sum -ℤ c.args.before) c.reach.ensures.same within)
+    subst (λ (ns : List ℤ). AreGivenMore (at_place c.args.place (c.args.sum -ℤ c.args.before)) old.numbers.items ns) (sym all)
+    (more-set old.numbers.items grown c.args.place (c.args.sum -ℤ c.args.before) c.reach.ensures.same within)

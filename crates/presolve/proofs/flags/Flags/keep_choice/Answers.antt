@@ -18,13 +18,15 @@ use Rattle.presolve.proofs.flags.Flags.keep_choice.Goals as goal
 
 pub returns-then-has-clause-added : goal.returns-then-has-clause-added
 returns-then-has-clause-added c =
-    left_out (lots_in c.args.book.now.rules) (book_of c.args.book.now) (has c.args.group.now) c.args.choice (offers c.args.kept.now.items) (sym c.has.ensures.member ∙ c.if-has.true)
+    left_out (lots_in c.args.book.now.rules) (book_of c.args.book.now) (has c.args.group.now) c.args.choice (offers c.args.kept.now.items)
+    (sym c.has.ensures.member ∙ c.if-has.true)
 
 pub returns-in_default-clause-added : goal.returns-in_default-clause-added
 returns-in_default-clause-added c =
     let book = book_of c.args.book.now in
     let choice = c.args.choice in
-    not_there (lots_in c.args.book.now.rules) book (has c.args.group.now) choice (offers c.args.kept.now.items) (no_bid_of_none (form_of book choice.bidder) choice.bid c.in_default.ensures.bids)
+    not_there (lots_in c.args.book.now.rules) book (has c.args.group.now) choice (offers c.args.kept.now.items)
+    (no_bid_of_none (form_of book choice.bidder) choice.bid c.in_default.ensures.bids)
 
 pub returns-then-bid-eq0-clause-added : goal.returns-then-bid-eq0-clause-added
 returns-then-bid-eq0-clause-added c =
@@ -40,8 +42,10 @@ returns-then-bid-eq0-clause-added c =
 
 pub index-requires : goal.index-requires
 index-requires c =
-    let flags = its_flags (lots_in c.args.book.now.rules) (book_of c.args.book.now) c.self.inside.forms.items c.args.choice c.index-flags.result.now c.bids-bids.result.now c.from-2.result c.from-place.result
-    (c.self.view_is ∙ c.requires.flags) (c.bids-bids.ensures.bids ∙ c.in-Some.ensures.bids) (omega arith) (omega arith) c.from-2.ensures c.from-place.ensures c.index-flags.ensures in
+    let flags = its_flags (lots_in c.args.book.now.rules) (book_of c.args.book.now) c.self.inside.forms.items c.args.choice
+    c.index-flags.result.now c.bids-bids.result.now c.from-2.result c.from-place.result
+    (c.self.view_is ∙ c.requires.flags) (c.bids-bids.ensures.bids ∙ c.in-Some.ensures.bids) (omega arith) (omega arith) c.from-2.ensures
+    c.from-place.ensures c.index-flags.ensures in
     omega (arith, c.index-flags.result.now.ok.0, ap length flags ∙ length-map c.bids-bids.result.now _)
 
 pub returns-in_ok-push-clause-added : goal.returns-in_ok-push-clause-added
@@ -52,7 +56,8 @@ returns-in_ok-push-clause-added c =
     let choice = c.args.choice in
     let x = c.index-bids-place.result in
     let (at, is) = its_flag lots book c.self.inside.forms.items choice c.index-flags.result.now c.bids-bids.result.now c.from-2.result c.from-place.result
-    (c.self.view_is ∙ c.requires.flags) (c.bids-bids.ensures.bids ∙ c.in-Some.ensures.bids) (omega arith) (omega arith) c.from-2.ensures c.from-place.ensures c.index-flags.ensures x c.index.result.now c.index-bids-place.is c.index.ensures in
+    (c.self.view_is ∙ c.requires.flags) (c.bids-bids.ensures.bids ∙ c.in-Some.ensures.bids) (omega arith) (omega arith) c.from-2.ensures
+    c.from-place.ensures c.index-flags.ensures x c.index.result.now c.index-bids-place.is c.index.ensures in
     let stands = stays lots book group choice x (sym c.has.ensures.member ∙ c.if-has.false) at (is ∙ c.if-index.true) in
     ap (λ (ks : List KeptBid). offers ks) c.in_ok-push.ensures.items ∙ map-append offer_of c.args.kept.now.items _
     ∙ ap (λ (os : List Offer). offers c.args.kept.now.items ++ os) (sym (one_of lots book group choice x at stands))
@@ -66,7 +71,8 @@ returns-in_ok-push-clause-each c =
     let long = ap length bids in
     let same = ap length its in
     let form = c.bids-bids.ensures.form in
-    let limits : IsBidWithinLimits x = subst IsBidWithinLimits (ap (λ (xs : List Bid). get_or xs place x) (sym its) ∙ sym c.index-bids-place.is) (form.each place x (omega (arith, c.if-from-bids.false))) in
+    let limits : IsBidWithinLimits x = subst IsBidWithinLimits (ap (λ (xs : List Bid). get_or xs place x) (sym its) ∙ sym
+    c.index-bids-place.is) (form.each place x (omega (arith, c.if-from-bids.false))) in
     let bidder = bidder_within (book_of c.args.book.now) c.args.choice.bidder (omega arith) in
     rw c.in_ok-push.ensures.items (All-push IsKeptBid c.args.kept.now.items _ c.requires.each record {
       some_bidder = bidder.0;
@@ -83,7 +89,10 @@ returns-else-index-clause-added c =
     let bids = c.bids-bids.result.now in
     let none : Bid = record { «package» = []; amount = 0 } in
     let x = get_or bids (c.from-place.result - 1) none in
-    let (at, is) = its_flag (lots_in c.args.book.now.rules) (book_of c.args.book.now) c.self.inside.forms.items c.args.choice c.index-flags.result.now bids c.from-2.result c.from-place.result
-    (c.self.view_is ∙ c.requires.flags) (c.bids-bids.ensures.bids ∙ c.in-Some.ensures.bids) (omega arith) (omega arith) c.from-2.ensures c.from-place.ensures c.index-flags.ensures x c.index.result.now
+    let (at, is) = its_flag (lots_in c.args.book.now.rules) (book_of c.args.book.now) c.self.inside.forms.items c.args.choice
+    c.index-flags.result.now bids c.from-2.result c.from-place.result
+    (c.self.view_is ∙ c.requires.flags) (c.bids-bids.ensures.bids ∙ c.in-Some.ensures.bids) (omega arith) (omega arith) c.from-2.ensures
+    c.from-place.ensures c.index-flags.ensures x c.index.result.now
     (get_or_default bids (c.from-place.result - 1) none x (omega arith)) c.index.ensures in
-    dropped (lots_in c.args.book.now.rules) (book_of c.args.book.now) (has c.args.group.now) c.args.choice (offers c.args.kept.now.items) x at (is ∙ c.if-index.false)
+    dropped (lots_in c.args.book.now.rules) (book_of c.args.book.now) (has c.args.group.now) c.args.choice (offers c.args.kept.now.items) x
+    at (is ∙ c.if-index.false)

@@ -27,7 +27,8 @@ pub loop-place-preserved : goal.loop-place-preserved
 loop-place-preserved c =
     let bidders = length_book c.args.book.now _ _ c.bidders-bidders.ensures.value c.rules.ensures.rules in
     record {
-      so_far = kept_more (lots_in c.args.book.now.rules) (book_of c.args.book.now) (has c.args.group.now) c.loop-place.place (offers c.loop-place.kept.items) (offers c.keep_bidder.new.kept.items) (omega arith)
+      so_far = kept_more (lots_in c.args.book.now.rules) (book_of c.args.book.now) (has c.args.group.now) c.loop-place.place
+          (offers c.loop-place.kept.items) (offers c.keep_bidder.new.kept.items) (omega arith)
           c.loop-place.invariant.so_far c.in_ok-keep_bidder.ensures.added;
       each = c.in_ok-keep_bidder.ensures.each;
     }
@@ -45,4 +46,5 @@ pub returns : goal.returns
 returns c =
     let bidders = length_book c.args.book.now _ _ c.bidders-bidders.ensures.value c.rules.ensures.rules in
     ap (λ (ks : List KeptBid). offers ks) c.new.ensures
-    ∙ all_kept (lots_in c.args.book.now.rules) (book_of c.args.book.now) (has c.args.group.now) c.loop-place.place (offers c.loop-place.kept.items) (omega arith) c.loop-place.invariant.so_far
+    ∙ all_kept (lots_in c.args.book.now.rules) (book_of c.args.book.now) (has c.args.group.now) c.loop-place.place
+    (offers c.loop-place.kept.items) (omega arith) c.loop-place.invariant.so_far

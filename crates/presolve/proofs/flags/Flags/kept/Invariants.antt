@@ -12,6 +12,7 @@ use Rattle.presolve.proofs.flags.Flags.kept.Given as goal
 -- those so far, followed by those of the bidders that are left, are all
 abbrev pub invariant-loop-place : goal.invariant-loop-place
 invariant-loop-place l = record {
-  so_far : offers l.kept.items ++ filter (is_kept_offer (lots_in l.book.rules) (book_of l.book) (has l.group)) (offers_from (1 + l.place) (drop l.place (book_of l.book))) ≡ kept_of (lots_in l.book.rules) (book_of l.book) (has l.group);
+  so_far : offers l.kept.items ++ filter (is_kept_offer (lots_in l.book.rules) (book_of l.book) (has l.group))
+      (offers_from (1 + l.place) (drop l.place (book_of l.book))) ≡ kept_of (lots_in l.book.rules) (book_of l.book) (has l.group);
   each : All IsKeptBid l.kept.items;
 }

@@ -40,9 +40,11 @@ loop-place-preserved c =
       | then-not-is_repeated+in_ok-keep_choice w ↦
           (let choice = w.index.result.now in
           let at : slice_get sorted place ≡ Some choice = slice_get-get_or sorted place choice less ∙ ap (λ (d : Choice). Some d) (sym w.index.ensures) in
-          let earlier = behind_all sorted place choice c.by_rising_bid-sorted.ensures.rising less at (not_repeated sorted c.deref.result.now place c.is_repeated.result shown c.is_repeated.ensures w.if-not-is_repeated.true) in
+          let earlier = behind_all sorted place choice c.by_rising_bid-sorted.ensures.rising less at
+          (not_repeated sorted c.deref.result.now place c.is_repeated.result shown c.is_repeated.ensures w.if-not-is_repeated.true) in
           rw w.kept-is (record {
-            so_far = w.in_ok-keep_choice.ensures.added ∙ ap (λ (os : List Offer). os ++ filter (is_offer_of choice) (kept_of lots book group)) c.loop-place.invariant.so_far
+            so_far = w.in_ok-keep_choice.ensures.added ∙ ap (λ (os : List Offer). os ++ filter (is_offer_of choice)
+                (kept_of lots book group)) c.loop-place.invariant.so_far
                 ∙ sym (one_more lots book group c.rules-rules.ensures.book sorted choice place less at earlier);
             each = w.in_ok-keep_choice.ensures.each;
           }))
@@ -61,8 +63,10 @@ new-requires c =
     let group = has c.args.group.now in
     let sorted = c.by_rising_bid-sorted.result.items in
     let over : length sorted ≤ c.loop-place.place = (let l = c.loop-place-test.false in omega (arith, c.by_rising_bid-sorted.result.ok.0)) in
-    are_kept lots _ c.loop-place.kept.items (offers_left lots (λ o. has_choice c.args.choices.items o.bidder o.number) (kept_of lots book group) (kept_are_offers lots book group c.rules-rules.ensures.book)) c.loop-place.invariant.each
-    (c.loop-place.invariant.so_far ∙ at_end lots book group c.rules-rules.ensures.book sorted c.loop-place.place c.args.choices.items over c.by_rising_bid-sorted.ensures.same)
+    are_kept lots _ c.loop-place.kept.items (offers_left lots (λ o. has_choice c.args.choices.items o.bidder o.number)
+    (kept_of lots book group) (kept_are_offers lots book group c.rules-rules.ensures.book)) c.loop-place.invariant.each
+    (c.loop-place.invariant.so_far ∙ at_end lots book group c.rules-rules.ensures.book sorted c.loop-place.place c.args.choices.items over
+    c.by_rising_bid-sorted.ensures.same)
 
 pub returns : goal.returns
 returns c =

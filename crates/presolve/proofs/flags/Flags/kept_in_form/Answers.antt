@@ -24,7 +24,8 @@ keep_form-requires-clause-flags c =
     let all = c.self.view_is ∙ c.requires.flags in
     let long = length_flags lots book forms all in
     let back : b - 1 + 1 ≡ b = omega (arith, c.requires.some) in
-    c.deref.ensures.value ∙ (flags_at lots book forms (b - 1) c.index-flags.result.now all (omega (arith, c.requires.some, c.requires.bidders)) c.index-flags.ensures).1
+    c.deref.ensures.value ∙ (flags_at lots book forms (b - 1) c.index-flags.result.now all
+    (omega (arith, c.requires.some, c.requires.bidders)) c.index-flags.ensures).1
     ∙ ap (λ (n : ℕ). map (is_kept lots (form_of book n)) (form_of book n)) back
 
 pub new-requires : goal.new-requires
@@ -32,7 +33,8 @@ new-requires c =
     let book = book_of c.args.book.now in
     let lots = lots_in c.args.book.now.rules in
     let own = kept_in_form lots c.args.bidder (form_of book c.args.bidder) in
-    are_kept lots own c.keep_form.new.kept.items (form_offers lots book c.args.bidder c.requires.some c.requires.bidders c.rules-rules.ensures.book) c.in_ok-keep_form.ensures.each
+    are_kept lots own c.keep_form.new.kept.items (form_offers lots book c.args.bidder c.requires.some c.requires.bidders
+    c.rules-rules.ensures.book) c.in_ok-keep_form.ensures.each
     (c.in_ok-keep_form.ensures.added ∙ ap (λ (ks : List KeptBid). offers ks ++ own) c.new-own.ensures.items)
 
 pub returns : goal.returns

@@ -7,4 +7,5 @@ use Rattle.program_rows.proofs.columns.Columns.column.Goals as goal
 pub returns : goal.returns
 returns c =
     let fits : SFits w64 c.cost.result = search rules in
-    column_parts (slice_get c.args.self.now c.args.column) _ c.name.ensures c.bounds.ensures (c.cost.ensures ∙ ap (λ (n : ℤ). Some n) (sym (to_z-of_z w64 c.cost.result fits))) c.entries.ensures
+    column_parts (slice_get c.args.self.now c.args.column) _ c.name.ensures c.bounds.ensures
+    (c.cost.ensures ∙ ap (λ (n : ℤ). Some n) (sym (to_z-of_z w64 c.cost.result fits))) c.entries.ensures

@@ -13,7 +13,8 @@ of-requires-clause-program c =
     let rows = c.in_ok-rows.ensures ∙ ap (places_left group 0) c.as_slice.ensures.value in
     let columns = c.in_ok-columns.ensures ∙ ap (places_left group 0) c.as_slice-2.ensures.value in
     let numbers = c.in_ok-numbers.ensures ∙ ap (numbers_left group 0) c.as_slice-3.ensures.value in
-    subst IsProgram (sym (λ i. selection_of program (rows i) (columns i) (numbers i))) (selection_is_legal (shared program c.self.inside.rows.items c.self.inside.columns.items) group c.self.invariant)
+    subst IsProgram (sym (λ i. selection_of program (rows i) (columns i) (numbers i)))
+    (selection_is_legal (shared program c.self.inside.rows.items c.self.inside.columns.items) group c.self.invariant)
 
 pub of-requires-clause-there : goal.of-requires-clause-there
 of-requires-clause-there c =

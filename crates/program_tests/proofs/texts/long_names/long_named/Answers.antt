@@ -8,5 +8,10 @@ pub from_parts-requires : goal.from_parts-requires
 from_parts-requires c =
     let n = c.args.count in
     let name : c.in_ok-name.name.items ≡ replicate n 82 = search rules in
-    let rows : map shown_row c.in_ok-from_array.field-0.items ≡ (long n).rows = rw c.in_ok-from_array.ensures.items (ap (λ letters. at_most letters 1 ∷ []) name) in
-    is_long_program n (table_of record { objective_name = c.in_ok-objective_name.objective_name; rows = c.in_ok-from_array.field-0; columns = c.new.result }) c.requires c.in_ok-objective_name.ensures.items rows c.new.ensures
+    let rows : map shown_row c.in_ok-from_array.field-0.items ≡ (long n).rows =
+    rw c.in_ok-from_array.ensures.items (ap (λ letters. at_most letters 1 ∷ []) name) in
+    is_long_program n (table_of record {
+      objective_name = c.in_ok-objective_name.objective_name;
+      rows = c.in_ok-from_array.field-0;
+      columns = c.new.result;
+    }) c.requires c.in_ok-objective_name.ensures.items rows c.new.ensures
