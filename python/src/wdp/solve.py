@@ -37,7 +37,7 @@ def checked_solver(solver: str | None) -> str:
     """A solver's name or command, by default the usual one's. Raises WrongWords if it is neither, NotFound if it isn't there."""
     solver = solver or ("cbc" if shutil.which("cbc") else "highs")
     if solver != "highs" and not shutil.which(program := command_words(solver)[0]):
-        hint = ": apt-get install -y coinor-cbc; --solver highs goes without"
+        hint = ": apt-get install -y coinor-cbc; or use --solver highs"
         raise NotFound(f"the solver {program} isn't installed{hint if solver == 'cbc' else ''}")
     return solver
 

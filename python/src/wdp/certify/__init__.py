@@ -14,7 +14,7 @@ LIBRARIES = "numpy", "scipy", "swiglpk"
 NOT_OPTIMAL, TIED = 3, 5
 EPILOG = """Whole numbers decide. If the solution isn't optimal the search goes on to an optimal one, which goes to
 --solution-output, and certifies that. Exit status: 0 the certificate is written; 1 a text is refused, or a package is
-missing; 2 the words are wrong; 3 the solution isn't optimal, and --solution-output isn't given; 4 the time is over; 5 with
+missing; 2 the options are wrong; 3 the solution isn't optimal, and --solution-output isn't given; 4 the time is over; 5 with
 --unique: a tie, another point is as good."""
 
 Say = Callable[[str], None]
