@@ -5,7 +5,8 @@ faults.
 """
 from collections import namedtuple
 
-from wdp.texts.zero_one import AT_LEAST, AT_MOST, NumberFault, fields_of, lines_of, whole_number
+from wdp.texts.solution import exact_value, fields_of, lines_of
+from wdp.texts.zero_one import AT_LEAST, AT_MOST
 
 WIDEST = 2**126
 
@@ -18,7 +19,7 @@ Split = namedtuple("Split", "form most is_high", defaults=[False])
 Verdict = namedtuple("Verdict", "fault large_lines")
 
 
-class Refused(NumberFault):
+class Refused(ValueError):
     """The kind of a line's first fault."""
 
 
@@ -64,9 +65,8 @@ class Checker:
                     is_whole = not closed(splits)
                 elif words:
                     raise Refused("Fields")
-            except NumberFault as fault:
-                kind = "NumberText" if str(fault) == "NotWhole" else str(fault)
-                return Verdict(Fault(number, kind), large)
+            except ValueError as fault:
+                return Verdict(Fault(number, str(fault)), large)
         return Verdict(None if is_whole else Fault(number, "NoEnd"), large)
 
     def leaf(self, words, least, splits):
@@ -106,6 +106,15 @@ def closed(splits):
     if splits:
         splits[-1] = splits[-1]._replace(is_high=True)
     return bool(splits)
+
+
+def whole_number(word):
+    value = exact_value(word)
+    if value.denominator != 1:
+        raise Refused("NumberText")
+    if abs(value) > 10**18:
+        raise Refused("NumberRange")
+    return value.numerator
 
 
 def natural(word):

@@ -213,7 +213,7 @@ def test_sizes_depth_and_damages():
     assert kinds == {*OF_CERTIFICATE, *KINDS.split()}
 
 
-# Reading programs; runs.txt has those that are refused.
+# Reading programs that `wdp check` accepts; runs.txt has some that it refuses.
 OTHER_WAYS = """* made elsewhere \xff⏎NAME⏎OBJSENSE MIN⏎ROWS⏎\tN OBJ⏎ N SPARE⏎ N SPARE2⏎ L B3⏎ L C1⏎ G C2⏎⏎COLUMNS
  X3_1 OBJ -1.2e1 SPARE 7⏎ X3_1 SPARE2 1 B3 1.0⏎ X3_1 C2 10e-1 C1 0⏎ M 'MARKER' 'INTORG'⏎ K OBJ -80
 RHS⏎ B3 1 C1 2.0⏎ RHS C2 1⏎BOUNDS⏎ BV X3_1⏎ FX BND K 1⏎ENDATA⏎not read⏎"""

@@ -16,7 +16,7 @@ from pathlib import Path
 
 from wdp import files, guard
 from wdp.office.choices import checked
-from wdp.program import Limits, ran, signal_named
+from wdp.program import Limits, answer, found_program, ran, signal_named
 from wdp.results import Matrix
 from wdp.texts.refusals import NotFound, NotSolved, Refused, WrongWords, need
 from wdp.texts.solution import read_solution, solution_text
@@ -196,6 +196,16 @@ def add_words(parser: argparse.ArgumentParser) -> None:
     parser.add_argument("file", nargs="?", default="-", metavar="FILE", help=text)
 
 
+def read_checked(path: str, program: str | None) -> bytes:
+    """The text of a file, once `wdp check` has found no fault in it."""
+    text, found = files.read(path, MOST_OF_PROGRAM), found_program(program)
+    try:
+        answer(found, ["check"], text, Limits(MOST_OF_ANSWER))
+    except Refused as refused:
+        raise Refused(f"{path}: {refused.text}") from None
+    return text
+
+
 def run(given: argparse.Namespace) -> None:
-    text, log = files.read(given.file, MOST_OF_PROGRAM), given.log and given.log.absolute()
+    text, log = read_checked(given.file, given.program), given.log and given.log.absolute()
     files.put(point_of(text, checked_solver(given.solver), given.time_limit, log))

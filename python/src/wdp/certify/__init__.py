@@ -5,7 +5,7 @@ from functools import partial
 from typing import NamedTuple
 
 from wdp import files
-from wdp.solve import MOST_OF_ANSWER, MOST_OF_PROGRAM, SECONDS, nothing
+from wdp.solve import MOST_OF_ANSWER, SECONDS, nothing, read_checked
 from wdp.texts.refusals import need
 from wdp.texts.solution import read_solution, solution_text
 from wdp.texts.zero_one import read_program
@@ -94,7 +94,7 @@ def leave(path: str | None, text: bytes) -> None:
 def run(given: argparse.Namespace) -> int:
     """Certifies that a solution is optimal, or with --unique that it is the only optimal one."""
     say = partial(files.say, "certify")
-    program = files.read(given.mps, MOST_OF_PROGRAM)
+    program = read_checked(given.mps, given.program)
     solution = files.read(given.solution, MOST_OF_ANSWER) if given.solution else nothing(program)
     if given.unique:
         return show_only(given, only(program, solution, given.time_limit, say), say)

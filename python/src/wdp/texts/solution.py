@@ -1,12 +1,39 @@
 """Solutions: a line NAME VALUE for each column, and comments; a column that isn't named is 0."""
+import re
 from collections.abc import Iterable
 from fractions import Fraction
 
 from wdp.texts.refusals import Refused, shortened
-from wdp.texts.zero_one import NumberFault, ZeroOne, exact_value, expect, fields_of, lines_of
+from wdp.texts.tables import lines
+from wdp.texts.zero_one import ZeroOne
 
 NEAR = Fraction(1, 100000)
 LONGEST = 40  # signs of a word that a message shows
+FIELD = re.compile(r"[^ \t]+")
+# a number: an optional sign, digits with an optional point, an optional exponent
+TOKEN = re.compile(r"[+-]?(?=\.?[0-9])([0-9]*)\.?([0-9]*)(?:[eE][+-]?([0-9]+))?")
+MOST_DIGITS, MOST_EXPONENT = 30, 60
+
+
+def lines_of(text: bytes) -> list[str]:
+    return lines(text.decode("latin-1"))
+
+
+def fields_of(line: str) -> list[str]:
+    """The longest runs of signs that are neither space nor tab."""
+    return FIELD.findall(line)
+
+
+def exact_value(token: str) -> Fraction:
+    """The value of a number; ValueError is the fault that the program finds in the token, `NumberText` or `NumberRange`."""
+    parts = TOKEN.fullmatch(token)
+    if not parts:
+        raise ValueError("NumberText")
+    whole, fraction, exponent = parts.groups("0")
+    is_long = len(whole + fraction) > MOST_DIGITS or len(exponent) > 3
+    if is_long or int(exponent) > MOST_EXPONENT:
+        raise ValueError("NumberRange")
+    return Fraction(token)
 
 
 def read_solution(text: bytes, program: ZeroOne, source: str) -> set[int]:
@@ -30,18 +57,20 @@ def read_solution(text: bytes, program: ZeroOne, source: str) -> set[int]:
 
 def entry_of(words: list[str], program: ZeroOne) -> tuple[int, bool]:
     """The place of a line's column, and whether it is at 1; ValueError says what is wrong with the line."""
-    expect(len(words) == 2, "not a name and a value")
+    if len(words) != 2:
+        raise ValueError("not a name and a value")
     name, token = (shortened(word, LONGEST) for word in words)
     place = program.column_places.get(words[0])
     if place is None:
         raise ValueError(f"the column {name} isn't known")
     try:
         value = exact_value(words[1])
-    except NumberFault:
+    except ValueError:
         raise ValueError(f"the value {token} of {name} is no number") from None
-    is_near = min(abs(value), abs(value - 1)) <= NEAR
-    expect(is_near, f"the value {token} of {name} is neither 0 nor 1")
-    return place, abs(value - 1) <= NEAR
+    is_one = abs(value - 1) <= NEAR
+    if not is_one and abs(value) > NEAR:
+        raise ValueError(f"the value {token} of {name} is neither 0 nor 1")
+    return place, is_one
 
 
 def solution_text(ones: Iterable[int], program: ZeroOne) -> bytes:
