@@ -37,7 +37,7 @@ DRAWS = 60  # so many weights are tried
 
 def programs_of(wdp, text):
     pieces = output(wdp, "compile", text).split(b"* program ")[1:]
-    return [read_program(b"* " + piece, "the program") for piece in pieces]
+    return [read_program(b"* " + piece) for piece in pieces]
 
 
 def point_of(program, allocation):

@@ -19,10 +19,6 @@ Split = namedtuple("Split", "form most is_high", defaults=[False])
 Verdict = namedtuple("Verdict", "fault large_lines")
 
 
-class Refused(ValueError):
-    """The kind of a line's first fault."""
-
-
 class Checker:
     def __init__(self, program):
         self.program = program
@@ -53,7 +49,7 @@ class Checker:
             words = [] if line[:1] == "#" else fields_of(line)
             try:
                 if words and is_whole:
-                    raise Refused("Beyond")
+                    raise ValueError("Beyond")
                 if words[:1] == ["split"] and words[1:]:
                     most, names = whole_number(words[1]), self.program.column_places
                     splits.append(Split(terms(words[2:], names, "UnknownColumn"), most))
@@ -61,11 +57,11 @@ class Checker:
                     value, size = self.leaf(words[1:], least, splits)
                     large += [number] * (size >= WIDEST)
                     if value <= 0:
-                        raise Refused("NotShown")
+                        raise ValueError("NotShown")
                     is_whole = not closed(splits)
                 elif words:
-                    raise Refused("Fields")
-            except ValueError as fault:
+                    raise ValueError("Fields")
+            except ValueError as fault:  # the kind of the line's first fault
                 return Verdict(Fault(number, str(fault)), large)
         return Verdict(None if is_whole else Fault(number, "NoEnd"), large)
 
@@ -75,13 +71,13 @@ class Checker:
         bits may stop."""
         scale, *multipliers = [natural(word) for word in words[: 1 + len(splits)]]
         if len(multipliers) < len(splits):
-            raise Refused("Fields")
+            raise ValueError("Fields")
         # a scale, a multiplier for each open split, and places of rows with multipliers
         rows = terms(words[1 + len(splits) :], self.row_places, "UnknownRow")
         for place, multiplier in rows:
             kind = self.program.rows[place].kind
             if kind == AT_MOST and multiplier < 0 or kind == AT_LEAST and multiplier > 0:
-                raise Refused("Sign")
+                raise ValueError("Sign")
         costs = [column.cost for column in self.program.columns]
         parts = [(scale, enumerate(costs), 1 - least)]
         for multiplier, split in zip(multipliers, splits):
@@ -110,17 +106,15 @@ def closed(splits):
 
 def whole_number(word):
     value = exact_value(word)
-    if value.denominator != 1:
-        raise Refused("NumberText")
-    if abs(value) > 10**18:
-        raise Refused("NumberRange")
+    if value.denominator != 1 or abs(value) > 10**18:
+        raise ValueError("NumberRange" if value.denominator == 1 else "NumberText")
     return value.numerator
 
 
 def natural(word):
     number = whole_number(word)
     if number < 0:
-        raise Refused("Sign")
+        raise ValueError("Sign")
     return number
 
 
@@ -129,8 +123,8 @@ def terms(words, places, unknown):
     found = []
     for name, *number in (words[at : at + 2] for at in range(0, len(words), 2)):
         if not number:
-            raise Refused("Fields")
+            raise ValueError("Fields")
         if name not in places:
-            raise Refused(unknown)
+            raise ValueError(unknown)
         found.append((places[name], whole_number(number[0])))
     return found

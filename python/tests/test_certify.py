@@ -155,7 +155,7 @@ def test_limits():
 
 SMALL = content("fixtures", "solvers", "three.mps").encode()
 BEST, WORSE = b"X1_1 1\nX2_1 1\nX3_1 1\n", b"X1_2 1\n"
-CHECKER = Checker(read_program(SMALL, "p"))
+CHECKER = Checker(read_program(SMALL))
 
 
 @pytest.fixture
@@ -194,7 +194,7 @@ KINDS = "NumberText NumberRange UnknownColumn UnknownRow Sign Fields NotShown No
 
 
 def test_sizes_depth_and_damages():
-    checker, kinds = Checker(read_program(ODD.encode(), "p")), set()
+    checker, kinds = Checker(read_program(ODD.encode())), set()
     assert checker.verdict(-2, SHOWN) == (None, [])
     assert checker.verdict(-1, SHOWN).fault == (4, "NotShown")
     assert checker.verdict(-2, b"bound 1 A1 1 A2 1 B 1\n").fault == (1, "NotShown")
@@ -222,7 +222,7 @@ RHS⏎ B3 1 C1 2.0⏎ RHS C2 1⏎BOUNDS⏎ BV X3_1⏎ FX BND K 1⏎ENDATA⏎not 
 @pytest.mark.parametrize("end", ["\n", "\r\n"])
 def test_other_ways_of_writing(end):
     text = OTHER_WAYS.replace("⏎", "\n").replace("\n", end)
-    program = read_program(text.encode("latin-1"), "p")
+    program = read_program(text.encode("latin-1"))
     kinds = [(row.name, row.kind, row.right_side) for row in program.rows]
     assert kinds == [("B3", "L", 1), ("C1", "L", 2), ("C2", "G", 1)]
     columns = [(c.name, c.cost, c.entries, c.lower, c.upper) for c in program.columns]

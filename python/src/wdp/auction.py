@@ -401,7 +401,7 @@ class Run(Folder):
         for kind in ("solution", "certificate"):
             for group, text in enumerate((it.text for it in parts if it.kind == kind), 1):
                 if kind == "solution":
-                    program = read_program(self.read(of_group("program", group)), "the program")
+                    program = read_program(self.read(of_group("program", group)))
                     text = solution_text(read_solution(text, program, "a solution"), program)
                 self.leave(of_group(kind, group), text)
         for it in parts:

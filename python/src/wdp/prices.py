@@ -53,7 +53,7 @@ class Award:
     ) -> None:
         auction = accepted.read(data, "the input")
         self.text, self.solution, self.listed = program, solutions[0], listed
-        self.program = read_program(program, "program 1")
+        self.program = read_program(program)
         ones = read_solution(self.solution, self.program, "solution 1")
         self.total = -self.program.objective(ones)
         named = [BID.fullmatch(column.name) for column in self.program.columns]

@@ -5,7 +5,7 @@ from dataclasses import dataclass, field
 from collections.abc import Iterator, Mapping, Sequence
 from typing import TYPE_CHECKING
 
-from wdp.texts.refusals import Refused, Unclear, need
+from wdp.texts.refusals import need
 from wdp.texts.zero_one import ZeroOne, read_program
 
 if TYPE_CHECKING:
@@ -138,12 +138,8 @@ class Program:
         return f"<wdp.Program of group {self.group}, {size}>"
 
     def matrix(self) -> Matrix:
-        """What the text says. Raises Missing without scipy, and Unclear if the text isn't one that `wdp` writes."""
-        try:
-            program = read_program(self.text.encode(), "the program's text")
-        except Refused as refused:
-            raise Unclear(refused.text) from None
-        return Matrix.of(program)
+        """What the text says. Raises Missing without scipy, and Unclear if the text is cut off."""
+        return Matrix.of(read_program(self.text.encode()))
 
 
 @dataclass(frozen=True, eq=False)

@@ -77,7 +77,7 @@ def point_of(
 ) -> bytes:
     """A feasible point of a program in MPS, as a solution has it. What the solver prints goes to the file `log`. Raises NotSolved,
     whose status is 4 if the solver has none when its time is over, and 3 if there is none."""
-    program = read_program(text, "the program")
+    program = read_program(text)
     if not program.columns:
         return b""
     if solver == "highs":
@@ -92,7 +92,7 @@ def point_of(
 
 def nothing(text: bytes) -> bytes:
     """The point of a program at which all columns are 0 that may be. Refused if it isn't feasible."""
-    program = read_program(text, "the program")
+    program = read_program(text)
     ones = {place for place, column in enumerate(program.columns) if column.lower == 1}
     if broken := program.fault_of(ones):
         raise Refused(f"no point is known to begin with: {broken}")

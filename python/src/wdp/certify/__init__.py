@@ -46,7 +46,7 @@ def certified(
     from wdp.certify.layout import Layout
     from wdp.certify.search import Search
 
-    read = read_program(program, "the program")
+    read = read_program(program)
     ones = read_solution(solution, read, "the solution")
     search = Search(Layout(read), ones, seconds, say)
     certificate = search.certificate()
@@ -61,7 +61,7 @@ def only(
     need("a certificate", *LIBRARIES)
     from wdp.certify.search import Beaten, OnlySearch
 
-    read = read_program(program, "the program")
+    read = read_program(program)
     search = OnlySearch(read, read_solution(solution, read, "the solution"), seconds, say)
     try:
         return Only("unique", search.certificate())

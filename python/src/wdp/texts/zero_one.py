@@ -5,7 +5,7 @@ from contextlib import suppress
 from dataclasses import dataclass, field
 from fractions import Fraction
 
-from wdp.texts.refusals import Refused
+from wdp.texts.refusals import Unclear
 from wdp.texts.tables import lines
 
 AT_MOST, AT_LEAST, EQUAL = "L", "G", "E"
@@ -61,8 +61,8 @@ class ZeroOne:
         return None
 
 
-def read_program(text: bytes, source: str) -> ZeroOne:
-    """The program of a text, as docs/REFERENCE.md has it under 'Read programs'. Refused if the text is cut off."""
+def read_program(text: bytes) -> ZeroOne:
+    """The program of a text, as docs/REFERENCE.md has it under 'Read programs'. Unclear if the text is cut off."""
     reader, section = Reader(), ""
     with suppress(KeyError, ValueError):
         for line in lines(text.decode("latin-1")):
@@ -73,7 +73,7 @@ def read_program(text: bytes, source: str) -> ZeroOne:
                 reader.take(section, words)
             elif (section := words[0]) == "ENDATA":
                 return ZeroOne(reader.rows, list(reader.columns.values()))
-    raise Refused(f"{source} isn't one that wdp accepts")
+    raise Unclear("the program's text isn't one that wdp accepts")
 
 
 @dataclass
