@@ -5,7 +5,8 @@ faults.
 """
 from collections import namedtuple
 
-from wdp.texts.solution import exact_value, fields_of, lines_of
+from wdp.texts.solution import FIELD, exact_value
+from wdp.texts.tables import lines
 from wdp.texts.zero_one import AT_LEAST, AT_MOST
 
 WIDEST = 2**126
@@ -45,8 +46,8 @@ class Checker:
     def read(self, text, least, splits):
         """Reads a text as a certificate for one bound, below splits that are open."""
         number, is_whole, large = 0, False, []
-        for number, line in enumerate(lines_of(text), 1):
-            words = [] if line[:1] == "#" else fields_of(line)
+        for number, line in enumerate(lines(text.decode("latin-1")), 1):
+            words = [] if line[:1] == "#" else FIELD.findall(line)
             try:
                 if words and is_whole:
                     raise ValueError("Beyond")
@@ -69,7 +70,7 @@ class Checker:
         """By how much a leaf exceeds its scale times `least - 1`: the least that the reduced costs come to, less the right
         sides of cuts and rows. And all that it adds up, each number without its sign: only from 2^126 on a checker in 128
         bits may stop."""
-        scale, *multipliers = [natural(word) for word in words[: 1 + len(splits)]]
+        scale, *multipliers = [whole_number(word, 0) for word in words[: 1 + len(splits)]]
         if len(multipliers) < len(splits):
             raise ValueError("Fields")
         # a scale, a multiplier for each open split, and places of rows with multipliers
@@ -104,18 +105,15 @@ def closed(splits):
     return bool(splits)
 
 
-def whole_number(word):
+def whole_number(word, least=-(10**18)):
     value = exact_value(word)
-    if value.denominator != 1 or abs(value) > 10**18:
-        raise ValueError("NumberRange" if value.denominator == 1 else "NumberText")
-    return value.numerator
-
-
-def natural(word):
-    number = whole_number(word)
-    if number < 0:
+    if value.denominator != 1:
+        raise ValueError("NumberText")
+    if abs(value) > 10**18:
+        raise ValueError("NumberRange")
+    if value < least:
         raise ValueError("Sign")
-    return number
+    return value.numerator
 
 
 def terms(words, places, unknown):

@@ -9,19 +9,10 @@ from wdp.texts.zero_one import ZeroOne
 
 NEAR = Fraction(1, 100000)
 LONGEST = 40  # signs of a word that a message shows
-FIELD = re.compile(r"[^ \t]+")
+FIELD = re.compile(r"[^ \t]+")  # the longest run of signs that are neither space nor tab
 # a number: an optional sign, digits with an optional point, an optional exponent
 TOKEN = re.compile(r"[+-]?(?=\.?[0-9])([0-9]*)\.?([0-9]*)(?:[eE][+-]?([0-9]+))?")
 MOST_DIGITS, MOST_EXPONENT = 30, 60
-
-
-def lines_of(text: bytes) -> list[str]:
-    return lines(text.decode("latin-1"))
-
-
-def fields_of(line: str) -> list[str]:
-    """The longest runs of signs that are neither space nor tab."""
-    return FIELD.findall(line)
 
 
 def exact_value(token: str) -> Fraction:
@@ -39,8 +30,8 @@ def exact_value(token: str) -> Fraction:
 def read_solution(text: bytes, program: ZeroOne, source: str) -> set[int]:
     """The places of the columns at 1. Refused, with the line, if the text is no point of the program."""
     values: dict[int, bool] = {}
-    for number, line in enumerate(lines_of(text), 1):
-        words = fields_of(line)
+    for number, line in enumerate(lines(text.decode("latin-1")), 1):
+        words = FIELD.findall(line)
         if words and not line.startswith("#"):
             try:
                 place, is_one = entry_of(words, program)
