@@ -14,7 +14,7 @@ import pytest
 from commands import ROOT, content, running, start, wait_for
 from gate import lanes, toolchain
 from gate.edits import Sources, edit_of
-from gate.said import is_within, told_in
+from gate.said import is_within, findings_in
 from gate.steps import Steps, counts_in
 from gate.trial import Trial
 from trials.judging import seen
@@ -84,8 +84,8 @@ ANSWERS = [
     ([SEVEN], lambda *_: said({"names::second": OPEN % "returns"}), [NOT]),
     ([SEVEN], copies_are(OPEN % "overflow_add"), [OVERFLOW]),
     ([SEVEN], copies_are(MEASURE), [IN + "first: that it returns"]),
-    ([SEVEN], copies_are(CALLS), [NOT + ": the check couldn't tell"]),
-    ([SEVEN], lambda *it: opened(*it, ""), [BAD + "the check told nothing"]),
+    ([SEVEN], copies_are(CALLS), [NOT + ": the check says nothing"]),
+    ([SEVEN], lambda *it: opened(*it, ""), [BAD + "the check says nothing"]),
     ([BROKEN, SEVEN, EIGHT, READER], opened, [BAD, IN, IN, IN]),
     ([NAME, READER], copies_are(OPEN % "returns", "NameReader"), [NOT, IN]),
     ([LOW, HIGH], copies_are(OPEN % "returns", "FaultFromLow"), [IN, NOT]),
@@ -121,7 +121,7 @@ GOALS = {"expected type `1 ≡ 7`": 1, "`c` has no field `seven`": 0, "`c` is no
 @pytest.mark.parametrize("goal, is_open", GOALS.items())
 def test_an_answer_that_does_not_hold(goal, is_open):
     line = f"./proofs/names/first/Answers.antt:5:9: error: `returns`: {goal}\n"
-    told = told_in(said({"names::first": "not proved"}, line))["names::first"]
+    told = findings_in(said({"names::first": "not proved"}, line))["names::first"]
     assert (told.goals, told.lost) == ((["returns"], []) if is_open else ([], ["returns"]))
 
 
@@ -289,7 +289,7 @@ def test_a_step_that_is_run_again_counts_once_and_one_that_is_refused_counts(tmp
     assert steps.run_from([("first", ["echo", "3 passed, 0 failed"]), step], 2) == [step]
     assert (steps.sums(), steps.run(*step), steps.sums()) == ((4, 1), True, (5, 0))
     steps.refuse("third", "it can't be run")
-    assert (steps.tell(), capfd.readouterr().out.splitlines()[-1]) == (1, "5 passed, 1 failed")
+    assert (steps.report(), capfd.readouterr().out.splitlines()[-1]) == (1, "5 passed, 1 failed")
 
 
 @pytest.mark.parametrize("number", [signal.SIGTERM, signal.SIGINT, signal.SIGHUP])

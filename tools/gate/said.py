@@ -24,7 +24,7 @@ PROMISES = re.compile(r"^(returns|loop-|invariant_of|decreases)|-requires(-|$)")
 
 
 @dataclass
-class Told:
+class Findings:
     """What a check says of a function: whether it is proved, which of its goals are open, and of those whose answers name what is
     gone the goals, the lines of the answers, and what imports name so."""
 
@@ -35,20 +35,18 @@ class Told:
     names: list[str] = field(default_factory=list)
 
 
-def told_in(said: str) -> dict[str, Told]:
+def findings_in(said: str) -> dict[str, Findings]:
     """What a check says of each function, by its name after the crate's; nothing, where it was ended before its verdict."""
-    told: dict[str, Told] = {}
+    found: dict[str, Findings] = {}
     if not VERDICT.search(said):
-        return told
+        return found
     for name, status in SAID.findall(said):
-        goals = [
-            goal for found in GOALS.findall(status) for goal in re.findall(r"`([^`]+)`", found)
-        ]
+        goals = [goal for it in GOALS.findall(status) for goal in re.findall(r"`([^`]+)`", it)]
         # (a loop that nothing shows to end has no goal yet)
         goals += ["decreases"] if "expected a measure" in status else []
-        told[name.partition("::")[2]] = Told(status.startswith(PROVED), goals)
+        found[name.partition("::")[2]] = Findings(status.startswith(PROVED), goals)
     for place, is_answer, line, goal, why in ANSWER.findall(said):
-        if (it := told.get(place.replace("/", "::"))) is None:
+        if (it := found.get(place.replace("/", "::"))) is None:
             continue
         is_lost = LOST.search(re.sub(r"`[^`]*`", "``", why))
         if goal:
@@ -56,7 +54,7 @@ def told_in(said: str) -> dict[str, Told]:
         if is_answer and is_lost:
             it.lines.append(int(line))
             it.names += GONE.findall(f"`{goal}`{why}" if goal else why)
-    return told
+    return found
 
 
 def is_within(name: str, function: str) -> bool:
@@ -71,9 +69,9 @@ def is_within(name: str, function: str) -> bool:
     )
 
 
-def goals_within(function: str, told: dict[str, Told]) -> list[str]:
+def goals_within(function: str, found: dict[str, Findings]) -> list[str]:
     """The open goals of a function, and of the closures in it."""
-    return [goal for name, it in told.items() if is_within(name, function) for goal in it.goals]
+    return [goal for name, it in found.items() if is_within(name, function) for goal in it.goals]
 
 
 def meaning_of(goal: str) -> str:

@@ -125,7 +125,7 @@ class Steps:
         """How many passed and failed in all."""
         return sum(it[1] for it in self.came.values()), sum(it[2] for it in self.came.values())
 
-    def tell(self) -> int:
+    def report(self) -> int:
         """Prints the time of each step and the sums, and returns the exit status."""
         for name, (seconds, *counts) in sorted(self.came.items(), key=lambda it: -it[1][0]):
             print(f"{seconds:5.0f} s  {counts[0]:6} passed {counts[1]:4} failed  {name}")

@@ -107,7 +107,7 @@ def replace_trial(rt: Any, must_fail_all: Callable[..., list[tuple[bool, str]]])
 
 class Proved:
     """The names of the functions of crates that the gate proved, after their crate's. Where the toolchain takes a proof from an earlier
-    run on this machine it tells none, so they are kept beside such proofs. Nothing rests on them: what a check is told is
+    run on this machine it names none, so they are kept beside such proofs. Nothing rests on them: what a check is given is
     proved, and isn't, it doesn't take."""
 
     def __init__(self, rt: Any) -> None:

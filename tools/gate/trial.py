@@ -24,7 +24,7 @@ from pathlib import Path
 from typing import Any
 
 from gate.edits import Edit, Place, Sources, edit_of
-from gate.said import PROMISES, VERDICT, Told, goals_within, is_within, meaning_of, told_in
+from gate.said import PROMISES, VERDICT, Findings, goals_within, is_within, meaning_of, findings_in
 from gate.variants import Variant, answers_of, copy_of, holes_for, texts_of, without_what_is_gone
 
 NO_HOLE = re.compile(r"^(?:\./)?(proofs/\S+/Proof\.antt):(?:\d+:\d+:)? error", re.M)
@@ -97,7 +97,7 @@ class Trial:
             f"must-fail {self.crate}/{os.path.basename(edit.path)}: {why}",
         )
 
-    def told_of(self, variants: list[Variant], shorter: dict[str, str]) -> dict[str, Told]:
+    def findings_of(self, variants: list[Variant], shorter: dict[str, str]) -> dict[str, Findings]:
         """What a check says of these variants, with these answers in place of theirs."""
         self.checks += 1
         # (that a check takes no loops for bodies shows where one variant is tried)
@@ -119,9 +119,9 @@ class Trial:
             if VERDICT.search(self.said):
                 self.has_stubs = has_stubs
                 break
-        told = told_in(self.said)
+        found = findings_in(self.said)
         for it in variants:
-            promised = [goal for goal in goals_within(it.name, told) if PROMISES.search(goal)]
+            promised = [goal for goal in goals_within(it.name, found) if PROMISES.search(goal)]
             if promised:
                 more = f", and {len(promised) - 1} more" if len(promised) > 1 else ""
                 self.answer(
@@ -129,24 +129,26 @@ class Trial:
                     True,
                     f"refused, as it must be, in {it.of}: {meaning_of(promised[0])}{more}",
                 )
-        return told
+        return found
 
-    def try_all(self, variants: list[Variant]) -> dict[str, Told]:
+    def try_all(self, variants: list[Variant]) -> dict[str, Findings]:
         """Judges variants by one check, and those whose answers name what their edit took away once more, without these answers.
         Where the check doesn't tell of each, halves are tried."""
-        told = every = self.told_of(variants, {})
-        if any(it.name not in told for it in variants):
+        found = every = self.findings_of(variants, {})
+        if any(it.name not in found for it in variants):
             half = len(variants) // 2
             # (what one of them stops isn't the fault of the others)
             return (
-                {**self.try_all(variants[:half]), **self.try_all(variants[half:])} if half else told
+                {**self.try_all(variants[:half]), **self.try_all(variants[half:])}
+                if half
+                else found
             )
         shorter: dict[str, str] = {}
         for _ in range(MOST_TIMES):
             variants = [
                 it
                 for it in variants
-                if it.edit.path not in self.answers and it.name in told and told[it.name].lines
+                if it.edit.path not in self.answers and it.name in found and found[it.name].lines
             ]
             if not variants:
                 break
@@ -159,25 +161,27 @@ class Trial:
                     or own.get(path)
                     or (kept.read_text(encoding="utf-8") if kept.exists() else "")
                 )
-                shorter[path] = without_what_is_gone(text, told[it.name].lines, told[it.name].names)
-            told = self.told_of(
+                shorter[path] = without_what_is_gone(
+                    text, found[it.name].lines, found[it.name].names
+                )
+            found = self.findings_of(
                 variants, {answers_of(it.name): shorter[answers_of(it.name)] for it in variants}
             )
-            every = {**every, **told}
+            every = {**every, **found}
         return every
 
     def try_alone(self, variant: Variant) -> None:
         """Judges an edit by a check of its own."""
-        told, name, edit = self.try_all([variant]), variant.name, variant.edit
+        found, name, edit = self.try_all([variant]), variant.name, variant.edit
         if edit.path in self.answers:
             return None
-        goals, lost = goals_within(name, told), [
-            goal for other, it in told.items() if is_within(other, name) for goal in it.lost
+        goals, lost = goals_within(name, found), [
+            goal for other, it in found.items() if is_within(other, name) for goal in it.lost
         ]
-        if name not in told:
+        if name not in found:
             said = self.said.strip()
             return self.answer(
-                edit, False, f"BAD EDIT: the check told nothing of its function: {said:.300}"
+                edit, False, f"BAD EDIT: the check says nothing of its function: {said:.300}"
             )
         if goals:
             why = f"only {', '.join(goals)} isn't shown"
@@ -186,8 +190,8 @@ class Trial:
         else:
             why = (
                 f"{name} is still proved"
-                if told[name].is_proved
-                else f"the check couldn't tell of {name}"
+                if found[name].is_proved
+                else f"the check says nothing of {name}"
             )
         self.answer(edit, False, f"NOT REFUSED: {why}")
 
@@ -280,7 +284,7 @@ def trial_of(
 
             started, sources = time.time(), Sources(Path(crate.folder))
             proved = proved_in(crate) or [
-                name for name, it in told_in(check({}, [])).items() if it.is_proved
+                name for name, it in findings_in(check({}, [])).items() if it.is_proved
             ]
             edits = [edit_of(path, sources, rt.read_edit(path, crate.folder)[1]) for path in paths]
             trial = Trial(crate.name, sources, edits, check, proved)
