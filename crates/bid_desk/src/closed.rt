@@ -49,6 +49,22 @@ impl ClosedBook {
         &self.rules
     }
 
+    /// What every closed book keeps to: its rules and its standing forms are within the limits of an auction.
+    pub fn within_limits(&self)
+        ensures lots { IsLots (lots_in self.now.rules) }
+        ensures book { IsBook (lots_in self.now.rules) (book_of self.now) }
+        ensures bidders { length (book_of self.now) ≡ length self.now.rules.bidders }
+    {
+        self.rules();
+    }
+
+    /// What the history of a closed book is: legal, of its rules, and closed.
+    pub fn well_formed(&self)
+        ensures closing { IsClosing self.now }
+    {
+        self.history();
+    }
+
     /// The settled history.
     pub fn history(&self) -> &[Entry]
         ensures entries { map entry_value result.now ≡ self.now.history }
