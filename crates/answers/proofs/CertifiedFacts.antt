@@ -44,16 +44,16 @@ shown-ok book n b judged = ap (λ (f : Option (ℕ × CertificateFaultKind)). un
     (option_map (λ (f : ℕ × CertificateFaultKind). refusal.Certificate n (record { line = f.0; kind = f.1 })) f) (Ok tt)) judged.is
 
 -- where the certificates after the first are fine too
-fine-behind : (book : Closing) (b : code.ClaimedBound) (bounds : List code.ClaimedBound) (count : ℕ) → AreFine book (b ∷ bounds) (suc count)
+fine-after : (book : Closing) (b : code.ClaimedBound) (bounds : List code.ClaimedBound) (count : ℕ) → AreFine book (b ∷ bounds) (suc count)
     → AreFine book bounds count
-fine-behind book b bounds count fine = λ k d small. fine (suc k) d (omega arith)
+fine-after book b bounds count fine = λ k d small. fine (suc k) d (omega arith)
 
 -- as many as there are
 pub all-shown : (book : Closing) (n : ℕ) (bounds : List code.ClaimedBound) → AreFine book bounds (length bounds)
     → each_in_turn shown n (map (bound_held book) bounds) ≡ Ok (replicate (length bounds) tt)
 all-shown book n [] fine = refl
 all-shown book n (b ∷ bounds) fine =
-    rw (shown-ok book n b (fine 0 b (omega arith)), all-shown book (n + 1) bounds (fine-behind book b bounds (length bounds) fine)) refl
+    rw (shown-ok book n b (fine 0 b (omega arith)), all-shown book (n + 1) bounds (fine-after book b bounds (length bounds) fine)) refl
 
 -- how a list of bounds ends at the first fault, which has number m
 data Stops (n : ℕ) (bounds : List Bound) (before : ℕ) (f : CertificateFault) : Type 0 where
@@ -89,7 +89,7 @@ stops book n [] before f within fine faulty = absurd (omega arith)
 stops book n (b ∷ bounds) zero f within fine faulty = first-stops book n b (map (bound_held book) bounds) f (faulty b).is (faulty b).large
 stops book n (b ∷ bounds) (suc before) f within fine faulty =
     later-stops book n b (map (bound_held book) bounds) before f (fine 0 b (omega arith))
-    (stops book (n + 1) bounds before f (omega arith) (fine-behind book b bounds before fine) faulty)
+    (stops book (n + 1) bounds before f (omega arith) (fine-after book b bounds before fine) faulty)
 
 abbrev pub EndsChecks : List Bound → Refusal → Type 0
 EndsChecks bounds r = Refuses (each_in_turn shown 1 bounds) r ⊎ IsTooWide bounds r

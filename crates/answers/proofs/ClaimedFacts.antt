@@ -16,7 +16,7 @@ use Rattle.auction_input.specs.declared.auction.Auction as declared
 use Rattle.auction_input.specs.declared.part_kind.PartKind.TheVariants as part
 use Rattle.auction_input.specs.declared.refusal.Refusal.TheVariants as refusal
 use Rattle.auction_input.specs.declared.refusal.Refusal.{Refusal}
-use Rattle.auction_input.proofs.AnswerFacts.{ok-behind, ok-is}
+use Rattle.auction_input.proofs.AnswerFacts.{ok-after, ok-is}
 use Rattle.auction_input.proofs.InputTextFacts.{Text}
 use Rattle.auction_input.proofs.StageFacts.{next}
 use Rattle.optimality.specs.Answers.{IsLimit, IsVerdict}
@@ -45,8 +45,8 @@ first-of : (sale : Sale) (n : ℕ) (groups texts : List (List ℕ)) (won : List 
 first-of sale n [] texts won starts count wins = absurd (cc)
 first-of sale n (group ∷ groups) [] won starts count wins = absurd (omega arith)
 first-of sale n ([] ∷ groups) (text ∷ texts) won starts count wins =
-    let (a, a_is, more_wins) = ok-behind (winners sale n ([], text)) _ won wins in
-    let (more, more_are, are) = ok-behind (each_in_turn (winners sale) (n + 1) (zip groups texts)) _ won more_wins in
+    let (a, a_is, more_wins) = ok-after (winners sale n ([], text)) _ won wins in
+    let (more, more_are, are) = ok-after (each_in_turn (winners sale) (n + 1) (zip groups texts)) _ won more_wins in
     let is : a ∷ more ≡ won = ok-is _ (a ∷ more) won refl are in (
       omega arith,
       subst (λ (xs : List (List Choice)). 1 ≤ length xs) is (omega arith),

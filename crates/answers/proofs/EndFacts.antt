@@ -55,8 +55,8 @@ number-ends before n =
     }
 
 -- with more in front
-behind-more : (before text : List ℕ) → EndsInDigit text → EndsInDigit (before ++ text)
-behind-more before text ends = record {
+after-more : (before text : List ℕ) → EndsInDigit text → EndsInDigit (before ++ text)
+after-more before text ends = record {
   front = before ++ ends.front;
   digit = ends.digit;
   is = ap (λ (end : List ℕ). before ++ end) ends.is ∙ sym (append_assoc before ends.front (ends.digit ∷ 10 ∷ []));
@@ -65,22 +65,22 @@ behind-more before text ends = record {
 
 signed-ends : (before : List ℕ) (z : ℤ) → EndsInDigit (before ++ (signed_decimal z ++ 10 ∷ []))
 signed-ends before (pos n) = number-ends before n
-signed-ends before (negsuc n) = behind-more before (45 ∷ (decimal (suc n) ++ 10 ∷ [])) (number-ends (45 ∷ []) (suc n))
+signed-ends before (negsuc n) = after-more before (45 ∷ (decimal (suc n) ++ 10 ∷ [])) (number-ends (45 ∷ []) (suc n))
 
 -- ---- allocations and reports
 
 allocation-ends : (sale : Sale) (a : List Choice) → EndsInDigit (allocation_text sale a)
-allocation-ends sale a = behind-more _ _ (number-ends (codes "total ") _)
+allocation-ends sale a = after-more _ _ (number-ends (codes "total ") _)
 
 group-ends : (sale : Sale) (first : List Choice) (k : ℕ) (item : List ℕ × List Choice) → EndsInDigit (group_report sale first k item)
 group-ends sale first k item =
-    behind-more (heading (codes "group ") sale.names k item.0) _ (behind-more (allocation_text sale item.1) _
+    after-more (heading (codes "group ") sale.names k item.0) _ (after-more (allocation_text sale item.1) _
     (signed-ends (codes "cost ") (cost sale.lots sale.book first item.0 item.1)))
 
 groups-end : (sale : Sale) (first : List Choice) (k : ℕ) (item : List ℕ × List Choice) (items : List (List ℕ × List Choice))
     → EndsInDigit (in_turn (group_report sale first) k (item ∷ items))
 groups-end sale first k item [] = subst EndsInDigit (sym (append-nil (group_report sale first k item))) (group-ends sale first k item)
-groups-end sale first k item (next ∷ items) = behind-more (group_report sale first k item) _ (groups-end sale first (k + 1) next items)
+groups-end sale first k item (next ∷ items) = after-more (group_report sale first k item) _ (groups-end sale first (k + 1) next items)
 
 -- ---- the line `unique` isn't such an end
 
@@ -117,7 +117,7 @@ no-report sale (group ∷ groups) (a ∷ won) before some is =
 pub no-tie : (sale : Sale) (report prices : List ℕ) (other : List Choice) (before : List ℕ)
     → before ++ codes "unique\n" ≡ report ++ (prices ++ (codes "tie\n" ++ allocation_text sale other)) → ⊥
 no-tie sale report prices other before is =
-    not-so before _ is (behind-more report _ (behind-more prices _ (behind-more (codes "tie\n") _ (allocation-ends sale other))))
+    not-so before _ is (after-more report _ (after-more prices _ (after-more (codes "tie\n") _ (allocation-ends sale other))))
 
 -- nor do the lines of a least sum
 not-least : (before front : List ℕ) → before ++ codes "unique\n" ≡ front ++ codes "least\n" → ⊥
@@ -141,8 +141,8 @@ module _ (sale : Sale) (report : List ℕ) (first : List Choice) (p : Priced) (b
   with-end end = report ++ (codes "prices\n" ++ (lines ++ (sum ++ end)))
 
   no-sum : before ++ codes "unique\n" ≡ with-end [] → ⊥
-  no-sum is = not-so before _ is (behind-more report _ (behind-more (codes "prices\n") _
-      (behind-more lines _ (subst EndsInDigit (sym (append-nil sum)) (number-ends (codes "sum ") _)))))
+  no-sum is = not-so before _ is (after-more report _ (after-more (codes "prices\n") _
+      (after-more lines _ (subst EndsInDigit (sym (append-nil sum)) (number-ends (codes "sum ") _)))))
 
   no-least : before ++ codes "unique\n" ≡ with-end (codes "least\n") → ⊥
   no-least is =

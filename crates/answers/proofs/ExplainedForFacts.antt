@@ -10,7 +10,7 @@ use Rattle.answers.specs.Answer.{answer, output_of}
 use Rattle.answers.specs.Exact.{Writes}
 use Rattle.answers.specs.ExplainedFor.{ExplainsFor, IsNamed, IsOfParts, IsRefusedBy, IsTakenBy, RefusesSo}
 use Rattle.answers.specs.Runs.{IsTakenFor}
-use Rattle.auction_input.proofs.WantedFacts.{failed-behind}
+use Rattle.auction_input.proofs.WantedFacts.{failed-after}
 use Rattle.auction_input.specs.Auction.{Auction, parsed_auction}
 use Rattle.auction_input.specs.Input.{Input}
 use Rattle.auction_input.specs.Wanted.{claims_once, has_certificates, numbers_of, pricing_wants, proof_wants}
@@ -68,8 +68,8 @@ IsFree parsed = IfErr parsed IsOther
 
 free-then : {A B : Type 0} (parsed : Result A Refusal) (next : A → Result B Refusal) → IsFree parsed
     → ((x : A) → parsed ≡ Ok x → IsFree (next x)) → IsFree (and_then parsed next)
-free-then (Ok x) next free behind = behind x refl
-free-then (Err r) next free behind = free
+free-then (Ok x) next free after = after x refl
+free-then (Err r) next free after = free
 
 free-as : {A F : Type 0} (whole : F → Refusal) (parsed : Result A F) → ((f : F) → IsOther (whole f)) → IsFree (refused_as whole parsed)
 free-as whole (Ok x) other = tt
@@ -267,8 +267,8 @@ RefusesFirst parsed r = (first : Refusal) × (parsed ≡ Err first) × ((first �
 
 first-then : {A B : Type 0} (parsed : Result A Refusal) (next : A → Result B Refusal) (r : Refusal) → IsFree parsed
     → ((x : A) → parsed ≡ Ok x → RefusesFirst (next x) r) → RefusesFirst (and_then parsed next) r
-first-then (Ok x) next r free behind = behind x refl
-first-then (Err f) next r free behind = (f, refl, inr free)
+first-then (Ok x) next r free after = after x refl
+first-then (Err f) next r free after = (f, refl, inr free)
 
 many-claims : (auction : Auction) (first : List Choice) (uniques ties : List (List ℕ))
     → nat_le (length uniques) 1 && nat_le (length ties) (1 - length uniques) ≡ false
@@ -282,36 +282,36 @@ many-claims auction first (text ∷ other ∷ more) [] many = refl
 many-claims auction first (text ∷ other ∷ more) (tie ∷ ties) many = refl
 
 -- what comes after prices, claims and certificates
-abbrev behind_pricing : Auction → List (List Choice) → Uniqueness → Option Priced → Result (List ℕ) Refusal
-behind_pricing auction won claim pricing = Ok (report_text auction.sale auction.groups won ++
+abbrev after_pricing : Auction → List (List Choice) → Uniqueness → Option Priced → Result (List ℕ) Refusal
+after_pricing auction won claim pricing = Ok (report_text auction.sale auction.groups won ++
     (pricing_text auction.sale (slice_index_or won 0 []) pricing ++ uniqueness_text auction.sale claim))
 
-abbrev behind_claims : Auction → List (List Choice) → Uniqueness → Result (List ℕ) Refusal
-behind_claims auction won claim = and_then (parsed_pricing auction won) (behind_pricing auction won claim)
+abbrev after_claims : Auction → List (List Choice) → Uniqueness → Result (List ℕ) Refusal
+after_claims auction won claim = and_then (parsed_pricing auction won) (after_pricing auction won claim)
 
-abbrev behind_certified : Auction → List (List Choice) → Result (List ℕ) Refusal
-behind_certified auction won = and_then (parsed_claims auction (slice_index_or won 0 []) auction.uniques auction.ties) (behind_claims auction won)
+abbrev after_certified : Auction → List (List Choice) → Result (List ℕ) Refusal
+after_certified auction won = and_then (parsed_claims auction (slice_index_or won 0 []) auction.uniques auction.ties) (after_claims auction won)
 
 module _ (auction : Auction) (r : Refusal) where
   abbrev wanted_pricing : Option Refusal
   wanted_pricing = first_failed (refused_unless (pricing_wants (numbers_of auction)))
 
   claims-so : (won : List (List Choice)) (once : Bool) → claims_once (numbers_of auction) ≡ once
-      → (if once then wanted_pricing else Some (refusal.PartCount part.Unique)) ≡ Some r → RefusesFirst (behind_certified auction won) r
+      → (if once then wanted_pricing else Some (refusal.PartCount part.Unique)) ≡ Some r → RefusesFirst (after_certified auction won) r
   claims-so won false many is = (
     refusal.PartCount part.Unique,
     ap (λ (t : Result Uniqueness Refusal). and_then t
-        (behind_claims auction won)) (many-claims auction (slice_index_or won 0 []) auction.uniques auction.ties many),
+        (after_claims auction won)) (many-claims auction (slice_index_or won 0 []) auction.uniques auction.ties many),
     inl (some-is _ r is),
   )
   claims-so won true once is =
-      first-then (parsed_claims auction (slice_index_or won 0 []) auction.uniques auction.ties) (behind_claims auction won) r
+      first-then (parsed_claims auction (slice_index_or won 0 []) auction.uniques auction.ties) (after_claims auction won) r
       (free-claims auction (slice_index_or won 0 []) auction.uniques auction.ties (leb-true _ _ (both-true _ _ once).0)
       (leb-true _ _ (both-true _ _ once).1))
       (λ claim parsed. (
         r,
         ap (λ (o : Option Refusal). and_then (unless o (priced_by auction won auction.prices auction.covers))
-            (behind_pricing auction won claim)) is,
+            (after_pricing auction won claim)) is,
         inl refl,
       ))
 
@@ -319,21 +319,21 @@ module _ (auction : Auction) (r : Refusal) where
       → (if has then (if claims_once (numbers_of auction) then wanted_pricing else Some (refusal.PartCount part.Unique)) else Some
       (refusal.PartCount part.Certificate)) ≡ Some r
       → RefusesFirst (and_then (if has then and_then (each_in_turn shown 1 (bounds_of auction won)) (λ all. Ok won) else Err
-      (refusal.PartCount part.Certificate)) (behind_certified auction)) r
+      (refusal.PartCount part.Certificate)) (after_certified auction)) r
   certified-so won false is = (refusal.PartCount part.Certificate, refl, inl (some-is _ r is))
   certified-so won true is =
-      first-then (and_then (each_in_turn shown 1 (bounds_of auction won)) (λ all. Ok won)) (behind_certified auction) r
+      first-then (and_then (each_in_turn shown 1 (bounds_of auction won)) (λ all. Ok won)) (after_certified auction) r
       (free-then (each_in_turn shown 1 (bounds_of auction won)) _ (free-shown auction won) (λ all is. tt))
       (λ again parsed. claims-so again (claims_once (numbers_of auction)) refl is)
 
   won-so : (won : Result (List (List Choice)) Refusal) → IsFree won
       → first_failed (refused_unless (proof_wants (numbers_of auction))) ≡ Some r
-      → RefusesFirst (and_then (and_then won (certified auction)) (behind_certified auction)) r
+      → RefusesFirst (and_then (and_then won (certified auction)) (after_certified auction)) r
   won-so (Err f) free is = (f, refl, inr free)
   won-so (Ok won) free is = certified-so won (has_certificates (numbers_of auction)) is
 
   solutions-so : (o : Option Refusal) → option_or o (first_failed (refused_unless (proof_wants (numbers_of auction)))) ≡ Some r
-      → RefusesFirst (and_then (and_then (unless o (each_won auction)) (certified auction)) (behind_certified auction)) r
+      → RefusesFirst (and_then (and_then (unless o (each_won auction)) (certified auction)) (after_certified auction)) r
   solutions-so (Some s) is = (s, refl, inl (some-is s r is))
   solutions-so None is = won-so (each_won auction) (free-groups auction) is
 
@@ -342,7 +342,7 @@ verify-so : (workers : ℕ) (parsed : Result Auction Refusal) (r : Refusal) → 
 verify-so workers (Err f) r is = (f, refl, inl (err-is f r is))
 verify-so workers (Ok auction) r is =
     solutions-so auction r (first_failed (refused_unless (solution_wants (numbers_of auction))))
-    (sym (failed-behind (solution_wants (numbers_of auction)) (proof_wants (numbers_of auction))) ∙ unless-err
+    (sym (failed-after (solution_wants (numbers_of auction)) (proof_wants (numbers_of auction))) ∙ unless-err
     (first_failed (refused_unless (wants (Some target.Verify) (numbers_of auction)))) auction r is)
 
 -- the lines of bids, where they are asked for
@@ -397,19 +397,19 @@ verify-taken : (workers : ℕ) (auction : Auction) → first_failed (refused_unl
 verify-taken workers auction none =
     let (solved, proved) = neither (first_failed (refused_unless (solution_wants (numbers_of auction))))
     (first_failed (refused_unless (proof_wants (numbers_of auction))))
-    (sym (failed-behind (solution_wants (numbers_of auction)) (proof_wants (numbers_of auction))) ∙ none) in
+    (sym (failed-after (solution_wants (numbers_of auction)) (proof_wants (numbers_of auction))) ∙ none) in
     let (has, once, priced) = all-met (has_certificates (numbers_of auction)) (claims_once (numbers_of auction))
     (first_failed (refused_unless (pricing_wants (numbers_of auction)))) (refusal.PartCount part.Certificate)
     (refusal.PartCount part.Unique) proved in
-    free-then (and_then (winners_of_groups auction) (certified auction)) (behind_certified auction)
+    free-then (and_then (winners_of_groups auction) (certified auction)) (after_certified auction)
     (free-then (winners_of_groups auction) (certified auction) (report-taken auction solved) (λ won is.
     subst (λ (b : Bool). IsFree (if b then and_then (each_in_turn shown 1 (bounds_of auction won)) (λ all. Ok won) else Err
     (refusal.PartCount part.Certificate))) (sym has)
     (free-then (each_in_turn shown 1 (bounds_of auction won)) _ (free-shown auction won) (λ all is. tt))))
-    (λ won is. free-then (parsed_claims auction (slice_index_or won 0 []) auction.uniques auction.ties) (behind_claims auction won)
+    (λ won is. free-then (parsed_claims auction (slice_index_or won 0 []) auction.uniques auction.ties) (after_claims auction won)
     (free-claims auction (slice_index_or won 0 []) auction.uniques auction.ties (leb-true _ _ (both-true _ _ once).0)
     (leb-true _ _ (both-true _ _ once).1))
-    (λ claim is. free-then (parsed_pricing auction won) (behind_pricing auction won claim)
+    (λ claim is. free-then (parsed_pricing auction won) (after_pricing auction won claim)
     (subst (λ (o : Option Refusal). IsFree (unless o (priced_by auction won auction.prices auction.covers))) (sym priced)
     (free-priced-by auction won auction.prices auction.covers)) (λ pricing is. tt)))
 

@@ -7,7 +7,7 @@ use Rattle.auction_input.specs.Auction.{Auction, parsed_auction}
 use Rattle.answers.specs.Programs.{program_for}
 use Rattle.auction_input.specs.declared.request.Request.{Request}
 use Rattle.auction_input.specs.declared.request.Request.TheVariants as request
-use Rattle.auction_input.proofs.AnswerFacts.{ok-behind, ok-is}
+use Rattle.auction_input.proofs.AnswerFacts.{ok-after, ok-is}
 use Rattle.auction_input.proofs.WithinFacts.{auction-within}
 use Rattle.mps_text.specs.FaithfulText.{IsFaithfulText}
 use Rattle.mps_text.specs.Text.{text}
@@ -30,7 +30,7 @@ each-faithful sale faithful (group ∷ groups) = (faithful group, each-faithful 
 
 pub text-is-faithful : TextIsFaithful
 text-is-faithful input out parsed =
-    let (auction, auction_is, made) = ok-behind (parsed_auction request.Text input) (output_of request.Text) out parsed in
+    let (auction, auction_is, made) = ok-after (parsed_auction request.Text input) (output_of request.Text) out parsed in
     let is : text (program_for auction.sale []) ≡ out = ok-is _ (text (program_for auction.sale [])) out refl made in (
       auction,
       auction_is,
@@ -40,7 +40,7 @@ text-is-faithful input out parsed =
 
 pub compiled-is-faithful : CompiledIsFaithful
 compiled-is-faithful workers input out parsed =
-    let (auction, auction_is, made) = ok-behind (parsed_auction (request.Compile workers) input) (output_of (request.Compile workers)) out parsed in
+    let (auction, auction_is, made) = ok-after (parsed_auction (request.Compile workers) input) (output_of (request.Compile workers)) out parsed in
     let is : in_turn (program_text auction.sale) 1 auction.groups ≡ out = ok-is _ (in_turn (program_text auction.sale) 1 auction.groups) out refl made in (
       auction,
       auction_is,

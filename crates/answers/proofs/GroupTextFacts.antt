@@ -6,7 +6,7 @@ use Rattle.std.proofs.lemmas.List.{append-nil, get_or-map, length-map, length-ta
 use Rattle.byte_sinks.specs.Sinks.{Counts, HasFailed, IsFront, SentFront}
 use Rattle.byte_sinks.specs.declared.writer.Writer.{Writer}
 use Rattle.byte_sinks.specs.Adds.{Adds, IsBroken, IsNew, IsSent}
-use Rattle.byte_sinks.proofs.AddingFacts.{Adds-then, counts-new, fails-new, front-behind, sent-whole}
+use Rattle.byte_sinks.proofs.AddingFacts.{Adds-then, counts-new, fails-new, front-after, sent-whole}
 use Rattle.byte_sinks.proofs.KnownByteFacts.{Counts-then, IsFront-piece, SentFront-from}
 use Rattle.bid_desk.specs.Closing.{Closing}
 use Rattle.group_compiler.specs.Compiled.{GroupProgram, compiled}
@@ -82,7 +82,7 @@ pub ends-parsed : {X : Type 0} {taken : X → Option (List ℕ)} {failures : X �
     → EndsWithin (taken s.now) (taken x) ((done ++ bytes) ++ later) done (done ++ bytes) written
 ends-parsed {X} {taken} {failures} {s} {a} {b} {c} {written} x done bytes later new before sent added broken end =
     let ends = ends-within (taken s.now) (taken b.sink.now) (taken c.sink.now) done bytes later b.sent c.sent (sent-whole new before sent)
-    (counts-new new before) (front-behind sent added broken) added.counted in
+    (counts-new new before) (front-after sent added broken) added.counted in
     subst (λ (y : X). EndsWithin (taken s.now) (taken y) ((done ++ bytes) ++ later) done (done ++ bytes) written) (sym end)
     (subst (λ (n : ℕ). EndsWithin (taken s.now) (taken c.sink.now) ((done ++ bytes) ++ later) done (done ++ bytes) n) (sym broken.1) ends)
 

@@ -44,9 +44,9 @@ either : (b : Bool) (xs ys : Kinds) → AskAlike xs → AskAlike ys → AskAlike
 either true xs ys first second = first
 either false xs ys first second = second
 
-behind : (xs ys : Kinds) → AskAlike xs → AskAlike ys → AskAlike (or_else xs ys)
-behind [] ys first second = second
-behind (k ∷ more) ys first second = first
+after : (xs ys : Kinds) → AskAlike xs → AskAlike ys → AskAlike (or_else xs ys)
+after [] ys first second = second
+after (k ∷ more) ys first second = first
 
 mapped : {A : Type 0} (f : A → Kinds) (o : Option A) (default : Kinds) → ((x : A) → AskAlike (f x)) → AskAlike default → AskAlike (option_map_or f o default)
 mapped f None default each without = without
@@ -59,7 +59,7 @@ of-value i p text = either (accepts i p text) [] (refused_kind p ∷ []) none (o
 
 of-values : (i : Bool) (p : ValueParser) (texts : List Text) → AskAlike (values_kinds i p texts)
 of-values i p [] = none
-of-values i p (v ∷ vs) = behind (value_kinds i p v) (values_kinds i p vs) (of-value i p v) (of-values i p vs)
+of-values i p (v ∷ vs) = after (value_kinds i p v) (values_kinds i p vs) (of-value i p v) (of-values i p vs)
 
 of-range : (least most n : ℕ) → AskAlike (range_kinds least most n)
 of-range least most n =
@@ -82,7 +82,7 @@ of-repeat : (again : Bool) (id : Text) (rows : List Row) → AskAlike (repeat_fa
 of-repeat again id rows = either (has_row id rows && not again) _ _ (one kind.ArgumentConflict) none
 
 of-set : (again : Bool) (a : Rule) (values : List Text) (rows : List Row) → AskAlike (set_fault again a values rows)
-of-set again a values rows = behind (repeat_fault again a.id rows) (values_fault a values) (of-repeat again a.id rows)
+of-set again a values rows = after (repeat_fault again a.id rows) (values_fault a values) (of-repeat again a.id rows)
     (of-values a.ignore_case (parser_of_value a.parser) values)
 
 of-action : (x : ArgAction) (again : Bool) (a : Rule) (values : List Text) (rows : List Row) → AskAlike (action_fault x again a values rows)
@@ -95,7 +95,7 @@ of-action x again a values rows = of-request x
 
 of-use : (again : Bool) (a : Rule) (values : List Text) (rows : List Row) → AskAlike (use_fault again a values rows)
 of-use again a values rows =
-    behind (range_kinds (unwrap_or_range a.range).start_inclusive (most_values a) (length values))
+    after (range_kinds (unwrap_or_range a.range).start_inclusive (most_values a) (length values))
     (action_fault (action_of a) again a (values_or_missing a values) rows)
     (of-range (unwrap_or_range a.range).start_inclusive (most_values a) (length values)) (of-action (action_of a) again a (values_or_missing a values) rows)
 
@@ -106,7 +106,7 @@ module _ (c : List Rule) (again : Bool) where
   of-settle h = mapped _ h.pending [] (λ p. mapped _ (arg_by_id c p.0) [] (λ a. of-use again a p.1 h.rows) none) none
 
   of-react : (a : Rule) (values : List Text) (h : Held) → AskAlike (react_fault c again a values h)
-  of-react a values h = behind (settle_fault c again h) (use_fault again a values (settled c h).rows) (of-settle h) (of-use again a values (settled c h).rows)
+  of-react a values h = after (settle_fault c again h) (use_fault again a values (settled c h).rows) (of-settle h) (of-use again a values (settled c h).rows)
 
   of-option : (a : Rule) (v : Option Text) (h : Held) → AskAlike (option_fault c again a v h)
   of-option a (Some v) h = of-react a (v ∷ []) h
@@ -121,7 +121,7 @@ module _ (c : List Rule) (again : Bool) where
   of-short None rest h more each = one kind.UnknownArgument
   of-short (Some a) rest h more each =
       either (takes_values a) _ _ (of-option a (attached_value rest) h)
-      (behind (react_fault c again a [] h) (more (reacted c a [] h)) (of-react a [] h) (each (reacted c a [] h)))
+      (after (react_fault c again a [] h) (more (reacted c a [] h)) (of-react a [] h) (each (reacted c a [] h)))
 
   of-bundle_step : (first : Option ℕ) (flags : Text) (skip : ℕ) (h : Held) (more : Text → ℕ → Held → Kinds)
       → ((t : Text) (n : ℕ) (h : Held) → AskAlike (more t n h))
@@ -183,13 +183,13 @@ module _ (s : Shape) (names : Names) (off : (s.disable_help_subcommand ≡ true)
   of-turn w word =
       let met = word_met s.rules names w.is_trailing w.waiting w.position word w.held in
       either (is_some w.stopped) _ _ none
-      (behind (word_fault s names w.is_trailing w.waiting word w.held) (step_fault s w.position met.0 met.1)
+      (after (word_fault s names w.is_trailing w.waiting word w.held) (step_fault s w.position met.0 met.1)
       (of-word w.is_trailing w.waiting word w.held) (of-step s w.position met.0 met.1))
 
   of-walk : (w : Walk) (words : List Text) → AskAlike (walk_fault s names w words)
   unfolding walk_fault
   of-walk w [] = none
-  of-walk w (word ∷ rest) = behind (turn_fault s names w word) (walk_fault s names (walked s.rules names w word) rest) (of-turn w word)
+  of-walk w (word ∷ rest) = after (turn_fault s names w word) (walk_fault s names (walked s.rules names w word) rest) (of-turn w word)
       (of-walk (walked s.rules names w word) rest)
 
 -- ---- after the walk
@@ -197,14 +197,14 @@ module _ (s : Shape) (names : Names) (off : (s.disable_help_subcommand ≡ true)
 of-default : (rows : List Row) (a : Rule) → AskAlike (default_fault rows a)
 of-default rows a =
     either (has_row a.id rows || is_empty a.defaults) _ _ none
-    (behind (request_kinds (action_of a)) (values_fault a a.defaults) (of-request (action_of a))
+    (after (request_kinds (action_of a)) (values_fault a a.defaults) (of-request (action_of a))
     (of-values a.ignore_case (parser_of_value a.parser) a.defaults))
 
 of-defaults : (rows : List Row) (rules : List Rule) → AskAlike (defaults_fault rows rules)
 unfolding defaults_fault
 of-defaults rows [] = none
 of-defaults rows (a ∷ rest) =
-    behind (default_fault rows a) (defaults_fault (with_default rows a) rest) (of-default rows a) (of-defaults (with_default rows a) rest)
+    after (default_fault rows a) (defaults_fault (with_default rows a) rest) (of-default rows a) (of-defaults (with_default rows a) rest)
 
 of-checks : (help command argument : Bool) → AskAlike (check_kinds help command argument)
 of-checks help command argument =
@@ -216,10 +216,10 @@ of-level : (s : Shape) (names : Names) (h : Held) (words : List Text) (has_subco
     → AskAlike (level_fault s names h words has_subcommand below)
 of-level s names h words has_subcommand below off under =
     let end = (walk s.rules names h words).held in
-    behind (walk_fault s names (walk_from h) words) _ (of-walk s names off (walk_from h) words)
-    (behind below _ under
-    (behind (settle_fault s.rules s.args_override_self end) _ (of-settle s.rules s.args_override_self end)
-    (behind (defaults_fault (settled s.rules end).rows s.rules) _ (of-defaults (settled s.rules end).rows s.rules)
+    after (walk_fault s names (walk_from h) words) _ (of-walk s names off (walk_from h) words)
+    (after below _ under
+    (after (settle_fault s.rules s.args_override_self end) _ (of-settle s.rules s.args_override_self end)
+    (after (defaults_fault (settled s.rules end).rows s.rules) _ (of-defaults (settled s.rules end).rows s.rules)
     (of-checks _ _ _))))
 
 of-entered : (a : App) (stop : Option (Text × List Text)) → AskAlike (entered_fault a stop)
@@ -252,5 +252,5 @@ faults_in words = or_else (fault_of wdp words) (target_fault (subcommand_of wdp 
 
 pub asks-as : (words : List Text) (line : CommandLine) (k : ErrorKind) → IsAmong k (faults_in words) → by_faults (faults_in words) line ≡ by_fault k
 asks-as words line k among =
-    by-first (faults_in words) line k (behind (fault_of wdp words) (target_fault (subcommand_of wdp words)) (alike words)
+    by-first (faults_in words) line k (after (fault_of wdp words) (target_fault (subcommand_of wdp words)) (alike words)
     (of-target (subcommand_of wdp words))) among

@@ -16,7 +16,7 @@ use Rattle.auction_terms.proofs.OnlyFacts.{rivals_do_as_well}
 use Rattle.auction_input.specs.Auction.{Auction}
 use Rattle.answers.specs.Programs.{program_for}
 use Rattle.auction_input.specs.declared.refusal.Refusal.TheVariants as refusal
-use Rattle.auction_input.proofs.AnswerFacts.{ok-behind, ok-is, ok-refused_as, unless-ok}
+use Rattle.auction_input.proofs.AnswerFacts.{ok-after, ok-is, ok-refused_as, unless-ok}
 use Rattle.auction_input.proofs.RecordFacts.{none-failed}
 use Rattle.optimality.proofs.OnlyFacts.{shown-is-only}
 use Rattle.optimality.proofs.VerdictFacts.{only-verdict}
@@ -97,7 +97,7 @@ module _ (auction : Auction) (within : IsBook auction.sale.lots auction.sale.boo
 
   only-holds : (text : List ℕ) (claim : Uniqueness) → parsed_claims auction first (text ∷ []) [] ≡ Ok claim → Holds sale first claim
   only-holds text claim parsed =
-      let (point, point_is, judged) = ok-behind (refused_as (solution_refused p 1) (solution p solved)) _ claim parsed in
+      let (point, point_is, judged) = ok-after (refused_as (solution_refused p 1) (solution p solved)) _ claim parsed in
       let parsed_point = ok-refused_as (solution_refused p 1) (solution p solved) point point_is in
       let refuse = λ (f : ℕ × CertificateFaultKind). refusal.Unique (record { line = f.0; kind = f.1 }) in
       let (none, is) = unless-ok (option_map refuse (only_fault p point text)) (only_or_rival sale first) claim judged in
@@ -107,14 +107,14 @@ module _ (auction : Auction) (within : IsBook auction.sale.lots auction.sale.boo
 
   rises : (text : List ℕ) (other : List Choice) → winners_by p 1 text ≡ Ok other → HasRisingBidders other
   rises text other parsed =
-      let (point, point_is, is) = ok-behind (refused_as (solution_refused p 1) (solution p text)) _ other parsed in
+      let (point, point_is, is) = ok-after (refused_as (solution_refused p 1) (solution p text)) _ other parsed in
       let parsed_point = ok-refused_as (solution_refused p 1) (solution p text) point point_is in
       let same : allocation_of p point ≡ other = ok-is _ (allocation_of p point) other refl is in
       subst HasRisingBidders same (solutions_come_back sale.lots sale.book (has []) text point within parsed_point).rising
 
   tie-holds : (text : List ℕ) (claim : Uniqueness) → parsed_tie auction first text ≡ Ok claim → Holds sale first claim
   tie-holds text claim parsed =
-      let (other, other_is, ties) = ok-behind (refused_as of_tie (winners_by p 1 text)) (tied sale first) claim parsed in
+      let (other, other_is, ties) = ok-after (refused_as of_tie (winners_by p 1 text)) (tied sale first) claim parsed in
       let wins_too = ok-refused_as of_tie (winners_by p 1 text) other other_is in
       let checks = (nat_le (total sale.lots sale.book first) (total sale.lots sale.book other), refusal.LowerTie) ∷
       (not (same_choices first other), refusal.SameTie) ∷ [] in

@@ -18,7 +18,7 @@ use Rattle.auction_input.specs.ParsedParts.{only_text, parsed_parts}
 use Rattle.auction_input.specs.ParsedTexts.{parsed_form, parsed_groups, parsed_terms}
 use Rattle.auction_input.specs.declared.request.Request.{Request}
 use Rattle.auction_input.specs.declared.refusal.Refusal.TheVariants as refusal
-use Rattle.auction_input.proofs.AnswerFacts.{ok-behind, ok-is, ok-refused_as, unless-ok, unless-parsed}
+use Rattle.auction_input.proofs.AnswerFacts.{ok-after, ok-is, ok-refused_as, unless-ok, unless-parsed}
 use Rattle.answers.specs.Pricing.{cover_bound, cover_program, covered, parsed_least, parsed_prices, parsed_weights, priced}
 use Rattle.answers.specs.Pricing.{priced_by, pricing_counts, parsed_pricing}
 use Rattle.answers.proofs.PricingFacts.{parsed-hold}
@@ -40,11 +40,11 @@ use Rattle.answers.proofs.OnlyFacts.{no-fault}
 pub auction-sized : (asked : Request) (input : Input) (auction : Auction) → parsed_auction asked input ≡ Ok auction
     → length auction.sale.book ≡ length auction.rules.bidders
 auction-sized asked input auction parsed =
-    let (parts, parts_are, more) = ok-behind (parsed_parts asked input) _ auction parsed in
-    let (t, t_is, more_forms) = ok-behind (parsed_terms (only_text (parts_named (codes "%rules") parts))) _ auction more in
-    let (read, read_are, more_texts) = ok-behind (each_in_turn (parsed_form t) 1 (parts_named (codes "%form") parts)) _ auction more_forms in
-    let (forms, forms_are, more_groups) = ok-behind (in_one_text input.last_wins t (text_numbers (codes "%form") parts) read) _ auction more_texts in
-    let (groups, groups_are, more_calls) = ok-behind (parsed_groups t (only_text (parts_named (codes "%groups") parts))) _ auction more_groups in
+    let (parts, parts_are, more) = ok-after (parsed_parts asked input) _ auction parsed in
+    let (t, t_is, more_forms) = ok-after (parsed_terms (only_text (parts_named (codes "%rules") parts))) _ auction more in
+    let (read, read_are, more_texts) = ok-after (each_in_turn (parsed_form t) 1 (parts_named (codes "%form") parts)) _ auction more_forms in
+    let (forms, forms_are, more_groups) = ok-after (in_one_text input.last_wins t (text_numbers (codes "%form") parts) read) _ auction more_texts in
+    let (groups, groups_are, more_calls) = ok-after (parsed_groups t (only_text (parts_named (codes "%groups") parts))) _ auction more_groups in
     let (taken, is) = unless-ok _ _ auction (ok-refused_as refusal.CallLimit _ auction more_calls) in
     subst (λ (a : Auction). length a.sale.book ≡ length a.rules.bidders) is (length-map-range_with_len _ 1 (length t.bidders))
 
@@ -67,7 +67,7 @@ module _ (auction : Auction) (within : IsBook auction.sale.lots auction.sale.boo
       → IsLeastSum (reserves_in auction.rules) auction.sale.lots auction.sale.book first (price_in prices)
   least-holds prices is_least [] parsed so = cc
   least-holds prices is_least (text ∷ more) parsed so =
-      let (w, w_is, shown) = ok-behind (parsed_weights auction first text) _ is_least parsed in
+      let (w, w_is, shown) = ok-after (parsed_weights auction first text) _ is_least parsed in
       let ws : List Weighted = weighted auction.groups won w.groups in
       let is = ok-is _ (shows_least_sum (reserves_in auction.rules) auction.sale.lots auction.sale.book first (price_in prices) w.scale ws
       (price_in w.own)) is_least refl shown in
@@ -77,9 +77,9 @@ module _ (auction : Auction) (within : IsBook auction.sale.lots auction.sale.boo
 
   priced-holds : (text cover : List ℕ) (p : Priced) → priced auction won first text cover ≡ Ok p → AreTruePrices auction first p
   priced-holds text cover p parsed =
-      let (prices, prices_are, more) = ok-behind (parsed_prices auction first text) _ p parsed in
-      let (u, shown, rest) = ok-behind (covered auction first prices cover) _ p more in
-      let (is_least, least_is, written) = ok-behind (parsed_least auction won first prices auction.weights) _ p rest in
+      let (prices, prices_are, more) = ok-after (parsed_prices auction first text) _ p parsed in
+      let (u, shown, rest) = ok-after (covered auction first prices cover) _ p more in
+      let (is_least, least_is, written) = ok-after (parsed_least auction won first prices auction.weights) _ p rest in
       let is : record { prices = prices; is_least = is_least } ≡ p = ok-is _ (record { prices = prices; is_least = is_least }) p refl written in
       let (fine, met) = parsed-hold auction first text prices count best.feasible prices_are in
       subst (AreTruePrices auction first) is (record {
@@ -105,7 +105,7 @@ pricing-holds auction within count won best greatest pricing parsed =
     by (text ∷ more) is =
         let first = slice_index_or won 0 [] in
         let cover = slice_index_or auction.covers 0 [] in
-        let (p, p_is, rest) = ok-behind (priced auction won first text cover) _ pricing is in
+        let (p, p_is, rest) = ok-after (priced auction won first text cover) _ pricing is in
         let some : Some p ≡ pricing = ok-is _ (Some p) pricing refl rest in (
           subst (λ (o : Option Priced). IfSome o (AreTruePrices auction first)) some (priced-holds auction within count won first best
               greatest text cover p p_is),

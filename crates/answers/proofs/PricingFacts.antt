@@ -18,8 +18,8 @@ use Rattle.auction_input.specs.declared.refusal.Refusal.{Refusal}
 use Rattle.auction_input.specs.Auction.{Auction}
 use Rattle.auction_input.specs.Refused.{Refuses}
 use Rattle.auction_input.proofs.RecordFacts.{neither, none-failed}
-use Rattle.auction_input.proofs.AnswerFacts.{ok-behind, ok-is, unless-ok}
-use Rattle.auction_input.proofs.StageFacts.{behind, next, refuses-as, stop}
+use Rattle.auction_input.proofs.AnswerFacts.{ok-after, ok-is, unless-ok}
+use Rattle.auction_input.proofs.StageFacts.{after-ok, next, refuses-as, stop}
 use Rattle.auction_terms.specs.Stages.{and_then, refused_as, unless}
 use Rattle.optimality.specs.Answers.{IsLimit}
 use Rattle.optimality.specs.Sizes.{IsLargeAt}
@@ -172,7 +172,7 @@ pub parsed-hold : (auction : Auction) (first : List Choice) (text prices : List 
     → IsFeasible auction.sale.lots auction.sale.book (λ b. false) first → parsed_prices auction first text ≡ Ok prices
     → ArePrices auction.sale.book first (price_in prices) × MeetReserves (reserves_in auction.rules) auction.sale.book first (price_in prices)
 parsed-hold auction first text prices count feasible parsed =
-    let (given, given_is, taken) = ok-behind (refused_as refusal.Prices (parsed_given (known_by_prices auction.rules first) text)) _ prices parsed in
+    let (given, given_is, taken) = ok-after (refused_as refusal.Prices (parsed_given (known_by_prices auction.rules first) text)) _ prices parsed in
     let n : ℕ = length auction.rules.bidders in
     let (none, is) = unless-ok (winners_fault auction.rules auction.sale given first) (numbers_of_bidders given n) prices taken in
     subst (λ (xs : List ℕ). ArePrices auction.sale.book first (price_in xs) × MeetReserves (reserves_in auction.rules) auction.sale.book first (price_in xs)) is (
@@ -190,11 +190,11 @@ module _ (auction : Auction) (won : List (List Choice)) (first : List Choice) (t
   pricing-covered is_least shown least = next _ prices _ _ parsed (next _ tt _ _ shown (next _ is_least _ _ least refl))
 
   pub pricing-uncovered : (r : Refusal) → Refuses (covered auction first prices cover) r → Refuses (priced auction won first text cover) r
-  pricing-uncovered r refused = behind _ prices _ r parsed (stop _ _ r refused)
+  pricing-uncovered r refused = after-ok _ prices _ r parsed (stop _ _ r refused)
 
   pub pricing-unweighed : (r : Refusal) → covered auction first prices cover ≡ Ok tt
       → Refuses (parsed_least auction won first prices auction.weights) r → Refuses (priced auction won first text cover) r
-  pricing-unweighed r shown refused = behind _ prices _ r parsed (behind _ tt _ r shown (stop _ _ r refused))
+  pricing-unweighed r shown refused = after-ok _ prices _ r parsed (after-ok _ tt _ r shown (stop _ _ r refused))
 
   pub not-covered : (slice text' : List ℕ) (r : Refusal) → slice ≡ prices → text' ≡ cover
       → Refuses (covered auction first slice text') r ⊎ IsTooWideCover auction first slice text' r
@@ -213,7 +213,7 @@ module _ (auction : Auction) (won : List (List Choice)) (first : List Choice) (t
 pub as-many : (auction : Auction) (first : List Choice) (text : List ℕ) (w : ParsedWeights) → parsed_weights auction first text ≡ Ok w
     → length w.groups ≡ length auction.groups
 as-many auction first text w parsed =
-    let (given, given_is, scaled_is) = ok-behind (refused_as refusal.Weights (parsed_given (known_by_weights auction first) text)) _ w parsed in
+    let (given, given_is, scaled_is) = ok-after (refused_as refusal.Weights (parsed_given (known_by_weights auction first) text)) _ w parsed in
     by given (given_to given subject.Scale) scaled_is
   where
     by : (given : List GivenNumber) (o : Option GivenNumber) → scaled auction given o ≡ Ok w → length w.groups ≡ length auction.groups

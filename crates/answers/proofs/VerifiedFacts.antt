@@ -39,7 +39,7 @@ use Rattle.answers.specs.inside.SolutionWinners.{winners}
 use Rattle.auction_input.specs.declared.part_kind.PartKind.TheVariants as part
 use Rattle.auction_input.specs.declared.refusal.Refusal.TheVariants as refusal
 use Rattle.auction_input.specs.declared.request.Request.TheVariants as request
-use Rattle.auction_input.proofs.AnswerFacts.{ok-behind, ok-is, unless-ok}
+use Rattle.auction_input.proofs.AnswerFacts.{ok-after, ok-is, unless-ok}
 use Rattle.auction_input.proofs.WithinFacts.{auction-within}
 use Rattle.answers.proofs.ClaimedFacts.{some-group, wins-first}
 use Rattle.answers.proofs.EndFacts.{no-pricing, no-report, no-tie}
@@ -86,13 +86,13 @@ all-greatest sale n [] texts certificates won all within count counts wins parse
 all-greatest sale n (group ∷ groups) [] certificates won all within count counts wins parsed = absurd (omega arith)
 all-greatest sale n (group ∷ groups) (text ∷ texts) [] won all within count counts wins parsed = absurd (omega arith)
 all-greatest sale n (group ∷ groups) (text ∷ texts) (certificate ∷ certificates) won all within count counts wins parsed =
-    let (a, a_is, more_wins) = ok-behind (winners sale n (group, text)) _ won wins in
-    let (more, more_are, are) = ok-behind (each_in_turn (winners sale) (n + 1) (zip groups texts)) _ won more_wins in
+    let (a, a_is, more_wins) = ok-after (winners sale n (group, text)) _ won wins in
+    let (more, more_are, are) = ok-after (each_in_turn (winners sale) (n + 1) (zip groups texts)) _ won more_wins in
     let is : a ∷ more ≡ won = ok-is _ (a ∷ more) won refl are in
     let parsed_now : each_in_turn shown n (map (bound_of sale) (zip (zip (group ∷ groups) (a ∷ more)) (certificate ∷ certificates)))
     ≡ Ok all = rw (← is) at parsed in
-    let (u, u_is, parsed_more) = ok-behind (shown n (bound_of sale ((group, a), certificate))) _ all parsed_now in
-    let (us, us_are, _) = ok-behind (each_in_turn shown (n + 1) (map (bound_of sale) (zip (zip groups more) certificates))) _ all parsed_more in
+    let (u, u_is, parsed_more) = ok-after (shown n (bound_of sale ((group, a), certificate))) _ all parsed_now in
+    let (us, us_are, _) = ok-after (each_in_turn shown (n + 1) (map (bound_of sale) (zip (zip groups more) certificates))) _ all parsed_more in
     let head = greatest-of sale n group text certificate a u within a_is u_is in
     let tail = all-greatest sale (n + 1) groups texts certificates more us within (omega arith) (omega arith) more_are us_are in
     subst (λ (xs : List (List Choice)). AllZip (IsGreatestWithout sale) (group ∷ groups) xs) is (head, tail)
@@ -124,14 +124,14 @@ certified-greatest auction won within wins certifies =
     let (starts, count, each) = when-both refusal.FirstGroupNotEmpty (refusal.PartCount part.Solution) (starts_empty auction.groups)
     (length auction.solutions == length auction.groups) _ won wins in
     let (counts, parsed_all) = when-counted (length auction.certificates == length auction.groups) _ (refusal.PartCount part.Certificate) won certifies in
-    let (all, shown_are, same) = ok-behind (each_in_turn shown 1 (bounds_of auction won)) _ won parsed_all in
+    let (all, shown_are, same) = ok-after (each_in_turn shown 1 (bounds_of auction won)) _ won parsed_all in
     all-greatest auction.sale 1 auction.groups auction.solutions auction.certificates won all within (eqb-true _ _ count) (eqb-true _ _ counts) each shown_are
 
 -- what is certified is what is won
 as-won : (auction : Auction) (allocations won : List (List Choice)) → certified auction allocations ≡ Ok won → allocations ≡ won
 as-won auction allocations won certifies =
     let (counts, parsed_all) = when-counted (length auction.certificates == length auction.groups) _ (refusal.PartCount part.Certificate) won certifies in
-    let (all, shown_are, same) = ok-behind (each_in_turn shown 1 (bounds_of auction allocations)) _ won parsed_all in
+    let (all, shown_are, same) = ok-after (each_in_turn shown 1 (bounds_of auction allocations)) _ won parsed_all in
     ok-is _ allocations won refl same
 
 -- what `verify` goes by: these allocations, certified, and what comes of the claim and of the prices
@@ -148,10 +148,10 @@ record Verdicts (auction : Auction) (out : List ℕ) : Type 0 where
 
 verdicts : (workers : ℕ) (auction : Auction) (out : List ℕ) → output_of (request.Verify workers) auction ≡ Ok out → Verdicts auction out
 verdicts workers auction out parsed =
-    let (won, won_is, behind) = ok-behind (and_then (winners_of_groups auction) (certified auction)) _ out parsed in
-    let (claim, claim_is, after) = ok-behind (parsed_claims auction (slice_index_or won 0 []) auction.uniques auction.ties) _ out behind in
-    let (pricing, pricing_is, written) = ok-behind (parsed_pricing auction won) _ out after in
-    let (allocations, wins, certifies) = ok-behind (winners_of_groups auction) (certified auction) won won_is in
+    let (won, won_is, later) = ok-after (and_then (winners_of_groups auction) (certified auction)) _ out parsed in
+    let (claim, claim_is, after) = ok-after (parsed_claims auction (slice_index_or won 0 []) auction.uniques auction.ties) _ out later in
+    let (pricing, pricing_is, written) = ok-after (parsed_pricing auction won) _ out after in
+    let (allocations, wins, certifies) = ok-after (winners_of_groups auction) (certified auction) won won_is in
     let is = as-won auction allocations won certifies in
     record {
       won = won;
@@ -207,7 +207,7 @@ module _ (auction : Auction) (out : List ℕ) (within : IsBook auction.sale.lots
 
 pub verified-is-true : VerifiedIsTrue
 verified-is-true workers input out parsed =
-    let (auction, auction_is, text) = ok-behind (parsed_auction (request.Verify workers) input) (output_of (request.Verify workers)) out parsed in (
+    let (auction, auction_is, text) = ok-after (parsed_auction (request.Verify workers) input) (output_of (request.Verify workers)) out parsed in (
       auction,
       auction_is,
       true-report auction out (auction-within (request.Verify workers) input auction auction_is).1 (auction-sized
@@ -216,7 +216,7 @@ verified-is-true workers input out parsed =
 
 pub prices-cover : PricesCover
 prices-cover workers input out parsed =
-    let (auction, auction_is, text) = ok-behind (parsed_auction (request.Verify workers) input) (output_of (request.Verify workers)) out parsed in (
+    let (auction, auction_is, text) = ok-after (parsed_auction (request.Verify workers) input) (output_of (request.Verify workers)) out parsed in (
       auction,
       auction_is,
       priced-outcome auction out (auction-within (request.Verify workers) input auction auction_is).1 (auction-sized
@@ -255,7 +255,7 @@ only-outcome auction before some won pricing (uniqueness.Tie other) is each hold
 pub unique-is-only : UniqueIsOnly
 unique-is-only workers input before parsed =
     let out = before ++ codes "unique\n" in
-    let (auction, auction_is, text) = ok-behind (parsed_auction (request.Verify workers) input) (output_of (request.Verify workers)) out parsed in
+    let (auction, auction_is, text) = ok-after (parsed_auction (request.Verify workers) input) (output_of (request.Verify workers)) out parsed in
     let v = verdicts workers auction out text in
     let report = true-report auction out (auction-within (request.Verify workers) input auction auction_is).1
     (auction-sized (request.Verify workers) input auction auction_is) v in (

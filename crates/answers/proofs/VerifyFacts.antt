@@ -13,13 +13,13 @@ use Rattle.answers.specs.Pricing.{IsTooWidePricing, parsed_pricing}
 use Rattle.outcome.specs.declared.uniqueness.Uniqueness.{Uniqueness}
 use Rattle.answers.specs.Exact.{Ends, IsBeyondSums, by_refusal}
 use Rattle.auction_input.specs.declared.request.Request.TheVariants as request
-use Rattle.auction_input.proofs.StageFacts.{behind, next, stop}
+use Rattle.auction_input.proofs.StageFacts.{after-ok, next, stop}
 
 -- solutions that are taken, and a certificate that isn't
 pub unshown : (workers : ℕ) (auction : Auction) (won : List (List Choice)) (before : SinkState) (r : Refusal) → winners_of_groups auction ≡ Ok won
     → Refuses (certified auction won) r ⊎ ((length auction.certificates ≡ length auction.groups) × IsTooWide (bounds_of auction won) r)
     → Ends (output_of (request.Verify workers) auction) before before r ⊎ (IsBeyondSums auction r × (before.taken ≡ before.taken))
-unshown workers auction won before r parsed (inl refused) = inl (by_refusal (stop _ _ r (behind _ won _ r parsed refused)) refl)
+unshown workers auction won before r parsed (inl refused) = inl (by_refusal (stop _ _ r (after-ok _ won _ r parsed refused)) refl)
 unshown workers auction won before r parsed (inr (each, wide)) = inr ((won, parsed, inl (each, wide)), refl)
 
 -- solutions and certificates that are taken, and a claim of which nothing comes
@@ -28,7 +28,7 @@ pub unclaimed : (workers : ℕ) (auction : Auction) (won : List (List Choice)) (
     → Refuses (parsed_claims auction (slice_index_or won 0 []) auction.uniques auction.ties) r ⊎ IsTooWideClaim auction r
     → Ends (output_of (request.Verify workers) auction) before before r ⊎ (IsBeyondSums auction r × (before.taken ≡ before.taken))
 unclaimed workers auction won before r parsed certifies (inl refused) =
-    inl (by_refusal (behind _ won _ r (next _ won _ _ parsed certifies) (stop _ _ r refused)) refl)
+    inl (by_refusal (after-ok _ won _ r (next _ won _ _ parsed certifies) (stop _ _ r refused)) refl)
 unclaimed workers auction won before r parsed certifies (inr wide) = inr ((won, parsed, inr (certifies, inl wide)), refl)
 
 -- solutions, certificates and a claim that are taken, and prices that aren't
@@ -38,5 +38,5 @@ pub unpriced : (workers : ℕ) (auction : Auction) (won : List (List Choice)) (c
     → Refuses (parsed_pricing auction won) r ⊎ IsTooWidePricing auction won r
     → Ends (output_of (request.Verify workers) auction) before before r ⊎ (IsBeyondSums auction r × (before.taken ≡ before.taken))
 unpriced workers auction won claim before r parsed certifies claims (inl refused) =
-    inl (by_refusal (behind _ won _ r (next _ won _ _ parsed certifies) (behind _ claim _ r claims (stop _ _ r refused))) refl)
+    inl (by_refusal (after-ok _ won _ r (next _ won _ _ parsed certifies) (after-ok _ claim _ r claims (stop _ _ r refused))) refl)
 unpriced workers auction won claim before r parsed certifies claims (inr wide) = inr ((won, parsed, inr (certifies, inr wide)), refl)

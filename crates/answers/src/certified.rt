@@ -151,13 +151,13 @@ fn verdicts_of(
         .map(
             |bound: &ClaimedBound<'_>| -> Option<Result<(), CertificateFault>>
                 ensures { IsJudgedIfBegun programs.entry.now bound.now result }
-            { verdict_unless_behind(alloc, programs, faulty, bound) },
+            { verdict_unless_after(alloc, programs, faulty, bound) },
         )
         .collect(rt, alloc)
 }
 
 // What a certificate comes to; nothing, where one before it is known to be faulty.
-fn verdict_unless_behind(
+fn verdict_unless_after(
     alloc: Global,
     programs: &GroupPrograms<'_>,
     faulty: &Lowest,

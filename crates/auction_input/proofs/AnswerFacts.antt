@@ -6,9 +6,9 @@ use Rattle.auction_terms.specs.Stages.{and_then, refused_as, unless}
 pub ok-is : {A E : Type 0} (r : Result A E) (x y : A) → r ≡ Ok x → r ≡ Ok y → x ≡ y
 ok-is r x y first second = cc
 
-pub ok-behind : {A B E : Type 0} (r : Result A E) (k : A → Result B E) (y : B) → and_then r k ≡ Ok y → (x : A) × (r ≡ Ok x) × (k x ≡ Ok y)
-ok-behind (Ok x) k y parsed = (x, refl, parsed)
-ok-behind (Err e) k y parsed = cc
+pub ok-after : {A B E : Type 0} (r : Result A E) (k : A → Result B E) (y : B) → and_then r k ≡ Ok y → (x : A) × (r ≡ Ok x) × (k x ≡ Ok y)
+ok-after (Ok x) k y parsed = (x, refl, parsed)
+ok-after (Err e) k y parsed = cc
 
 pub ok-refused_as : {A F E : Type 0} (parse : F → E) (r : Result A F) (x : A) → refused_as parse r ≡ Ok x → r ≡ Ok x
 ok-refused_as parse (Ok y) x parsed = (let same : y ≡ x = ok-is _ y x refl parsed in rw same refl)

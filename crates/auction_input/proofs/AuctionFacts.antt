@@ -35,7 +35,7 @@ use Rattle.auction_input.specs.declared.request.Request.TheVariants as request
 use Rattle.auction_input.specs.declared.request.Request.{Request}
 use Rattle.auction_input.specs.declared.round.RoundFault.{RoundFault}
 use Rattle.auction_input.specs.declared.round.RoundFault.TheVariants as round
-use Rattle.auction_input.proofs.StageFacts.{behind, next, refuses-as, stop}
+use Rattle.auction_input.proofs.StageFacts.{after-ok, next, refuses-as, stop}
 
 -- ---- parts
 
@@ -118,11 +118,11 @@ auction_of t forms groups rest = record {
 module _ (asked : Request) (input : Input) (last_wins : Bool) (same : input.last_wins ≡ last_wins) (parts : List Part)
     (cut : parsed_parts asked input ≡ Ok parts) where
   pub terms-refused : (r : Refusal) → Refuses (parsed_terms (only_text (parts_named (codes "%rules") parts))) r → Refuses (parsed_auction asked input) r
-  terms-refused r refused = behind _ parts _ r cut (stop _ _ r refused)
+  terms-refused r refused = after-ok _ parts _ r cut (stop _ _ r refused)
 
   module _ (t : Terms) (rules : parsed_terms (only_text (parts_named (codes "%rules") parts)) ≡ Ok t) where
     pub forms-refused : (r : Refusal) → Refuses (each_in_turn (parsed_form t) 1 (parts_named (codes "%form") parts)) r → Refuses (parsed_auction asked input) r
-    forms-refused r refused = behind _ parts _ r cut (behind _ t _ r rules (stop _ _ r refused))
+    forms-refused r refused = after-ok _ parts _ r cut (after-ok _ t _ r rules (stop _ _ r refused))
 
     module _ (forms : List Offers) (each : each_in_turn (parsed_form t) 1 (parts_named (codes "%form") parts) ≡ Ok forms) where
       abbrev in-one : Bool → Result (List Offers) Refusal
@@ -132,7 +132,7 @@ module _ (asked : Request) (input : Input) (last_wins : Bool) (same : input.last
       in-one-same = ap in-one same
 
       pub texts-refused : (r : Refusal) → Refuses (in-one last_wins) r → Refuses (parsed_auction asked input) r
-      texts-refused r refused = behind _ parts _ r cut (behind _ t _ r rules (behind _ forms _ r each (stop _ _ r (refuses-as _ _ r in-one-same refused))))
+      texts-refused r refused = after-ok _ parts _ r cut (after-ok _ t _ r rules (after-ok _ forms _ r each (stop _ _ r (refuses-as _ _ r in-one-same refused))))
 
       module _ (alone : form_elsewhere last_wins t (text_numbers (codes "%form") parts) forms ≡ None) where
         abbrev checked-by : Option AnotherForm → Result (List Offers) Refusal
@@ -143,7 +143,7 @@ module _ (asked : Request) (input : Input) (last_wins : Bool) (same : input.last
 
         pub groups-refused : (r : Refusal) → Refuses (parsed_groups t (only_text (parts_named (codes "%groups") parts))) r
             → Refuses (parsed_auction asked input) r
-        groups-refused r refused = behind _ parts _ r cut (behind _ t _ r rules (behind _ forms _ r each (behind _ forms _ r in-one-is (stop _ _ r refused))))
+        groups-refused r refused = after-ok _ parts _ r cut (after-ok _ t _ r rules (after-ok _ forms _ r each (after-ok _ forms _ r in-one-is (stop _ _ r refused))))
 
         module _ (groups : List (List ℕ)) (known : parsed_groups t (only_text (parts_named (codes "%groups") parts)) ≡ Ok groups) where
           abbrev parsed-by : Option ℕ → Result Auction Refusal
@@ -156,7 +156,7 @@ module _ (asked : Request) (input : Input) (last_wins : Bool) (same : input.last
               → Refuses (parsed_auction asked input) r
           calls-refused number r found is =
               let limit : parsed-by (first_fault one_too_many [] forms) ≡ Err r = ap parsed-by found ∙ ap no-auction (sym is) in
-              behind _ parts _ r cut (behind _ t _ r rules (behind _ forms _ r each (behind _ forms _ r in-one-is (behind _ groups _ r known (inl limit)))))
+              after-ok _ parts _ r cut (after-ok _ t _ r rules (after-ok _ forms _ r each (after-ok _ forms _ r in-one-is (after-ok _ groups _ r known (inl limit)))))
 
           pub auction-is : first_fault one_too_many [] forms ≡ None → parsed_auction asked input ≡ Ok (auction_of t forms groups (rest_in parts))
           auction-is accepted = next _ _ _ _ cut (next _ _ _ _ rules (next _ _ _ _ each (next _ _ _ _ in-one-is (next _ _ _ _ known (ap parsed-by accepted)))))

@@ -59,12 +59,12 @@ module _ (content : List ℕ → Option (List ℕ)) where
       (bytes, more ++ given ∷ [], between, ap (λ (xs : List Given). xs ++ given ∷ []) are, first, read-more names between mid left' more given rest text)
 
 -- after texts that are read one isn't
-pub unread-behind : (f : Unread) (a b c : Option (List ℕ)) (reads mid reads' : ℕ) → IsReadInPart a b → mid ≡ reads
+pub unread-after : (f : Unread) (a b c : Option (List ℕ)) (reads mid reads' : ℕ) → IsReadInPart a b → mid ≡ reads
     → IsUnreadOf f b c mid reads' → IsUnreadOf f a c reads reads'
-unread-behind (unread.Input input.ReadFailed) a b c reads mid reads' part same (failed, rest) = (rw same at failed, part-then a b c part rest)
-unread-behind (unread.Input input.TooLarge) a b c reads mid reads' part same (kept, rest) = (kept ∙ same, part-then a b c part rest)
-unread-behind (unread.Input input.OutOfMemory) a b c reads mid reads' part same (kept, rest) = (kept ∙ same, part-then a b c part rest)
-unread-behind (unread.File r) a b c reads mid reads' part same (kept, rest) = (kept ∙ same, part-then a b c part rest)
+unread-after (unread.Input input.ReadFailed) a b c reads mid reads' part same (failed, rest) = (rw same at failed, part-then a b c part rest)
+unread-after (unread.Input input.TooLarge) a b c reads mid reads' part same (kept, rest) = (kept ∙ same, part-then a b c part rest)
+unread-after (unread.Input input.OutOfMemory) a b c reads mid reads' part same (kept, rest) = (kept ∙ same, part-then a b c part rest)
+unread-after (unread.File r) a b c reads mid reads' part same (kept, rest) = (kept ∙ same, part-then a b c part rest)
 
 -- how many bytes are left after one text more
 abbrev pub bytes_in : List Given → ℕ

@@ -22,7 +22,7 @@ use Rattle.auction_input.specs.inside.ParsedTexts.{HaveMore, parsed_more}
 use Rattle.auction_input.specs.ParsedTexts.{form_in, parsed_form}
 use Rattle.auction_input.specs.declared.refusal.Refusal.TheVariants as refusal
 use Rattle.auction_input.proofs.FaultFacts.{form-refuses, no_rules}
-use Rattle.auction_input.proofs.StageFacts.{behind, next, stop}
+use Rattle.auction_input.proofs.StageFacts.{after-ok, next, stop}
 
 abbrev pub Text : Type 0
 Text = Bor (List ℕ)
@@ -70,7 +70,7 @@ first-refused t n m (text ∷ texts) [] f after count each =
     (stop _ _ (refusal.Form n f) (form-refuses n f (form_in t text.now) each.0.tells))
 first-refused t n m (text ∷ texts) (form ∷ before) f after count each =
     let head : parsed_form t n text.now ≡ Ok form = ap (λ r. refused_as (refusal.Form n) r) (sym each.0.tells) in
-    behind _ form _ (refusal.Form m f) head (stop _ _ (refusal.Form m f) (first-refused t (n + 1) m texts before f after (omega arith) each.1))
+    after-ok _ form _ (refusal.Form m f) head (stop _ _ (refusal.Form m f) (first-refused t (n + 1) m texts before f after (omega arith) each.1))
 
 pub all-refused : (t : Terms) (count : ℕ) (texts : List Text) (answers : List (Result Offers FormFault)) (e : Refusal)
     → AllZip (IsAnswer t) texts answers → IsFirstErr count answers e → Refuses (parsed_more t count (bytes_of texts)) e

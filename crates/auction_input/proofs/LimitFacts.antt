@@ -27,7 +27,7 @@ use Rattle.auction_input.specs.BookLeft.{sale_left}
 use Rattle.auction_terms.specs.Stages.{each_in_turn}
 use Rattle.auction_input.specs.Submissions.{forms_of}
 use Rattle.auction_input.specs.ParsedTexts.{parsed_form, parsed_terms}
-use Rattle.auction_input.proofs.AnswerFacts.{ok-behind, ok-is, ok-refused_as, unless-ok}
+use Rattle.auction_input.proofs.AnswerFacts.{ok-after, ok-is, ok-refused_as, unless-ok}
 use Rattle.auction_input.proofs.RecordFacts.{few-of-kind, kind-checks-hold, neither, none-failed, rules-parsed}
 
 -- ---- rules
@@ -89,7 +89,7 @@ bids-within t eligibility before (r ∷ more) none few =
 form-within : (t : Terms) (records : List Record) (form : Offers) → form_of_records t records ≡ Ok form → IsWithin (lots_in t) form
 form-within t [] form parsed = cc
 form-within t (header ∷ more) form parsed =
-    let first = ok-behind (parsed_bidder t header) _ form parsed in
+    let first = ok-after (parsed_bidder t header) _ form parsed in
     let eligibility = eligibility_of t first.0 in
     let made : Offers = record { bidder = first.0; bids = map parsed_bid more } in
     let second = unless-ok (first_fault (bid_fault t eligibility) [] more) made form first.2 in
@@ -113,8 +113,8 @@ pub forms-within : (t : Terms) (n : ℕ) (texts : List (List ℕ)) (forms : List
 forms-within t n [] forms parsed = (let none : [] ≡ forms = ok-is _ [] forms refl parsed in subst
     (λ (fs : List Offers). AllByRecursion (IsWithin (lots_in t)) fs) none tt)
 forms-within t n (text ∷ texts) forms parsed =
-    let first = ok-behind (parsed_form t n text) _ forms parsed in
-    let second = ok-behind (each_in_turn (parsed_form t) (n + 1) texts) _ forms first.2 in
+    let first = ok-after (parsed_form t n text) _ forms parsed in
+    let second = ok-after (each_in_turn (parsed_form t) (n + 1) texts) _ forms first.2 in
     let inside = ok-refused_as _ _ first.0 first.1 in
     let head = form-within t _ first.0 (unless-large _ form_fault.TooLarge _ first.0 inside) in
     let tail = forms-within t (n + 1) texts second.0 second.1 in

@@ -24,7 +24,7 @@ use Rattle.auction_input.specs.Parts.{heads_part, input_fault, name_of, names_fo
 use Rattle.auction_input.specs.Parts.{parts_held, parts_in, parts_named, input_parts, text_numbers}
 use Rattle.auction_input.specs.Input.{Given, Input}
 use Rattle.auction_input.specs.ParsedParts.{only_text}
-use Rattle.auction_input.specs.inside.Parts.{HaveAdded, IsFaultBehind, is_held, kind_named, kinds_for, known_kinds, part}
+use Rattle.auction_input.specs.inside.Parts.{HaveAdded, IsFaultAfter, is_held, kind_named, kinds_for, known_kinds, part}
 use Rattle.auction_input.specs.declared.parts.Part as declared
 use Rattle.std.specs.Option.{option_map_or, option_or}
 use Rattle.std.specs.Prelude.{nat_lt}
@@ -88,10 +88,10 @@ module _ (name : List ℕ) where
   NamedIn names None = list_any (bytes_eq name) names ≡ false
   NamedIn names (Some k) = (name ≡ name_of k) × (list_any (bytes_eq name) names ≡ true)
 
-  behind : (first : List ℕ) (names : List (List ℕ)) (found : Option PartKind) → bytes_eq name first ≡ false → NamedIn names found
+  after : (first : List ℕ) (names : List (List ℕ)) (found : Option PartKind) → bytes_eq name first ≡ false → NamedIn names found
       → NamedIn (first ∷ names) found
-  behind first names None other named = rw other named
-  behind first names (Some k) other named = (named.0, rw other named.1)
+  after first names None other named = rw other named
+  after first names (Some k) other named = (named.0, rw other named.1)
 
   abbrev is_named : PartKind → Bool
   is_named k = bytes_eq name (name_of k)
@@ -100,7 +100,7 @@ module _ (name : List ℕ) where
   named-in [] = refl
   named-in (k ∷ ks) = elim (cases_Bool (is_named k)) [
     | inl is ↦ rw is ((bytes_eq-Decides name (name_of k)).0 is, ap (λ (t : Bool). t || list_any (bytes_eq name) (map name_of ks)) is)
-    | inr is ↦ rw is (behind (name_of k) (map name_of ks) (find is_named ks) is (named-in ks))
+    | inr is ↦ rw is (after (name_of k) (map name_of ks) (find is_named ks) is (named-in ks))
   ]
 
   names-for : (command : Option Target) → names_for command ≡ map name_of (kinds_for command)
@@ -155,32 +155,32 @@ pub nothing-before : (given : Given) → has_bytes_before given ≡ false → by
 nothing-before given is = nil_from_length _ ((Decides-eqb (length (bytes_before (cut_lines given.bytes))) 0).0 (not-false _ is))
 
 -- after the old parts these of all have no fault, and the rest is left
-pub record CheckedBehind (asked : Request) (old all before rest : List Part) : Type 0 where
+pub record CheckedAfter (asked : Request) (old all before rest : List Part) : Type 0 where
   pub all_is : old ++ all ≡ before ++ rest
   pub fault_is : first_fault (part_fault asked) old all ≡ first_fault (part_fault asked) before rest
 
-pub behind-more : (asked : Request) (old all before ahead rest : List Part) (p : Part) → CheckedBehind asked old all before ahead
+pub after-more : (asked : Request) (old all before ahead rest : List Part) (p : Part) → CheckedAfter asked old all before ahead
     → ahead ≡ p ∷ rest → part_fault asked before p ≡ None
-    → CheckedBehind asked old all (before ++ p ∷ []) rest
+    → CheckedAfter asked old all (before ++ p ∷ []) rest
 unfolding first_fault
-behind-more asked old all before ahead rest p so_far next none =
+after-more asked old all before ahead rest p so_far next none =
     let parsed = rw (next, none) at so_far.fault_is in
     record {
       all_is = so_far.all_is ∙ rw next (sym (append_assoc before (p ∷ []) rest));
       fault_is = parsed;
     }
 
-pub behind-fault : (asked : Request) (old all before ahead rest : List Part) (p : Part) (f : PartFault)
-    → CheckedBehind asked old all before ahead → ahead ≡ p ∷ rest → part_fault asked before p ≡ Some f
+pub after-fault : (asked : Request) (old all before ahead rest : List Part) (p : Part) (f : PartFault)
+    → CheckedAfter asked old all before ahead → ahead ≡ p ∷ rest → part_fault asked before p ≡ Some f
     → first_fault (part_fault asked) old all ≡ Some f
 unfolding first_fault
-behind-fault asked old all before ahead rest p f so_far next found =
+after-fault asked old all before ahead rest p f so_far next found =
     let parsed = rw (next, found) at so_far.fault_is in
     parsed
 
-pub behind-all : (asked : Request) (old all before : List Part) → CheckedBehind asked old all before [] → HaveAdded asked old before all
+pub after-all : (asked : Request) (old all before : List Part) → CheckedAfter asked old all before [] → HaveAdded asked old before all
 unfolding first_fault
-behind-all asked old all before so_far = record { sound = so_far.fault_is; held = sym (so_far.all_is ∙ append-nil before) }
+after-all asked old all before so_far = record { sound = so_far.fault_is; held = sym (so_far.all_is ∙ append-nil before) }
 
 -- the parts of a whole text after those that are checked
 module _ (asked : Request) (all before more rest : List Part) (held : List Part) (so_far : CheckedSoFar (part_fault asked) all before (more ++ rest)) where
@@ -201,7 +201,7 @@ no_parts f = Err f
 
 -- one of its parts is refused
 pub text-refused : (asked : Request) (input : Input) (before more rest : List Part) (f : PartFault) → list_any has_bytes_before input.texts ≡ false
-    → CheckedSoFar (part_fault asked) (input_parts input) before (more ++ rest) → IsFaultBehind asked before more f → TellsParts asked (no_parts f) input
+    → CheckedSoFar (part_fault asked) (input_parts input) before (more ++ rest) → IsFaultAfter asked before more f → TellsParts asked (no_parts f) input
 text-refused asked input before more rest fault.OutOfMemory none so_far found = tt
 text-refused asked input before more rest fault.BeforeFirst none so_far found =
     fault-of-parts asked input none ∙ text-fault asked (input_parts input) before more rest [] so_far fault.BeforeFirst found

@@ -36,8 +36,8 @@ located-here k n count more within = elim (leb_tells n count) [
 ]
 
 -- or after them
-pub located-behind : (k n count : ℕ) (more : List ℕ) → count < n → shifted k (located (count ∷ more) n) ≡ shifted (k + 1) (located more (n - count))
-located-behind k n count more above =
+pub located-after : (k n count : ℕ) (more : List ℕ) → count < n → shifted k (located (count ∷ more) n) ≡ shifted (k + 1) (located more (n - count))
+located-after k n count more above =
     elim (leb_tells n count) [ inl (_, within) ↦ absurd (omega arith) | inr (is, _) ↦ rw is (shifted-more k (located more (n - count))) ]
 
 -- one part more

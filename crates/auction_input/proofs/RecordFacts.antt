@@ -18,7 +18,7 @@ use Rattle.auction_terms.specs.declared.record_kinds.RecordKind.TheVariants as k
 use Rattle.auction_terms.specs.declared.record_kinds.Version.{Version}
 use Rattle.auction_terms.specs.declared.rules_text.RulesFault.{RulesFault}
 use Rattle.auction_terms.specs.declared.rules_text.RulesFault.TheVariants as rules_fault
-use Rattle.auction_input.proofs.AnswerFacts.{ok-behind, unless-ok, unless-parsed}
+use Rattle.auction_input.proofs.AnswerFacts.{ok-after, unless-ok, unless-parsed}
 
 -- ---- checks
 
@@ -90,7 +90,7 @@ module _ (P : Terms → Type 0) (made : (v : Version) (more : List Record) → f
   pub rules-parsed : (records : List Record) (t : Terms) → rules_of_records records ≡ Ok t → P t
   rules-parsed [] t parsed = cc
   rules-parsed (header ∷ more) t parsed =
-      let version = ok-behind (ok_or (version_of header) (rules_fault.Header 1)) _ t parsed in
+      let version = ok-after (ok_or (version_of header) (rules_fault.Header 1)) _ t parsed in
       let v = version.0 in
       let first = unless-parsed (first_failed (header_checks v header)) _ t version.2 in
       let second = unless-parsed (first_fault (entry_fault v) [] more) _ t first.1 in

@@ -14,9 +14,9 @@ stop r k e (inl parsed) = inl (ap (λ q. and_then q k) parsed)
 stop r k e (inr memory) = inr memory
 
 -- a stage after one that gives a value
-pub behind : {A B : Type 0} (r : Result A Refusal) (x : A) (k : A → Result B Refusal) (e : Refusal) → r ≡ Ok x → Refuses (k x) e → Refuses (and_then r k) e
-behind r x k e tells (inl parsed) = inl (ap (λ q. and_then q k) tells ∙ parsed)
-behind r x k e tells (inr memory) = inr memory
+pub after-ok : {A B : Type 0} (r : Result A Refusal) (x : A) (k : A → Result B Refusal) (e : Refusal) → r ≡ Ok x → Refuses (k x) e → Refuses (and_then r k) e
+after-ok r x k e tells (inl parsed) = inl (ap (λ q. and_then q k) tells ∙ parsed)
+after-ok r x k e tells (inr memory) = inr memory
 
 -- a refusal of what is the same
 pub refuses-as : {A : Type 0} (r s : Result A Refusal) (e : Refusal) → s ≡ r → Refuses r e → Refuses s e

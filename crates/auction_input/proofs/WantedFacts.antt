@@ -12,12 +12,12 @@ use Rattle.auction_terms.specs.Stages.{unless}
 use Rattle.auction_input.specs.declared.request.Target.{Target}
 
 -- tests after others
-pub failed-behind : (first second : List (Bool × Unmet))
+pub failed-after : (first second : List (Bool × Unmet))
     → first_failed (refused_unless (first ++ second)) ≡ option_or (first_failed (refused_unless first))
     (first_failed (refused_unless second))
-failed-behind [] second = refl
-failed-behind ((true, u) ∷ more) second = failed-behind more second
-failed-behind ((false, u) ∷ more) second = refl
+failed-after [] second = refl
+failed-after ((true, u) ∷ more) second = failed-after more second
+failed-after ((false, u) ∷ more) second = refl
 
 -- the test at a place, where none before it fails
 module _ (tests : List (Bool × Unmet)) (n : ℕ) (test : Bool × Unmet) (is : test ≡ slice_index_or tests n test) (within : n < length tests)

@@ -13,7 +13,7 @@ use Rattle.auction_terms.specs.Stages.{each_in_turn}
 use Rattle.bid_forms.specs.Offers.{Offers}
 use Rattle.auction_input.specs.declared.refusal.Refusal.TheVariants as refusal
 use Rattle.auction_input.specs.declared.request.Request.{Request}
-use Rattle.auction_input.proofs.AnswerFacts.{ok-behind, ok-refused_as, unless-ok}
+use Rattle.auction_input.proofs.AnswerFacts.{ok-after, ok-refused_as, unless-ok}
 use Rattle.auction_input.proofs.LimitFacts.{book-within, forms-within, terms-few}
 use Rattle.auction_input.proofs.LotFacts.{lots-within}
 
@@ -21,13 +21,13 @@ use Rattle.auction_input.proofs.LotFacts.{lots-within}
 pub auction-within : (asked : Request) (input : Input) (auction : Auction) → parsed_auction asked input ≡ Ok auction
     → IsLots auction.sale.lots × IsBook auction.sale.lots auction.sale.book
 auction-within asked input auction parsed =
-    let (parts, parts_are, more) = ok-behind (parsed_parts asked input) _ auction parsed in
+    let (parts, parts_are, more) = ok-after (parsed_parts asked input) _ auction parsed in
     let rules = only_text (parts_named (codes "%rules") parts) in
-    let (t, t_is, more_forms) = ok-behind (parsed_terms rules) _ auction more in
-    let (read, read_are, more_texts) = ok-behind (each_in_turn (parsed_form t) 1 (parts_named (codes "%form") parts)) _ auction more_forms in
-    let (forms, forms_are, more_groups) = ok-behind (in_one_text input.last_wins t (text_numbers (codes "%form") parts) read) _ auction more_texts in
+    let (t, t_is, more_forms) = ok-after (parsed_terms rules) _ auction more in
+    let (read, read_are, more_texts) = ok-after (each_in_turn (parsed_form t) 1 (parts_named (codes "%form") parts)) _ auction more_forms in
+    let (forms, forms_are, more_groups) = ok-after (in_one_text input.last_wins t (text_numbers (codes "%form") parts) read) _ auction more_texts in
     let same : read ≡ forms = (unless-ok _ read forms (ok-refused_as refusal.AnotherForm _ forms forms_are)).1 in
-    let (groups, groups_are, more_calls) = ok-behind (parsed_groups t (only_text (parts_named (codes "%groups") parts))) _ auction more_groups in
+    let (groups, groups_are, more_calls) = ok-after (parsed_groups t (only_text (parts_named (codes "%groups") parts))) _ auction more_groups in
     let whole : Auction = record {
       rules = t;
       sale = sale_left t forms;

@@ -7,7 +7,7 @@ ghost use Rattle.auction_input.specs.Parts.{TellsParts, heads_part, bytes_before
 ghost use Rattle.auction_input.specs.Parts.{parts_held, parts_in, parts_named, text_numbers};
 ghost use Rattle.auction_input.specs.ParsedParts.{only_text};
 ghost use Rattle.auction_terms.specs.Lines.{bytes_of};
-ghost use Rattle.auction_input.specs.inside.Parts.{HaveAdded, IsFaultBehind, is_held, part, part_name};
+ghost use Rattle.auction_input.specs.inside.Parts.{HaveAdded, IsFaultAfter, is_held, part, part_name};
 
 use crate::given::{Given, Input};
 use crate::part_kind::{PartKind, kind_named};
@@ -138,7 +138,7 @@ fn add_parts<'t>(
     requires { bytes_before (cut_lines text.now) ≡ [] }
     ensures added { OnOk result (HaveAdded request.now (parts_held parts.old.items)
         (parts_held parts.new.items) (parts_in number (cut_lines text.now))) }
-    ensures fault { IfErr result (IsFaultBehind request.now (parts_held parts.old.items)
+    ensures fault { IfErr result (IsFaultAfter request.now (parts_held parts.old.items)
         (parts_in number (cut_lines text.now))) }
 {
     let mut rest = text;

@@ -41,30 +41,30 @@ module _ {R F : Type 0} (faults_of : ℕ → List R → R → List F) where
       rw first (all-accepted (n + 1) (accepted ++ x ∷ []) xs rest ∙ append_assoc accepted (x ∷ []) xs)
 
   -- what is found after the accepted ones
-  record IsBehind (n : ℕ) (accepted items : List R) (fault : F) : Type 0 where
+  record IsAfter (n : ℕ) (accepted items : List R) (fault : F) : Type 0 where
     before : List R
     item : R
     after : List R
     items_are : items ≡ before ++ item ∷ after
     fault_is : Contains (faults_of (n + length before) (accepted_of faults_of n accepted before) item) fault
 
-  behind : (n : ℕ) (accepted items : List R) (fault : F) → Contains (all_faults faults_of n accepted items) fault → IsBehind n accepted items fault
+  from-accepted : (n : ℕ) (accepted items : List R) (fault : F) → Contains (all_faults faults_of n accepted items) fault → IsAfter n accepted items fault
   unfolding all_faults accepted_of
-  behind n accepted [] fault has = absurd (let low = has.1 in omega arith)
-  behind n accepted (x ∷ xs) fault has =
+  from-accepted n accepted [] fault has = absurd (let low = has.1 in omega arith)
+  from-accepted n accepted (x ∷ xs) fault has =
       let found = faults_of n accepted x in
       let next = accepted_with found accepted x in
       elim (Contains-append_cases found (all_faults faults_of (n + 1) next xs) fault has) [
         | inl here ↦ record { before = []; item = x; after = xs; items_are = refl; fault_is = (let e : n + 0 ≡ n = omega arith in rw e here) }
         | inr later ↦
-            let it = behind (n + 1) next xs fault later in
+            let it = from-accepted (n + 1) next xs fault later in
             let e : n + 1 + length it.before ≡ n + length (x ∷ it.before) = omega arith in
             record { before = x ∷ it.before; item = it.item; after = it.after; items_are = ap (λ ys. x ∷ ys) it.items_are; fault_is = rw (← e) it.fault_is }
       ]
 
   each-fault : (n : ℕ) (items : List R) (fault : F) → Contains (all_faults faults_of n [] items) fault → IsOfItem faults_of n items fault
   each-fault n items fault has =
-      let it = behind n [] items fault has in
+      let it = from-accepted n [] items fault has in
       record { before = it.before; item = it.item; after = it.after; items_are = it.items_are; fault_is = it.fault_is }
 
   fault-of-item : (n : ℕ) (items : List R) (fault : F) → IsOfItem faults_of n items fault → Contains (all_faults faults_of n [] items) fault

@@ -134,14 +134,14 @@ unfolding next_record
 one_mark fields field more = refl
 
 module _ (field bytes after : List ℕ) (n : ℕ) (within : n < length bytes) (none : Nowhere (Passes (is_byte quote) bytes) 0 n)
-    (marks : is_byte quote (slice_index bytes n) ≡ true) (behind : after ≡ drop (n + 1) bytes) where
+    (marks : is_byte quote (slice_index bytes n) ≡ true) (after_mark : after ≡ drop (n + 1) bytes) where
   up_to_mark : (fields : List (List ℕ)) → next_record default_config st.InQuoted fields field bytes
       ≡ next_record default_config st.AfterQuote fields (field ++ take n bytes) after
   up_to_mark fields =
       let mark : slice_index bytes n ≡ 34 = eqb-true (slice_index bytes n) 34 marks in
       let left : drop n bytes ≡ 34 ∷ after = drop-cons bytes n 0 within
       ∙ ap (λ (k : ℕ). slice_index bytes n ∷ drop k bytes) (sym (add-one n))
-      ∙ ap (λ (more : List ℕ). slice_index bytes n ∷ more) (sym behind) ∙ ap (λ (byte : ℕ). byte ∷ after) mark in
+      ∙ ap (λ (more : List ℕ). slice_index bytes n ∷ more) (sym after_mark) ∙ ap (λ (byte : ℕ). byte ∷ after) mark in
       quoted_run fields field bytes n (omega arith) (λ k less. none k (omega arith) less)
       ∙ ap (λ (all : List ℕ). next_record default_config st.InQuoted fields (field ++ take n bytes) all) left
       ∙ at_mark fields (field ++ take n bytes) after
@@ -167,10 +167,10 @@ module _ (field bytes after : List ℕ) (n : ℕ) (within : n < length bytes) (n
       ∙ one_mark fields (field ++ take n bytes) (drop 1 after)
 
 -- what is read so far may be read first
-pub gives_behind : (bytes left start so_far field rest : List ℕ)
+pub gives_after : (bytes left start so_far field rest : List ℕ)
     → ((fields : List (List ℕ)) → next_record default_config st.InQuoted fields start bytes ≡ next_record default_config st.InQuoted fields
     so_far left) → GivesField st.InQuoted so_far left field rest → GivesField st.InQuoted start bytes field rest
-gives_behind bytes left start so_far field rest same gives = (λ fields. same fields ∙ gives.0 fields, gives.1)
+gives_after bytes left start so_far field rest same gives = (λ fields. same fields ∙ gives.0 fields, gives.1)
 
 -- a field is taken after those before it
 pub field_taken : (bytes field rest : List ℕ) (before : List (List ℕ)) → GivesField st.StartField [] bytes field rest
@@ -184,9 +184,9 @@ unfolding next_record
 at_comma fields field tail = refl
 
 -- after a comma, further fields are taken
-pub taken_behind : (bytes rest left : List ℕ) (before so_far after : List (List ℕ)) → TakesFields bytes before so_far rest
+pub taken_after : (bytes rest left : List ℕ) (before so_far after : List (List ℕ)) → TakesFields bytes before so_far rest
     → begins_with comma rest ≡ true → TakesFields (drop 1 rest) so_far after left → TakesFields bytes before after left
-taken_behind bytes rest left before so_far after t begins more = (more.0, more.1, more.2, t.3 ∙ next ∙ more.3, more.4)
+taken_after bytes rest left before so_far after t begins more = (more.0, more.1, more.2, t.3 ∙ next ∙ more.3, more.4)
   where
     next : next_record default_config st.InField t.0 t.1 rest ≡ next_record default_config st.StartField so_far [] (drop 1 rest)
     next = ap (λ (all : List ℕ). next_record default_config st.InField t.0 t.1 all) (split_first comma rest begins)
@@ -222,8 +222,8 @@ after_return (b ∷ rest) = ⊎_elim
     (cases_eq b 10)
 
 -- what comes after a record's carriage return, of which a line feed is the rest, reads as it would alone
-behind_return : (left : List ℕ) → records_from default_config (suc (length left)) st.AfterCr left ≡ records default_config left
-behind_return left = rw (add-one (length left)) (same_records st.AfterCr st.StartRecord left left (after_return left))
+records_after_return : (left : List ℕ) → records_from default_config (suc (length left)) st.AfterCr left ≡ records default_config left
+records_after_return left = rw (add-one (length left)) (same_records st.AfterCr st.StartRecord left left (after_return left))
 
 -- at a byte that is no line end, a record and its first field begin
 begins_field : (b : ℕ) (rest : List ℕ) → BeginsNoLineEnd (b ∷ rest)
@@ -232,15 +232,15 @@ unfolding next_record
 begins_field b rest begins = rw (ne_eqb b 13 begins.1, ne_eqb b 10 begins.0) refl
 
 -- after the fields of a record, its line end counts for nothing
-rest_behind : (others : List (List ℕ)) (field rest : List ℕ) → IsAtFieldEnd rest → begins_with comma rest ≡ false
+rest_after : (others : List (List ℕ)) (field rest : List ℕ) → IsAtFieldEnd rest → begins_with comma rest ≡ false
     → (state : State) × (left : List ℕ) × (next_record default_config st.InField others field rest ≡ Some
     (others ++ field ∷ [], state, left)) × (records_from default_config (suc (length left)) state left ≡ records default_config rest)
 unfolding next_record
-rest_behind others field [] ends plain = (st.StartRecord, [], refl, rw (add-one 0) refl)
-rest_behind others field (b ∷ rest) ends plain = ⊎_elim
+rest_after others field [] ends plain = (st.StartRecord, [], refl, rw (add-one 0) refl)
+rest_after others field (b ∷ rest) ends plain = ⊎_elim
     (λ (feed : b ≡ 10). (st.StartRecord, rest, rw feed refl, rw (add-one (length rest)) at (line_end_skipped b rest (inl feed))))
     (λ (no_feed : b ≢ 10). ⊎_elim
-    (λ (return : b ≡ 13). (st.AfterCr, rest, rw return refl, behind_return rest ∙ line_end_skipped b rest (inr return)))
+    (λ (return : b ≡ 13). (st.AfterCr, rest, rw return refl, records_after_return rest ∙ line_end_skipped b rest (inr return)))
     (λ (no_return : b ≢ 13). absurd (both_ways (ends_field b) (rw (plain, ne_eqb b 10 no_feed, ne_eqb b 13 no_return) refl) ends))
     (cases_eq b 13))
     (cases_eq b 10)
@@ -251,7 +251,7 @@ pub record_taken : (bytes rest : List ℕ) (fields : List (List ℕ)) → length
     → records default_config bytes ≡ fields ∷ records default_config rest
 record_taken [] rest fields some begins t plain = absurd (some refl)
 record_taken (b ∷ bytes) rest fields some begins t plain =
-    let r = rest_behind t.0 t.1 rest t.4 plain in
+    let r = rest_after t.0 t.1 rest t.4 plain in
     rw (add-one (length (b ∷ bytes)))
     (records_from-next default_config st.StartRecord (b ∷ bytes) (t.0 ++ t.1 ∷ [], r.0, r.1) (begins_field b bytes begins ∙ t.3 ∙ r.2)
     ∙ (λ i. sym t.2 i ∷ r.3 i))

@@ -74,9 +74,9 @@ pub first_field : (line text : List ℕ) (start end : ℕ) → start ≡ positio
     → end ≡ position_or_len is_space text → end ≤ length text
     → fields line ≡ take end text ∷ fields (drop end text)
 first_field line text start end at less is place within =
-    let behind : fields line ≡ fields text = skipped line ∙ ap fields (rw (← at, is) refl) in
+    let after : fields line ≡ fields text = skipped line ∙ ap fields (rw (← at, is) refl) in
     let some : 0 < end = (let b = begins line start (sym at) less in rw (← is, ← place) at b) in
-    behind ∙ word text end (sym place) some within
+    after ∙ word text end (sym place) some within
 
 -- a line of white space alone has no field
 pub no_fields : (line : List ℕ) → length line ≡ position_or_len is_text line → fields line ≡ []

@@ -58,13 +58,13 @@ pub use limits::{
 pub use line_fields::{Field, next_field};
 pub use lines::LineReader;
 pub use names::Name;
-pub use numbers::{digits_behind, number};
+pub use numbers::{digits_after, number};
 pub use packages::{Package, Quantities};
 pub use record_kinds::{RecordKind, Version, field, kind_of, version_of};
 pub use records::RecordReader;
 pub use rules::{Bidder, Category, Pool, Rules};
 pub use rules_fields::{NumberLimits, limits_outside};
 pub use rules_text::{RulesFault, read_rules};
-pub use token::{TokenFault, TokenParts, are_all_digits, behind, read_token};
+pub use token::{TokenFault, TokenParts, after, are_all_digits, read_token};
 pub use weights::Weights;
 pub use wording::Wording;

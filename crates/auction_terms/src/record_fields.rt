@@ -14,7 +14,7 @@ use std::alloc::AllocError;
 // How many line ends the bytes begin with.
 pub(crate) fn line_ends(bytes: &[u8]) -> usize
     ensures within { result ≤ length bytes.now }
-    ensures behind { BeginsNoLineEnd (drop result bytes.now) }
+    ensures after { BeginsNoLineEnd (drop result bytes.now) }
     ensures same { records default_config (drop result bytes.now)
         ≡ records default_config bytes.now }
 {

@@ -8,7 +8,7 @@ ghost use Rattle.auction_terms.specs.Decimals.{exponent_digits, is_number_token,
 ghost use Rattle.auction_terms.specs.Tokens.{token_of};
 ghost use Rattle.std.specs.Char.{is_ascii_digit};
 
-use crate::numbers::digits_behind;
+use crate::numbers::digits_after;
 
 /// Why bytes have no parts as a number token.
 #[derive(Clone, Copy, Debug, PartialEq, Eq)]
@@ -108,7 +108,7 @@ fn has_mark(token: &[u8]) -> bool
     token.iter().any(|b| *b == b'e' || *b == b'E')
 }
 
-pub fn behind(at: usize, bytes: &[u8]) -> &[u8]
+pub fn after(at: usize, bytes: &[u8]) -> &[u8]
     ensures { result.now ≡ drop (at + 1) bytes.now }
 {
     if at < bytes.len() {
@@ -137,8 +137,8 @@ fn pieces_of(token: &[u8]) -> Pieces<'_>
     let point = point_in(mantissa);
     Pieces {
         whole: &mantissa[..point],
-        fraction: behind(point, mantissa),
-        exponent: behind(mark, unsigned),
+        fraction: after(point, mantissa),
+        exponent: after(mark, unsigned),
     }
 }
 
@@ -161,8 +161,8 @@ fn value_of(front: &[u8], back: &[u8]) -> u128
     ensures value { result ≡ digits_value 10 (front.now ++ back.now) }
     ensures low { result < 10 ^ 30 }
 {
-    let value = digits_behind(0, 0, front);
-    digits_behind(value, front.len(), back)
+    let value = digits_after(0, 0, front);
+    digits_after(value, front.len(), back)
 }
 
 fn is_exponent(is_marked: bool, digits: &[u8]) -> bool
@@ -191,7 +191,7 @@ fn exponent_value(digits: &[u8]) -> u32
     requires few { length digits.now ≤ 3 }
     ensures { result ≡ digits_value 10 digits.now }
 {
-    digits_behind(0, 0, digits) as u32
+    digits_after(0, 0, digits) as u32
 }
 
 fn places_up(is_negative: bool, places: u32) -> u32

@@ -61,7 +61,7 @@ fn is_unknown_bidder(fault: FormFault) -> bool
 }
 
 // Adds the faults of a text after the fault of its header.
-fn add_behind(
+fn add_after(
     alloc: Global,
     faults: &mut Faults<FormFault>,
     rules: &Rules,
@@ -102,7 +102,7 @@ fn add_all(
             Ok(())
         }
         Err(fault) => {
-            add_behind(alloc, faults, rules, fault, reader, text)?;
+            add_after(alloc, faults, rules, fault, reader, text)?;
             Ok(())
         }
     }

@@ -87,9 +87,9 @@ fails-new {X} {taken} {failures} {s} {a} {b} new added broken =
     subst (λ (x : X). HasFailed (failures x) (failures b.sink.now)) new.untouched (added.broken new.whole broken.0).1
 
 -- a put failed after what had gone out completely
-pub front-behind : {X : Type 0} {taken : X → Option (List ℕ)} {failures : X → ℕ} {a b : Writer X} {bytes : List ℕ} {written : ℕ} → IsSent a
+pub front-after : {X : Type 0} {taken : X → Option (List ℕ)} {failures : X → ℕ} {a b : Writer X} {bytes : List ℕ} {written : ℕ} → IsSent a
     → Adds taken failures a b bytes → IsBroken b written → IsFront (taken b.sink.now) (append_known (taken a.sink.now) bytes)
-front-behind {X} {taken} {failures} {a} {b} {bytes} sent added broken =
+front-after {X} {taken} {failures} {a} {b} {bytes} sent added broken =
     IsFront-empty (taken b.sink.now) (taken a.sink.now) bytes
     (subst (λ (o : Option (List ℕ)). IsFront (taken b.sink.now) (append_known o bytes)) (held-empty taken a a.sink.now refl sent.1)
     (added.broken sent.0 broken.0).0)
@@ -99,7 +99,7 @@ pub sent-front : {X : Type 0} {taken : X → Option (List ℕ)} {failures : X �
     {written : ℕ} → IsNew s a → Adds taken failures a b bytes → IsBroken b written
     → SentFront (taken s.now) (taken b.sink.now) bytes written
 sent-front {X} {taken} {failures} {s} {a} {b} {bytes} new added broken =
-    let ahead = subst (λ (x : X). IsFront (taken b.sink.now) (append_known (taken x) bytes)) new.untouched (front-behind (new.whole, new.empty) added broken) in
+    let ahead = subst (λ (x : X). IsFront (taken b.sink.now) (append_known (taken x) bytes)) new.untouched (front-after (new.whole, new.empty) added broken) in
     subst (λ (n : ℕ). SentFront (taken s.now) (taken b.sink.now) bytes n) (sym broken.1)
     (SentFront-from (taken s.now) (taken b.sink.now) bytes b.sent ahead (counts-new new added))
 

@@ -25,7 +25,7 @@ pub(crate) fn put_all<S: Sink>(sink: &mut S, bytes: &[u8], sent: &mut u64) -> Re
     ensures failed { OnErr result (HasFailed (S.failures sink.old) (S.failures sink.new)) }
     ensures succeeded { OnOk result (S.failures sink.new ≡ S.failures sink.old) }
 {
-    // The range of a number behind a reference is known once the number is read.
+    // The range of a number that is borrowed is known once the number is read.
     let _known = *sent;
     let mut from = 0;
     while from < bytes.len() {

@@ -68,7 +68,7 @@ impl<'s, S: Sink> Writer<'s, S> {
 
     /// Adds bytes that find no room: after what waits, which is sent, or to the sink itself if they are longer than a block.
     #[inline(never)]
-    fn add_behind(&mut self, bytes: &[u8])
+    fn add_after(&mut self, bytes: &[u8])
         ensures { Adds S.taken S.failures self.old self.new bytes.now }
     {
         self.send();
@@ -86,7 +86,7 @@ impl<'s, S: Sink> Writer<'s, S> {
         if self.waiting.try_extend_from_slice(bytes).is_ok() {
             return;
         }
-        self.add_behind(bytes)
+        self.add_after(bytes)
     }
 
     /// Adds the pieces in order.

@@ -34,9 +34,9 @@ begin-fault part whole (Some f) x = (0, [], refl)
 pub begin-next : {A B F G : Type 0} (whole : F → G) (some others : List (Found F)) (reported : Result A G) (next : A → Result B G)
     → AreFaultsOf (faults_as whole some) reported
     → ((x : A) → reported ≡ Ok x → AreFaultsOf (faults_as whole others) (next x)) → AreFaultsOf (faults_as whole (some ++ others)) (and_then reported next)
-begin-next whole [] others (Ok x) next are behind = behind x refl
-begin-next whole (at ∷ some) others (Ok x) next are behind = cc
-begin-next whole some others (Err f) next (field, more, are) behind = (
+begin-next whole [] others (Ok x) next are after = after x refl
+begin-next whole (at ∷ some) others (Ok x) next are after = cc
+begin-next whole some others (Err f) next (field, more, are) after = (
   field,
   more ++ faults_as whole others,
   map-append (λ at. found at.field (whole at.fault)) some others ∙ ap (λ faults. faults ++

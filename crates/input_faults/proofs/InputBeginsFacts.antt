@@ -4,7 +4,7 @@ use Rattle.std.specs.Prelude.{codes}
 use Rattle.auction_input.specs.Auction.{Auction}
 use Rattle.auction_input.specs.BookLeft.{sale_left}
 use Rattle.auction_input.specs.Calls.{one_too_many}
-use Rattle.auction_input.proofs.AnswerFacts.{ok-behind, ok-refused_as, unless-ok}
+use Rattle.auction_input.proofs.AnswerFacts.{ok-after, ok-refused_as, unless-ok}
 use Rattle.auction_input.specs.FormTexts.{form_elsewhere, in_one_text}
 use Rattle.auction_input.specs.Input.{Input}
 use Rattle.auction_input.specs.Parts.{Part, input_fault, parts_named, input_parts, text_numbers}
@@ -151,10 +151,10 @@ begin-unmet : (command : Option Target) (last_wins : Bool) (parts : List Part) (
     → AreFaultsOf (faults_as refusal_of (where_read (parsed_terms (only_text (parts_named (codes "%rules") parts)))
     (unmet_under command parts))) (wanted command auction)
 begin-unmet command last_wins parts auction reported =
-    let (t, rules, behind_rules) = ok-behind (parsed_terms (only_text (parts_named (codes "%rules") parts))) _ auction reported in
-    let (read, each, behind_forms) = ok-behind (each_in_turn (parsed_form t) 1 (parts_named (codes "%form") parts)) _ auction behind_rules in
-    let (kept, one, behind_one) = ok-behind (in_one_text last_wins t (text_numbers (codes "%form") parts) read) _ auction behind_forms in
-    let (lists, groups, made) = ok-behind (parsed_groups t (only_text (parts_named (codes "%groups") parts))) _ auction behind_one in
+    let (t, rules, after_rules) = ok-after (parsed_terms (only_text (parts_named (codes "%rules") parts))) _ auction reported in
+    let (read, each, after_forms) = ok-after (each_in_turn (parsed_form t) 1 (parts_named (codes "%form") parts)) _ auction after_rules in
+    let (kept, one, after_one) = ok-after (in_one_text last_wins t (text_numbers (codes "%form") parts) read) _ auction after_forms in
+    let (lists, groups, made) = ok-after (parsed_groups t (only_text (parts_named (codes "%groups") parts))) _ auction after_one in
     let same : auction_in parts t kept lists ≡ auction =
     (unless-ok _ (auction_in parts t kept lists) auction (ok-refused_as refusal.CallLimit _ auction made)).1 in
     subst (λ (r : Result Terms Refusal). AreFaultsOf (faults_as refusal_of (where_read r (unmet_under command parts))) (wanted command auction)) (sym rules)
@@ -172,23 +172,23 @@ begin-taken : (command : Option Target) (some others : List (Found Fault)) (repo
     → AreFaultsOf (faults_as refusal_of some) reported
     → ((auction : Auction) → reported ≡ Ok auction → AreFaultsOf (faults_as refusal_of others) (wanted command auction))
     → AreFaultsOf (faults_as refusal_of (some ++ others)) (with_wanted command reported)
-begin-taken (Some command) some others reported are behind = begin-next refusal_of some others reported (wanted (Some command)) are behind
-begin-taken None some others reported are behind =
+begin-taken (Some command) some others reported are after = begin-next refusal_of some others reported (wanted (Some command)) are after
+begin-taken None some others reported are after =
     subst (λ (r : Result Auction Refusal). AreFaultsOf (faults_as refusal_of (some ++ others)) r) (nothing-wanted reported)
-    (begin-next refusal_of some others reported (wanted None) are behind)
+    (begin-next refusal_of some others reported (wanted None) are after)
 
-taken-behind : {X : Type 0} (command : Option Target) (reported : Result X Refusal) (next : X → Result Auction Refusal)
+taken-after : {X : Type 0} (command : Option Target) (reported : Result X Refusal) (next : X → Result Auction Refusal)
     → and_then reported (λ x. with_wanted command (next x)) ≡ with_wanted command (and_then reported next)
-taken-behind None reported next = refl
-taken-behind (Some command) (Ok x) next = refl
-taken-behind (Some command) (Err r) next = refl
+taken-after None reported next = refl
+taken-after (Some command) (Ok x) next = refl
+taken-after (Some command) (Err r) next = refl
 
 pub begin-input : (asked : Request) (input : Input) → AreFaultsOf (faults_as refusal_of (input_faults asked input)) (parsed_taken asked input)
 begin-input asked input =
     let parts = input_parts input in
     let command = target_of asked in
     subst (λ (r : Result Auction Refusal). AreFaultsOf (faults_as refusal_of (input_faults asked input)) r)
-    (taken-behind command (parsed_parts asked input) (texts_in input.last_wins))
+    (taken-after command (parsed_parts asked input) (texts_in input.last_wins))
     (begin-parts asked parts (input_fault asked input) (faults_in_parts command input.last_wins parts) (λ ps. with_wanted command (texts_in input.last_wins ps))
     (begin-taken command _ _ (texts_in input.last_wins parts)
     (begin-texts input.last_wins (text_numbers (codes "%form") parts) (auction_in parts) (only_text (parts_named (codes "%rules") parts))

@@ -7,9 +7,9 @@ use Rattle.auction_input.specs.declared.refusal.Refusal.TheVariants as refusal
 use Rattle.auction_input.specs.declared.refusal.Refusal.{Refusal}
 use Rattle.input_faults.specs.PlacedText.{with_other}
 
-pub other-behind : (texts : List Given) (r : Refusal) (reported : List ℕ) → reported ++ with_other texts r [] ≡ with_other texts r reported
-other-behind texts (refusal.AnotherForm f) reported = refl
-other-behind texts r reported = append-nil reported
+pub other-after : (texts : List Given) (r : Refusal) (reported : List ℕ) → reported ++ with_other texts r [] ≡ with_other texts r reported
+other-after texts (refusal.AnotherForm f) reported = refl
+other-after texts r reported = append-nil reported
 
 pub no-other : (texts : List Given) (r : Refusal) → ((f : AnotherForm) → r ≡ refusal.AnotherForm f → ⊥) → [] ≡ with_other texts r []
 no-other texts (refusal.AnotherForm f) none = absurd (none f refl)

@@ -24,16 +24,16 @@ use Rattle.std.specs.Bool.{then_some as when}
 
 -- ---- fields after others
 
-first-behind : (k : ℕ) (f : LineFields) → field 0 (drop k f) ≡ field k f
-first-behind (suc k) (x ∷ f) = first-behind k f
-first-behind _ _ = refl
+first-after : (k : ℕ) (f : LineFields) → field 0 (drop k f) ≡ field k f
+first-after (suc k) (x ∷ f) = first-after k f
+first-after _ _ = refl
 
-next-behind : (k : ℕ) (f : LineFields) → field 1 (drop k f) ≡ field (suc k) f
-next-behind (suc k) (x ∷ f) = next-behind k f
-next-behind _ _ = refl
+next-after : (k : ℕ) (f : LineFields) → field 1 (drop k f) ≡ field (suc k) f
+next-after (suc k) (x ∷ f) = next-after k f
+next-after _ _ = refl
 
-second-behind : (k : ℕ) (f : LineFields) → field 1 (drop k f) ≡ field (k + 1) f
-second-behind k f = let next : suc k ≡ k + 1 = omega arith in next-behind k f ∙ ap (λ (n : ℕ). field n f) next
+second-after : (k : ℕ) (f : LineFields) → field 1 (drop k f) ≡ field (k + 1) f
+second-after k f = let next : suc k ≡ k + 1 = omega arith in next-after k f ∙ ap (λ (n : ℕ). field n f) next
 
 -- ---- faults
 
@@ -59,12 +59,12 @@ rest : (a b : Bool) (more : List (Option MpsFaultKind)) → earliest_fault (when
 rest true true more h = refl
 rest _ _ more h = absurd cc
 
-abbrev behind : List LineFields → LineFields → List (Option MpsFaultKind)
-behind lines f =
+abbrev after : List LineFields → LineFields → List (Option MpsFaultKind)
+after lines f =
     when (not (is_column lines (field 0 (bound_pair f)))) UnknownColumn ∷ (if is_binary_bound f then None else bit_fault (field 1 (bound_pair f))) ∷ []
 
 pub type-refused : (lines : List LineFields) (f : LineFields) (kind : MpsFaultKind) → type_fault f ≡ Some kind → bound_fault lines f ≡ Some kind
-type-refused lines f kind h = early (type_ok f) (count_ok f) (behind lines f) kind h
+type-refused lines f kind h = early (type_ok f) (count_ok f) (after lines f) kind h
 
 pub type-taken : (lines : List LineFields) (f : LineFields) (known binary : Bool) (fault : Option MpsFaultKind) → type_fault f ≡ None
     → is_column lines (field 0 (bound_pair f)) ≡ known → is_binary_bound f ≡ binary
@@ -74,7 +74,7 @@ type-taken lines f known binary fault h k is e =
     (sym is) e in
     let all = subst (λ b. earliest_fault (when (not b) UnknownColumn ∷ (if is_binary_bound f then None else bit_fault (field 1 (bound_pair f))) ∷ [])
     ≡ fault) (sym k) kept in
-    rest (type_ok f) (count_ok f) (behind lines f) h ∙ all
+    rest (type_ok f) (count_ok f) (after lines f) h ∙ all
 
 -- ---- the column and the number of a bound, at the places at which the code looks for them
 
@@ -86,13 +86,13 @@ place-is fs binary at is e = rw (length-bytes fs, sym is) (sym e)
 pub column-at : (fs : List (Bor (List ℕ))) (binary : Bool) (at : ℕ) → binary ≡ is_binary_bound (bytes_of fs)
     → at ≡ (if length fs == (if binary then 2 else 3) then 1 else 2) → at < length fs
     → field 0 (bound_pair (bytes_of fs)) ≡ (get_or fs at no_name).now
-column-at fs binary at is e within = first-behind _ (bytes_of fs) ∙ ap (λ n. field n (bytes_of fs)) (place-is fs binary at is e) ∙ field-at fs at within
+column-at fs binary at is e within = first-after _ (bytes_of fs) ∙ ap (λ n. field n (bytes_of fs)) (place-is fs binary at is e) ∙ field-at fs at within
 
 pub number-at : (fs : List (Bor (List ℕ))) (binary : Bool) (at : ℕ) → binary ≡ is_binary_bound (bytes_of fs)
     → at ≡ (if length fs == (if binary then 2 else 3) then 1 else 2) → at + 1 < length fs
     → field 1 (bound_pair (bytes_of fs)) ≡ (get_or fs (at + 1) no_name).now
 number-at fs binary at is e within =
-    second-behind _ (bytes_of fs) ∙ ap (λ n. field (n + 1) (bytes_of fs)) (place-is fs binary at is e) ∙ field-at fs (at + 1) within
+    second-after _ (bytes_of fs) ∙ ap (λ n. field (n + 1) (bytes_of fs)) (place-is fs binary at is e) ∙ field-at fs (at + 1) within
 
 -- a name of a column is a column of the lines
 pub known-is : (lines : List LineFields) (keys : List (Bor (List ℕ))) (word name : List ℕ) (b : Bool) → bytes_of keys ≡ columns_named lines

@@ -74,9 +74,9 @@ worth-moved xs ys p moved dx dy = by (list_any (λ e. e.0 == p) ys) refl
 
 -- ---- entries in row order are those of the numbers
 
-behind : (p : ℕ) (es : List (ℕ × ℤ)) → AllByRecursion (λ e. p < e.0) es → AllByRecursion (λ e. (e.0 == p) ≡ false) es
-behind p [] h = tt
-behind p (e ∷ es) h = let up = h.0 in (ne_eqb e.0 p (λ same. omega arith), behind p es h.1)
+after : (p : ℕ) (es : List (ℕ × ℤ)) → AllByRecursion (λ e. p < e.0) es → AllByRecursion (λ e. (e.0 == p) ≡ false) es
+after p [] h = tt
+after p (e ∷ es) h = let up = h.0 in (ne_eqb e.0 p (λ same. omega arith), after p es h.1)
 
 above : (k i : ℕ) (es : List (ℕ × ℤ)) → k ≤ i → AllByRecursion (λ e. i < e.0) es → AllByRecursion (λ e. k < e.0) es
 above k i [] le h = tt
@@ -124,7 +124,7 @@ entries-parsed k f (n ∷ rows) (e ∷ es) from legal h =
     by (inr lt) here next =
         let other : (e.0 == k + 0) ≡ false = ne_eqb e.0 (k + 0) (λ q. omega arith) in
         let whole : number_at_place (k + 0) (e ∷ es) ≡ number_at_place (k + 0) es = rw other refl in
-        let none : f n ≡ pos 0 = sym (h 0 n refl) ∙ whole ∙ worth-none (k + 0) es (behind (k + 0) es (above (k + 0) e.0 es (omega arith) legal.2)) in
+        let none : f n ≡ pos 0 = sym (h 0 n refl) ∙ whole ∙ worth-none (k + 0) es (after (k + 0) es (above (k + 0) e.0 es (omega arith) legal.2)) in
         rw (zero-eq (f n) none) (next lt)
 
 entries-distinct : (count : ℕ) (es : List (ℕ × ℤ)) → AreEntries count es → IsDistinct same_place es

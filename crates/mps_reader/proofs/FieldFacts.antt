@@ -77,8 +77,8 @@ space-first : (b : ℕ) (bs : List ℕ) → is_space b ≡ true → fields (b �
 unfolding fields
 space-first b bs h = rw h refl
 
-behind-space : (text : List ℕ) (j : ℕ) → j < length text → is_space (get_or text j 0) ≡ true → fields (drop j text) ≡ fields (drop (j + 1) text)
-behind-space text j less space = ap fields parts ∙ space-first (get_or text j 0) (drop (j + 1) text) space
+after-space : (text : List ℕ) (j : ℕ) → j < length text → is_space (get_or text j 0) ≡ true → fields (drop j text) ≡ fields (drop (j + 1) text)
+after-space text j less space = ap fields parts ∙ space-first (get_or text j 0) (drop (j + 1) text) space
   where
     parts : drop j text ≡ get_or text j 0 ∷ drop (j + 1) text
     parts = rw (add-one, drop-cons text j 0) refl
@@ -91,7 +91,7 @@ field-found bs text rest i j h t k r =
     let within : i < length bs = rw found.1 at (ltb-true _ _ found.0) in
     let less : j < length text = rw ended.1 at (ltb-true _ _ ended.0) in
     let space : is_space (get_or text j 0) ≡ true = rw ended.1 at (passes_at_first is_space text 0 (ltb-true _ _ ended.0)) in
-    first_field bs text i j (sym found.1) within t (sym ended.1) (omega arith) ∙ ap (λ fs. take j text ∷ fs) (behind-space text j less space
+    first_field bs text i j (sym found.1) within t (sym ended.1) (omega arith) ∙ ap (λ fs. take j text ∷ fs) (after-space text j less space
     ∙ ap fields (sym r))
 
 pub field-at-end : (bs text rest : List ℕ) (i : ℕ) → Some i ≡ position is_other bs → text ≡ drop i bs → None ≡ position is_space text

@@ -6,7 +6,7 @@ use Rattle.program_rows.specs.MpsLines.{Line, Skipped, Unprintable, Header, Data
 use Rattle.program_rows.specs.MpsSections.{Sections, no_lines, with_line, is_end}
 use Rattle.program_rows.specs.MpsProgram.{program}
 use Rattle.program_rows.specs.MpsFaults.{fault, header_fault}
-use Rattle.program_rows.specs.MpsMeaning.{meaning, meaning_behind}
+use Rattle.program_rows.specs.MpsMeaning.{meaning, meaning_after}
 use Rattle.program_rows.specs.declared.mps_fault_kind.MpsFaultKind.TheVariants.{NotText}
 use Rattle.auction_terms.specs.Lines.{lines_of}
 use Rattle.mps_reader.specs.inside.Reading.{AreFirst}
@@ -53,18 +53,18 @@ data-next before bytes shown all r e a none h =
 
 -- ---- the meaning, line by line
 
-pub meaning-starts : (text : List ℕ) → meaning text ≡ meaning_behind 0 no_lines (map line_of (lines_of text))
+pub meaning-starts : (text : List ℕ) → meaning text ≡ meaning_after 0 no_lines (map line_of (lines_of text))
 unfolding meaning
 meaning-starts text = refl
 
 pub meaning-goes-on : (text : List ℕ) (place : ℕ) (seen : Sections) (lines rest : List (List ℕ)) (line : List ℕ)
-    → meaning text ≡ meaning_behind place seen (map line_of lines) → lines ≡ line ∷ rest → fault seen (line_of line) ≡ None
+    → meaning text ≡ meaning_after place seen (map line_of lines) → lines ≡ line ∷ rest → fault seen (line_of line) ≡ None
     → is_end (line_of line) ≡ false
-    → meaning text ≡ meaning_behind (place + 1) (with_line seen (line_of line)) (map line_of rest)
+    → meaning text ≡ meaning_after (place + 1) (with_line seen (line_of line)) (map line_of rest)
 meaning-goes-on text place seen lines rest line h e none more = h ∙ rw (e, none, more) refl
 
 pub meaning-ends : (text : List ℕ) (place : ℕ) (seen : Sections) (lines rest : List (List ℕ)) (line : List ℕ)
-    → meaning text ≡ meaning_behind place seen (map line_of lines) → lines ≡ line ∷ rest → fault seen (line_of line) ≡ None
+    → meaning text ≡ meaning_after place seen (map line_of lines) → lines ≡ line ∷ rest → fault seen (line_of line) ≡ None
     → is_end (line_of line) ≡ true → meaning text ≡ Ok (program seen)
 meaning-ends text place seen lines rest line h e none end = h ∙ rw (e, none, end) refl
 

@@ -26,13 +26,13 @@ pub two-pairs : (fs : List (Bor (List ℕ))) → length fs ≡ 4 → pairs (byte
 two-pairs (a ∷ b ∷ c ∷ d ∷ []) h = refl
 two-pairs _ h = absurd (omega arith)
 
-pub one-behind : (fs : List (Bor (List ℕ))) → length fs ≡ 3 → pairs (drop 1 (bytes_of fs)) ≡ (at fs 1, at fs 2) ∷ []
-one-behind [] h = absurd (omega arith)
-one-behind (f ∷ fs) h = one-pair fs (omega arith)
+pub one-after : (fs : List (Bor (List ℕ))) → length fs ≡ 3 → pairs (drop 1 (bytes_of fs)) ≡ (at fs 1, at fs 2) ∷ []
+one-after [] h = absurd (omega arith)
+one-after (f ∷ fs) h = one-pair fs (omega arith)
 
-pub two-behind : (fs : List (Bor (List ℕ))) → length fs ≡ 5 → pairs (drop 1 (bytes_of fs)) ≡ (at fs 1, at fs 2) ∷ (at fs 3, at fs 4) ∷ []
-two-behind [] h = absurd (omega arith)
-two-behind (f ∷ fs) h = two-pairs fs (omega arith)
+pub two-after : (fs : List (Bor (List ℕ))) → length fs ≡ 5 → pairs (drop 1 (bytes_of fs)) ≡ (at fs 1, at fs 2) ∷ (at fs 3, at fs 4) ∷ []
+two-after [] h = absurd (omega arith)
+two-after (f ∷ fs) h = two-pairs fs (omega arith)
 
 -- of one pair or two, the first
 first-of : (ps : List (List ℕ × List ℕ)) (p q : List ℕ × List ℕ) (a b n : ℕ) → (n ≡ a → ps ≡ p ∷ []) → (n ≡ b → ps ≡ p ∷ q ∷ [])
@@ -47,9 +47,9 @@ pub first-pair : (fs : List (Bor (List ℕ))) → ((length fs == 2) || (length f
     → (more : List (List ℕ × List ℕ)) × (pairs (bytes_of fs) ≡ (at fs 0, at fs 1) ∷ more)
 first-pair fs = first-of _ _ _ 2 4 (length fs) (one-pair fs) (two-pairs fs)
 
-pub first-behind : (fs : List (Bor (List ℕ))) → ((length fs == 3) || (length fs == 5)) ≡ true
+pub first-after : (fs : List (Bor (List ℕ))) → ((length fs == 3) || (length fs == 5)) ≡ true
     → (more : List (List ℕ × List ℕ)) × (pairs (drop 1 (bytes_of fs)) ≡ (at fs 1, at fs 2) ∷ more)
-first-behind fs = first-of _ _ _ 3 5 (length fs) (one-behind fs) (two-behind fs)
+first-after fs = first-of _ _ _ 3 5 (length fs) (one-after fs) (two-after fs)
 
 pub the-other : (a b n : ℕ) → ((n == a) || (n == b)) ≡ true → n ≢ b → n ≡ a
 the-other a b n h ne = by (n == a) refl

@@ -162,18 +162,18 @@ bound-many before fields h =
     let none : (if is_binary_bound fields then nat_le 2 (length fields) && nat_le (length fields) 4 else nat_le 3 (length fields)
     && nat_le (length fields) 4) ≡ false = rw high (neither (is_binary_bound fields) (nat_le 2 (length fields)) (nat_le 3 (length fields))) in
     ap (λ b. earliest_fault (when (not (is_one_of (field 0 fields) (codes "UP" ∷ codes "LO" ∷ codes "FX" ∷ codes "BV" ∷ []))) kinds.BoundType
-    ∷ when (not b) kinds.Fields ∷ behind)) none
+    ∷ when (not b) kinds.Fields ∷ later)) none
     ∙ by (is_one_of (field 0 fields) (codes "UP" ∷ codes "LO" ∷ codes "FX" ∷ codes "BV" ∷ []))
   where
-    behind : List (Option MpsFaultKind)
-    behind = when (not (is_column before.columns (field 0 (bound_pair fields)))) kinds.UnknownColumn
+    later : List (Option MpsFaultKind)
+    later = when (not (is_column before.columns (field 0 (bound_pair fields)))) kinds.UnknownColumn
         ∷ (if is_binary_bound fields then None else bit_fault (field 1 (bound_pair fields))) ∷ []
 
     neither : (t a b : Bool) → (if t then a && false else b && false) ≡ false
     neither true a b = and-false a
     neither false a b = and-false b
 
-    by : (t : Bool) → earliest_fault (when (not t) kinds.BoundType ∷ Some kinds.Fields ∷ behind)
+    by : (t : Bool) → earliest_fault (when (not t) kinds.BoundType ∷ Some kinds.Fields ∷ later)
         ≡ earliest_fault (when (not t) kinds.BoundType ∷ Some kinds.Fields ∷ [])
     by true = refl
     by false = refl

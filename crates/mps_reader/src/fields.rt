@@ -5,7 +5,7 @@ ghost use Rattle.std.specs.Prelude.{IfOk, OnErr, ◌==◌, slice_index, bytes_eq
 ghost use Rattle.std.specs.List.{list_all};
 ghost use Rattle.auction_terms.specs.LineFields.{fields, is_space};
 ghost use Rattle.auction_terms.specs.Lines.{bytes_of};
-ghost use Rattle.mps_reader.specs.inside.Reading.{is_other, is_behind, is_text_byte, IsLine, AnswersFault, bit_fault};
+ghost use Rattle.mps_reader.specs.inside.Reading.{is_other, is_after, is_text_byte, IsLine, AnswersFault, bit_fault};
 ghost use Rattle.program_rows.specs.MpsLines.{line_of};
 ghost use Rattle.program_rows.specs.MpsProgram.{value};
 ghost use Rattle.program_rows.specs.MpsFaults.{number_fault};
@@ -39,19 +39,19 @@ fn field_start(rest: &[u8]) -> Option<usize>
     None
 }
 
-fn is_behind_byte(b: u8) -> bool
-    ensures { result ≡ is_behind b }
+fn is_after_byte(b: u8) -> bool
+    ensures { result ≡ is_after b }
 {
     !(b'!' <= b && b <= b'~')
 }
 
 /// The place of the first byte that isn't of a field: white space, or a byte that no text has.
 fn field_end(text: &[u8]) -> Option<usize>
-    ensures { result ≡ position is_behind text.now }
+    ensures { result ≡ position is_after text.now }
 {
     let mut i = 0;
     while i < text.len() {
-        if is_behind_byte(text[i]) {
+        if is_after_byte(text[i]) {
             return Some(i);
         }
         i += 1;
@@ -60,7 +60,7 @@ fn field_end(text: &[u8]) -> Option<usize>
 }
 
 // The rest of a text, as a value of its own: the loop over fields states what is left by it.
-fn behind(text: &[u8], start: usize) -> &[u8]
+fn after(text: &[u8], start: usize) -> &[u8]
     requires { start ≤ length text.now }
     ensures { result.now ≡ drop start text.now }
 {
@@ -84,14 +84,14 @@ fn next_field(rest: &[u8]) -> Result<Option<(&[u8], &[u8])>, NotText>
     let Some(start) = field_start(rest) else {
         return Ok(None);
     };
-    let text = behind(rest, start);
+    let text = after(rest, start);
     let Some(end) = field_end(text) else {
-        return Ok(Some((text, behind(text, text.len()))));
+        return Ok(Some((text, after(text, text.len()))));
     };
     if !is_space_byte(text[end]) {
         return Err(NotText);
     }
-    Ok(Some((&text[..end], behind(text, end + 1))))
+    Ok(Some((&text[..end], after(text, end + 1))))
 }
 
 /// The first fields of a line of text.
@@ -102,11 +102,11 @@ fn first_fields(line: &[u8]) -> Result<Fields<'_>, NotText>
 {
     let mut fields = ArrayVec::new();
     let mut rest = line;
-    while let Some((field, behind)) = next_field(rest)? {
+    while let Some((field, after)) = next_field(rest)? {
         if !fields.is_full() {
             fields.push(field);
         }
-        rest = behind;
+        rest = after;
     }
     Ok(fields)
 }

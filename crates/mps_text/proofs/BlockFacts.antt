@@ -5,7 +5,7 @@ use Rattle.program_rows.specs.MpsLines.{Line, Data}
 use Rattle.program_rows.specs.MpsSections.{Sections, with_line, is_end}
 use Rattle.program_rows.specs.MpsFaults.{fault}
 use Rattle.program_rows.specs.MpsProgram.{program}
-use Rattle.program_rows.specs.MpsMeaning.{meaning_behind}
+use Rattle.program_rows.specs.MpsMeaning.{meaning_after}
 use Rattle.mps_text.proofs.FieldFacts.{end_line}
 
 -- the lines ls, read after others
@@ -20,7 +20,7 @@ AreRead before (line ∷ ls) = (fault before line ≡ None) × (is_end line ≡ 
 
 -- lines that are read, and then the end
 pub read-through : (n : ℕ) (before : Sections) (ls : List Line) → AreRead before ls → fault (onto ls before) end_line ≡ None
-    → meaning_behind n before (ls ++ end_line ∷ []) ≡ Ok (program (onto ls before))
+    → meaning_after n before (ls ++ end_line ∷ []) ≡ Ok (program (onto ls before))
 read-through n before [] h e = rw e refl
 read-through n before (line ∷ ls) h e = rw (h.0, h.1) (read-through (n + 1) (with_line before line) ls h.2 e)
 

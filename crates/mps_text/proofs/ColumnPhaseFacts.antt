@@ -101,11 +101,11 @@ abbrev pub ArePlain : List Pair → Type 0
 ArePlain pairs = AllByRecursion (λ pair. bytes_eq pair.0 (codes "'MARKER'") ≡ false) pairs
 
 -- the lines of a column leave another column new
-new_behind : (before : Sections) (name : List ℕ) (pairs : List Pair) (column : List ℕ × List Pair) → before.section ≡ codes "COLUMNS"
+new_after : (before : Sections) (name : List ℕ) (pairs : List Pair) (column : List ℕ × List Pair) → before.section ≡ codes "COLUMNS"
     → ArePlain pairs → bytes_eq column.0 name ≡ false → IsNew before column
     → IsNew (onto (map Data (map (pair_fields name) pairs)) before) column
-new_behind before name [] column s h differ n = n
-new_behind before name (pair ∷ pairs) column s h differ n = new_behind (with_line before (Data (pair_fields name pair))) name pairs column s
+new_after before name [] column s h differ n = n
+new_after before name (pair ∷ pairs) column s h differ n = new_after (with_line before (Data (pair_fields name pair))) name pairs column s
     h.1 differ (still_new before name pair column s h.0 differ n)
 
 abbrev pub columns_lines : List (List ℕ × List Pair) → List Line
@@ -122,5 +122,5 @@ columns-read before (c ∷ columns) s differ n =
     (pairs-read before c.0 c.1 s (not-split before c.0 n.0.name) n.0.differ n.0.ready)
     (columns-read (onto lines before) columns (section-onto (map (pair_fields c.0) c.1) before ∙ s) differ.1
     (others_kept (λ q. q.0) c.0 (IsNew before) (IsNew (onto lines before)) columns
-    (λ q d k. new_behind before c.0 c.1 q s (all_agree (IsReady before c.0) (λ pair. bytes_eq pair.0 (codes "'MARKER'") ≡ false) c.1
+    (λ q d k. new_after before c.0 c.1 q s (all_agree (IsReady before c.0) (λ pair. bytes_eq pair.0 (codes "'MARKER'") ≡ false) c.1
     (λ pair h. h.plain) n.0.ready) (bytes_flip c.0 q.0 d) k) differ.0 n.1))

@@ -67,14 +67,14 @@ entries-back name n f k (r ∷ rows) ((i, z) ∷ es) differ len legal from small
         (λ e. not (int_eq e.1 (pos 0))) (map (λ q. (q.0, f q)) (enumerate_from (k + 1) rows)) ≡ es)
         → (k < i → filter (λ e. not (int_eq e.1 (pos 0))) (map (λ q. (q.0, f q)) (enumerate_from (k + 1) rows)) ≡ (i, z) ∷ es)
         → filter (λ e. not (int_eq e.1 (pos 0))) (map (λ q. (q.0, f q)) (enumerate_from k (r ∷ rows))) ≡ (i, z) ∷ es
-    by (inl at) here behind =
+    by (inl at) here after =
         let rest = here at (later name n f i (signed_decimal z) (map (pair_of name) es) (k + 1) rows differ (omega arith) (omega arith) h.1) in
         let value_at : f (k, r) ≡ z = h.0 ∙ rw (at, same-name (name i), number-signed_decimal z small.0) refl in
         rw (value_at, not-nought z legal.1, rest, at) refl
-    by (inr lt) here behind =
+    by (inr lt) here after =
         let none : f (k, r) ≡ pos 0 = h.0 ∙ rw (
           differ k i lt legal.0,
           none-looked name n k es differ legal.3 (all_agree (λ e. i < e.0)
               (λ e. k < e.0) es (λ e l. omega arith) legal.2),
         ) refl in
-        rw none (behind lt)
+        rw none (after lt)

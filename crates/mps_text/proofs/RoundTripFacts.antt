@@ -10,7 +10,7 @@ use Rattle.program_rows.specs.MpsLines.{Line, Header, Data}
 use Rattle.program_rows.specs.MpsSections.{Sections, no_lines}
 use Rattle.program_rows.specs.MpsProgram.{program, column_lines, first_free, columns_named, is_column}
 use Rattle.program_rows.specs.MpsFaults.{fault, is_declared, is_integer_open, stands_in_integers, is_binary}
-use Rattle.program_rows.specs.MpsMeaning.{meaning, meaning_behind}
+use Rattle.program_rows.specs.MpsMeaning.{meaning, meaning_after}
 use Rattle.program_rows.specs.declared.mps_fault_kind.MpsFaultKind.{MpsFaultKind}
 use Rattle.mps_text.specs.Text.{text, if_any}
 use Rattle.program_rows.specs.Legal.{IsWritable, IsSmall}
@@ -142,37 +142,37 @@ bounds-header : (before : Sections) (name : List ℕ) → before.section ≡ cod
 unfolding fault
 bounds-header before name s o = rw (s, o) refl
 
-end-behind_sides : (before : Sections) (name : List ℕ) → before.section ≡ codes "RHS" → first_free before.rows ≡ Some name
+end-after_sides : (before : Sections) (name : List ℕ) → before.section ≡ codes "RHS" → first_free before.rows ≡ Some name
     → option_map NotBinary (position (λ column. not (is_binary before column)) (columns_named before.columns)) ≡ None
     → fault before (Header (codes "ENDATA") []) ≡ None
 unfolding fault
-end-behind_sides before name s o b = rw (s, o, b) refl
+end-after_sides before name s o b = rw (s, o, b) refl
 
-end-behind_bounds : (before : Sections) (name : List ℕ) → before.section ≡ codes "BOUNDS" → first_free before.rows ≡ Some name
+end-after_bounds : (before : Sections) (name : List ℕ) → before.section ≡ codes "BOUNDS" → first_free before.rows ≡ Some name
     → option_map NotBinary (position (λ column. not (is_binary before column)) (columns_named before.columns)) ≡ None
     → fault before (Header (codes "ENDATA") []) ≡ None
 unfolding fault
-end-behind_bounds before name s o b = rw (s, o, b) refl
+end-after_bounds before name s o b = rw (s, o, b) refl
 
 -- ---- the whole text
 
 -- what comes before a line, and that all of it was read
-pub record IsBehind (ls : List Line) (word : List ℕ) (rs cs ss bs : List LineFields) : Type 0 where
+pub record IsAfter (ls : List Line) (word : List ℕ) (rs cs ss bs : List LineFields) : Type 0 where
   pub read : AreRead no_lines ls
   pub holds : onto ls no_lines ≡ held word rs cs ss bs
 
 -- a block after others
-behind-then : (ls more : List Line) (old word : List ℕ) (rs cs ss bs rs' cs' ss' bs' : List LineFields) → IsBehind ls old rs cs ss bs
+after-then : (ls more : List Line) (old word : List ℕ) (rs cs ss bs rs' cs' ss' bs' : List LineFields) → IsAfter ls old rs cs ss bs
     → AreRead (held old rs cs ss bs) more → onto more (held old rs cs ss bs) ≡ held word rs' cs' ss' bs'
-    → IsBehind (ls ++ more) word rs' cs' ss' bs'
-behind-then ls more old word rs cs ss bs rs' cs' ss' bs' h read holds = record {
+    → IsAfter (ls ++ more) word rs' cs' ss' bs'
+after-then ls more old word rs cs ss bs rs' cs' ss' bs' h read holds = record {
   read = AreRead-append no_lines ls more h.read (subst (λ s. AreRead s more) (sym h.holds) read);
   holds = onto-append ls more no_lines ∙ ap (onto more) h.holds ∙ holds;
 }
 
-behind-rows : (p : Table) → IsProgram p → IsBehind (name_line ∷ rows_part p) (codes "ROWS") (rows_of p) [] [] []
+after-rows : (p : Table) → IsProgram p → IsAfter (name_line ∷ rows_part p) (codes "ROWS") (rows_of p) [] [] []
 unfolding fault IsDistinct
-behind-rows p legal =
+after-rows p legal =
     let named = (codes "N" ∷ p.objective ∷ []) in
     let before = held (codes "ROWS") (named ∷ []) [] [] [] in
     record {
@@ -194,11 +194,11 @@ behind-rows p legal =
     }
 
 -- COLUMNS without columns
-behind-no_columns : (p : Table) (ls : List Line) → IsBehind ls (codes "ROWS") (rows_of p) [] [] []
-    → IsBehind (ls ++ Header (codes "COLUMNS") [] ∷ []) (codes "COLUMNS") (rows_of p) [] [] []
-behind-no_columns p ls h =
+after-no_columns : (p : Table) (ls : List Line) → IsAfter ls (codes "ROWS") (rows_of p) [] [] []
+    → IsAfter (ls ++ Header (codes "COLUMNS") [] ∷ []) (codes "COLUMNS") (rows_of p) [] [] []
+after-no_columns p ls h =
     let start = held (codes "ROWS") (rows_of p) [] [] [] in
-    behind-then ls (Header (codes "COLUMNS") [] ∷ []) (codes "ROWS") (codes "COLUMNS") (rows_of p) [] [] [] (rows_of p) [] [] [] h
+    after-then ls (Header (codes "COLUMNS") [] ∷ []) (codes "ROWS") (codes "COLUMNS") (rows_of p) [] [] [] (rows_of p) [] [] [] h
     (columns-header start p.objective refl (objective-back start p refl), refl, tt) refl
 
 abbrev marked : Table → List LineFields
@@ -215,10 +215,10 @@ last_marker-read : (before : Sections) → before.section ≡ codes "COLUMNS" �
 unfolding fault
 last_marker-read before s o = rw (s, o) refl
 
-behind-columns : (p : Table) (ls : List Line) → IsProgram p → IsWritable p → IsBehind ls (codes "ROWS") (rows_of p) [] [] []
-    → IsBehind (ls ++ Header (codes "COLUMNS") [] ∷ map Data (marked p)) (codes "COLUMNS") (rows_of p) (all_columns p) [] []
-behind-columns p ls legal parsed h =
-    behind-then ls (Header (codes "COLUMNS") [] ∷ map Data (marked p)) (codes "ROWS") (codes "COLUMNS") (rows_of p) [] [] [] (rows_of p)
+after-columns : (p : Table) (ls : List Line) → IsProgram p → IsWritable p → IsAfter ls (codes "ROWS") (rows_of p) [] [] []
+    → IsAfter (ls ++ Header (codes "COLUMNS") [] ∷ map Data (marked p)) (codes "COLUMNS") (rows_of p) (all_columns p) [] []
+after-columns p ls legal parsed h =
+    after-then ls (Header (codes "COLUMNS") [] ∷ map Data (marked p)) (codes "ROWS") (codes "COLUMNS") (rows_of p) [] [] [] (rows_of p)
     (all_columns p) [] [] h (
       columns-header start p.objective refl (objective-back start p refl),
       refl,
@@ -256,12 +256,12 @@ behind-columns p ls legal parsed h =
         (new-columns p marked_start p.columns refl refl parsed.no_marker legal.rows_differ legal.entries
         (small_costs p.columns parsed.numbers) (small_entries p.columns parsed.numbers)))
 
-behind-sides : (p : Table) (ls : List Line) (cs : List LineFields) → IsProgram p → IsWritable p
-    → IsBehind ls (codes "COLUMNS") (rows_of p) cs [] []
-    → IsBehind (ls ++ sides_part p) (codes "RHS") (rows_of p) cs (push (map right_side_fields p.rows) []) []
+after-sides : (p : Table) (ls : List Line) (cs : List LineFields) → IsProgram p → IsWritable p
+    → IsAfter ls (codes "COLUMNS") (rows_of p) cs [] []
+    → IsAfter (ls ++ sides_part p) (codes "RHS") (rows_of p) cs (push (map right_side_fields p.rows) []) []
 unfolding IsDistinct
-behind-sides p ls cs legal parsed h =
-    behind-then ls (sides_part p) (codes "COLUMNS") (codes "RHS") (rows_of p) cs [] [] (rows_of p) cs (push (map right_side_fields p.rows) []) [] h (
+after-sides p ls cs legal parsed h =
+    after-then ls (sides_part p) (codes "COLUMNS") (codes "RHS") (rows_of p) cs [] [] (rows_of p) cs (push (map right_side_fields p.rows) []) [] h (
       sides-header start p.objective refl (objective-back start p refl),
       refl,
       right_sides-read opened p.rows refl legal.rows_differ.1 (ready-sides p opened p.rows refl refl (all-known p) legal.rows_differ.0 parsed.right_sides),
@@ -282,11 +282,11 @@ between-markers p plain = keeps-lines (all_listed p p.columns) (first_marker ∷
 all_plain_pairs : (p : Table) → IsProgram p → IsWritable p → AllByRecursion (λ c. ArePlain c.1) (all_listed p p.columns)
 all_plain_pairs p legal parsed = all-plain p p.columns parsed.no_marker legal.entries
 
-behind-bounds : (p : Table) (ls : List Line) (ss : List LineFields) → IsProgram p → IsWritable p
-    → IsBehind ls (codes "RHS") (rows_of p) (all_columns p) ss []
-    → IsBehind (ls ++ bounds_part p) (codes "BOUNDS") (rows_of p) (all_columns p) ss (push (map bound_fields p.columns) [])
-behind-bounds p ls ss legal parsed h =
-    behind-then ls (bounds_part p) (codes "RHS") (codes "BOUNDS") (rows_of p) (all_columns p) ss [] (rows_of p) (all_columns p) ss
+after-bounds : (p : Table) (ls : List Line) (ss : List LineFields) → IsProgram p → IsWritable p
+    → IsAfter ls (codes "RHS") (rows_of p) (all_columns p) ss []
+    → IsAfter (ls ++ bounds_part p) (codes "BOUNDS") (rows_of p) (all_columns p) ss (push (map bound_fields p.columns) [])
+after-bounds p ls ss legal parsed h =
+    after-then ls (bounds_part p) (codes "RHS") (codes "BOUNDS") (rows_of p) (all_columns p) ss [] (rows_of p) (all_columns p) ss
     (push (map bound_fields p.columns) []) h (
       bounds-header start p.objective refl (objective-back start p refl),
       refl,
@@ -323,20 +323,20 @@ lists-columns p legal parsed = record {
 }
 
 abbrev meaning_of_lines : List Line → Result Table (ℕ × MpsFaultKind)
-meaning_of_lines ls = meaning_behind 0 no_lines ls
+meaning_of_lines ls = meaning_after 0 no_lines ls
 
 -- the meaning of lines that are read, and then the end
-meaning-end : (p : Table) (ls : List Line) (word : List ℕ) (rs cs ss bs : List LineFields) → IsBehind ls word rs cs ss bs
+meaning-end : (p : Table) (ls : List Line) (word : List ℕ) (rs cs ss bs : List LineFields) → IsAfter ls word rs cs ss bs
     → fault (held word rs cs ss bs) end_line ≡ None → program (held word rs cs ss bs) ≡ p → meaning_of_lines (ls ++ end_line ∷ []) ≡ Ok p
 meaning-end p ls word rs cs ss bs h f e =
     read-through 0 no_lines ls h.read (ap (λ s. fault s end_line) h.holds ∙ f) ∙ ap (λ s. Ok (program s)) h.holds ∙ ap (λ q. Ok q) e
 
-behind-columns_part : (p : Table) (c : TableColumn) (cs : List TableColumn) (ls : List Line) → IsProgram p → IsWritable p
-    → p.columns ≡ c ∷ cs → IsBehind ls (codes "ROWS") (rows_of p) [] [] []
-    → IsBehind (ls ++ columns_part p) (codes "COLUMNS") (rows_of p) (all_columns p) [] []
-behind-columns_part p c cs ls legal parsed e h =
-    subst (λ (w : List LineFields). IsBehind (ls ++ Header (codes "COLUMNS") [] ∷ map Data w) (codes "COLUMNS") (rows_of p) (all_columns p)
-    [] []) same (behind-columns p ls legal parsed h)
+after-columns_part : (p : Table) (c : TableColumn) (cs : List TableColumn) (ls : List Line) → IsProgram p → IsWritable p
+    → p.columns ≡ c ∷ cs → IsAfter ls (codes "ROWS") (rows_of p) [] [] []
+    → IsAfter (ls ++ columns_part p) (codes "COLUMNS") (rows_of p) (all_columns p) [] []
+after-columns_part p c cs ls legal parsed e h =
+    subst (λ (w : List LineFields). IsAfter (ls ++ Header (codes "COLUMNS") [] ∷ map Data w) (codes "COLUMNS") (rows_of p) (all_columns p)
+    [] []) same (after-columns p ls legal parsed h)
   where
     same : marked p ≡ if_any p.columns (first_marker ∷ flat_map (column_fields p) p.columns ++ last_marker ∷ [])
     same = ap (λ (w : List LineFields). first_marker ∷ w ++ last_marker ∷ []) (sym (column-lines p p.columns)) ∙ if-some p.columns e
@@ -354,23 +354,23 @@ meaning-lines : (o : List ℕ) (rs : List TableRow) (cs : List TableColumn) → 
     → meaning_of_lines (text_lines (table o rs cs)) ≡ Ok (table o rs cs)
 meaning-lines o rs [] legal parsed =
     let p = table o rs [] in
-    let two = behind-no_columns p (name_line ∷ rows_part p) (behind-rows p legal) in
-    let three = behind-sides p ((name_line ∷ rows_part p) ++ columns_part p) [] legal parsed two in
+    let two = after-no_columns p (name_line ∷ rows_part p) (after-rows p legal) in
+    let three = after-sides p ((name_line ∷ rows_part p) ++ columns_part p) [] legal parsed two in
     let ls = (name_line ∷ rows_part p) ++ columns_part p ++ sides_part p in
     let all = held (codes "RHS") (rows_of p) [] (push (map right_side_fields rs) []) [] in
     let lists : Lists all p = record { rows = refl; columns = refl; stand = tt; sides = refl; bounds = refl } in
     ap meaning_of_lines (ap (λ (w : List Line). w ++ end_line ∷ []) (append-nil ls))
     ∙ meaning-end p ls (codes "RHS") (rows_of p) [] (push (map right_side_fields rs) []) [] three
-    (end-behind_sides all o refl (objective-back all p refl) (all-binary all p legal lists)) (program-back all p legal parsed lists)
+    (end-after_sides all o refl (objective-back all p refl) (all-binary all p legal lists)) (program-back all p legal parsed lists)
 meaning-lines o rs (c ∷ cs) legal parsed =
     let p = table o rs (c ∷ cs) in
-    let two = behind-columns_part p c cs (name_line ∷ rows_part p) legal parsed refl (behind-rows p legal) in
-    let three = behind-sides p ((name_line ∷ rows_part p) ++ columns_part p) (all_columns p) legal parsed two in
-    let four = behind-bounds p ((name_line ∷ rows_part p) ++ columns_part p ++ sides_part p) (push (map right_side_fields p.rows) []) legal parsed three in
+    let two = after-columns_part p c cs (name_line ∷ rows_part p) legal parsed refl (after-rows p legal) in
+    let three = after-sides p ((name_line ∷ rows_part p) ++ columns_part p) (all_columns p) legal parsed two in
+    let four = after-bounds p ((name_line ∷ rows_part p) ++ columns_part p ++ sides_part p) (push (map right_side_fields p.rows) []) legal parsed three in
     let ls = (name_line ∷ rows_part p) ++ columns_part p ++ sides_part p ++ bounds_part p in
     let lists = lists-columns p legal parsed in
     meaning-end p ls (codes "BOUNDS") (rows_of p) (all_columns p) (push (map right_side_fields p.rows) []) (push (map bound_fields p.columns) []) four
-    (end-behind_bounds (all_lines p) o refl (objective-back (all_lines p) p refl) (all-binary (all_lines p) p legal lists))
+    (end-after_bounds (all_lines p) o refl (objective-back (all_lines p) p refl) (all-binary (all_lines p) p legal lists))
     (program-back (all_lines p) p legal parsed lists)
 
 pub text-is_read : TextIsRead

@@ -35,7 +35,7 @@ fn write_end(line: &mut [u8], at: usize, number: u8) -> usize
     requires room { at + 4 ≤ length line.old }
     ensures written { take result line.new ≡ take at line.old
         ++ (32 ∷ (decimal number ++ 10 ∷ [])) }
-    ensures behind { at ≤ result }
+    ensures after { at ≤ result }
     ensures within { result ≤ at + 4 }
     ensures length { length line.new ≡ length line.old }
 {

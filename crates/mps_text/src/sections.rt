@@ -36,7 +36,7 @@ fn before_bound(bounds: Bounds) -> &'static [u8]
 }
 
 /// What follows the name of a column in the line of its bounds.
-fn behind_bound(bounds: Bounds) -> &'static [u8]
+fn after_bound(bounds: Bounds) -> &'static [u8]
     ensures { result.now ≡ 32 ∷ ((bound_words bounds).1 ++ 10 ∷ []) }
 {
     match bounds {
@@ -81,7 +81,7 @@ fn add_bound<S: Sink>(writer: &mut Writer<'_, S>, column: &Column<'_>)
 {
     writer.add(before_bound(column.bounds));
     writer.add(column.name);
-    writer.add(behind_bound(column.bounds));
+    writer.add(after_bound(column.bounds));
 }
 
 /// Adds the line of an entry field by field.

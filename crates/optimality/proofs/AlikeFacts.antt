@@ -23,7 +23,7 @@ use Rattle.optimality.specs.LineMeaning.{ParsedLine, BoundLine, SplitLine, parse
 use Rattle.optimality.specs.Branches.{Branch, At, cuts_above, closed}
 use Rattle.optimality.specs.Sizes.{IsLargeFrom, IsLargeLine, IsLargeParsed, cut_size, leaf_size, size_of}
 use Rattle.optimality.specs.inside.Sizes.{form_size}
-use Rattle.optimality.specs.Verdict.{behind as after_line, taken, fault_from}
+use Rattle.optimality.specs.Verdict.{open_after as after_line, taken, fault_from}
 use Rattle.optimality.specs.declared.checker.OpenSplit.{OpenSplit}
 use Rattle.optimality.specs.inside.Adding.{AreAlike, AreNoLarger}
 use Rattle.optimality.specs.inside.Branches.{branch_of, GoOnAlike}
@@ -213,18 +213,18 @@ parsed-alike : (p : Table) (least : ℤ) (branches others : List Branch) (parsed
 parsed-alike p least branches others (Ok parsed) alike = taken-alike p least branches others parsed alike
 parsed-alike p least branches others (Err kind) alike = refl
 
-abbrev behind : Table → ℤ → List ℕ → Option (List Branch) → Opened
-behind p least line branches =
+abbrev open_after : Table → ℤ → List ℕ → Option (List Branch) → Opened
+open_after p least line branches =
     and_then (ok_or branches Beyond) (λ above. and_then (parsed_certificate_line p (length above) (fields line)) (taken p least above))
 
-behind-alike : (p : Table) (least : ℤ) (line : List ℕ) (branches others : Option (List Branch)) → OpenAlike (Ok branches) (Ok others)
-    → OpenAlike (behind p least line branches) (behind p least line others)
-behind-alike p least line None None alike = refl
-behind-alike p least line (Some branches) (Some others) alike =
+after-alike : (p : Table) (least : ℤ) (line : List ℕ) (branches others : Option (List Branch)) → OpenAlike (Ok branches) (Ok others)
+    → OpenAlike (open_after p least line branches) (open_after p least line others)
+after-alike p least line None None alike = refl
+after-alike p least line (Some branches) (Some others) alike =
     subst (λ (depth : ℕ). OpenAlike (and_then (parsed_certificate_line p (length branches) (fields line)) (taken p least branches))
     (and_then (parsed_certificate_line p depth (fields line)) (taken p least others))) (lengths-alike branches others alike)
     (parsed-alike p least branches others (parsed_certificate_line p (length branches) (fields line)) alike)
-behind-alike p least line _ _ alike = absurd alike
+after-alike p least line _ _ alike = absurd alike
 
 -- the first fault is the same
 pub fault-alike : (p : Table) (least : ℤ) (place : ℕ) (lines : List (List ℕ)) (parsed other : Opened) → OpenAlike parsed other
@@ -239,14 +239,14 @@ fault-alike p least place [] (Ok None) (Ok None) alike = refl
 fault-alike p least place [] (Ok (Some branches)) (Ok (Some others)) alike = refl
 fault-alike p least place (line ∷ lines) (Ok branches) (Ok others) alike =
     by (fault-alike p least (suc place) lines (Ok branches) (Ok others) alike)
-    (fault-alike p least (suc place) lines (behind p least line branches) (behind p least line others)
-    (behind-alike p least line branches others alike)) (is_skipped line)
+    (fault-alike p least (suc place) lines (open_after p least line branches) (open_after p least line others)
+    (after-alike p least line branches others alike)) (is_skipped line)
   where
     by : fault_from p least (Ok branches) (suc place) lines ≡ fault_from p least (Ok others) (suc place) lines
-        → fault_from p least (behind p least line branches) (suc place) lines
-        ≡ fault_from p least (behind p least line others) (suc place) lines
-        → (b : Bool) → fault_from p least (if b then Ok branches else behind p least line branches) (suc place) lines
-        ≡ fault_from p least (if b then Ok others else behind p least line others) (suc place) lines
+        → fault_from p least (open_after p least line branches) (suc place) lines
+        ≡ fault_from p least (open_after p least line others) (suc place) lines
+        → (b : Bool) → fault_from p least (if b then Ok branches else open_after p least line branches) (suc place) lines
+        ≡ fault_from p least (if b then Ok others else open_after p least line others) (suc place) lines
     by skipped parsed true = skipped
     by skipped parsed false = parsed
 fault-alike p least place _ _ _ alike = absurd alike
@@ -312,9 +312,9 @@ passed-alike : (p : Table) (least : ℤ) (line : List ℕ) (branches others : Op
     → OpenAlike (after_line p least branches line) (after_line p least others line)
 passed-alike p least line branches others alike = by (is_skipped line)
   where
-    by : (b : Bool) → OpenAlike (if b then Ok branches else behind p least line branches) (if b then Ok others else behind p least line others)
+    by : (b : Bool) → OpenAlike (if b then Ok branches else open_after p least line branches) (if b then Ok others else open_after p least line others)
     by true = alike
-    by false = behind-alike p least line branches others alike
+    by false = after-alike p least line branches others alike
 
 -- a line that is large by the code's splits is so by those of the definition
 pub large-alike : (p : Table) (least : ℤ) (place : ℕ) (lines : List (List ℕ)) (parsed other : Opened) (number : ℕ) → OpenAlike parsed other

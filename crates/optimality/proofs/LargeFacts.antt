@@ -17,11 +17,11 @@ use Rattle.program_rows.specs.declared.certificate_fault.CertificateFaultKind.Th
 use Rattle.optimality.specs.Branches.{Branch, closed, cuts_above}
 use Rattle.optimality.specs.LineMeaning.{ParsedLine, BoundLine, SplitLine, parsed_integer, parsed_natural, parsed_naturals}
 use Rattle.optimality.specs.LineMeaning.{named_numbers, parsed_certificate_line}
-use Rattle.optimality.specs.inside.LineMeaning.{bound_behind, split_behind}
+use Rattle.optimality.specs.inside.LineMeaning.{bound_after, split_after}
 use Rattle.optimality.proofs.LineFacts.{line_by_word}
 use Rattle.optimality.specs.Shows.{leaf_value, may_have}
 use Rattle.optimality.specs.Sizes.{IsLargeFrom, IsLargeLine}
-use Rattle.optimality.specs.Verdict.{behind, fault_from, taken}
+use Rattle.optimality.specs.Verdict.{open_after, fault_from, taken}
 use Rattle.optimality.specs.declared.refusal.Limit.TheVariants as limits
 use Rattle.optimality.specs.declared.checker.OpenSplit.{OpenSplit}
 use Rattle.optimality.specs.declared.refusal.Refusal.{Refusal}
@@ -78,7 +78,7 @@ named-not names unknown h (name ∷ token ∷ fs) =
     (λ place. in-turn (parsed_integer (number token)) (λ n. Ok (place, n)) (integer-not (number token)) (λ n. tt)))
     (λ term. in-turn (named_numbers names unknown fs) (λ form. Ok (term ∷ form)) (named-not names unknown h fs) (λ form. tt))
 
-bound-not : (p : Table) (depth : ℕ) (fs : List (List ℕ)) → NotLarge (bound_behind p depth fs)
+bound-not : (p : Table) (depth : ℕ) (fs : List (List ℕ)) → NotLarge (bound_after p depth fs)
 bound-not p depth [] = λ e. absurd cc
 bound-not p depth (token ∷ fs) =
     in-turn (parsed_natural token) _ (natural-not token)
@@ -86,7 +86,7 @@ bound-not p depth (token ∷ fs) =
     (λ ys. in-turn (named_numbers (row_names p) UnknownRow ys.1) _ (named-not (row_names p) UnknownRow (λ e. absurd cc) ys.1)
     (λ rows. either (list_all (may_have p.rows) rows) (Ok (BoundLine scale ys.0 rows)) (Err Sign) tt (λ e. absurd cc))))
 
-split-not : (p : Table) (fs : List (List ℕ)) → NotLarge (split_behind p fs)
+split-not : (p : Table) (fs : List (List ℕ)) → NotLarge (split_after p fs)
 split-not p [] = λ e. absurd cc
 split-not p (token ∷ fs) =
     in-turn (parsed_integer (number token)) _ (integer-not (number token))
@@ -95,17 +95,17 @@ split-not p (token ∷ fs) =
 line-not : (p : Table) (depth : ℕ) (fs : List (List ℕ)) → NotLarge (parsed_certificate_line p depth fs)
 line-not p depth [] = λ e. absurd cc
 line-not p depth (word ∷ fs) =
-    subst NotLarge (sym (line_by_word p depth word fs)) (either (bytes_eq word (codes "split")) (split_behind p fs)
-    (if bytes_eq word (codes "bound") then bound_behind p depth fs else Err Fields) (split-not p fs)
-    (either (bytes_eq word (codes "bound")) (bound_behind p depth fs) (Err Fields) (bound-not p depth fs) (λ e. absurd cc)))
+    subst NotLarge (sym (line_by_word p depth word fs)) (either (bytes_eq word (codes "split")) (split_after p fs)
+    (if bytes_eq word (codes "bound") then bound_after p depth fs else Err Fields) (split-not p fs)
+    (either (bytes_eq word (codes "bound")) (bound_after p depth fs) (Err Fields) (bound-not p depth fs) (λ e. absurd cc)))
 
 taken-not : (p : Table) (least : ℤ) (branches : List Branch) (parsed : ParsedLine) → NotLarge (taken p least branches parsed)
 taken-not p least branches (SplitLine form most) = tt
 taken-not p least branches (BoundLine scale ys rows) =
     either (int_lt (pos scale *ℤ (least -ℤ pos 1)) (leaf_value p (cuts_above branches) scale ys rows)) (Ok (closed branches)) (Err NotShown) tt (λ e. absurd cc)
 
-behind-not : (p : Table) (least : ℤ) (branches : Option (List Branch)) (line : List ℕ) → NotLarge (behind p least branches line)
-behind-not p least branches line = by (is_skipped line)
+after-not : (p : Table) (least : ℤ) (branches : Option (List Branch)) (line : List ℕ) → NotLarge (open_after p least branches line)
+after-not p least branches line = by (is_skipped line)
   where
     by : (b : Bool) → NotLarge (if b then Ok branches else and_then (ok_or branches Beyond)
         (λ above. and_then (parsed_certificate_line p (length above) (fields line)) (taken p least above)))
@@ -124,7 +124,7 @@ parsed-not (Err other) kind h e = λ same. let is : other ≡ kind = cc in h (is
 -- the line that is refused as too large
 pub refused-large : (p : Table) (least : ℤ) (branches : Option (List Branch)) (place : ℕ) (line : List ℕ) (lines : List (List ℕ))
     (splits : List OpenSplit) (refusal : Refusal) (fault : CertificateFault)
-    → IsRefusedCertificate (place + 1) refusal fault → AnswersAlike p least splits (Err refusal) (behind p least branches line)
+    → IsRefusedCertificate (place + 1) refusal fault → AnswersAlike p least splits (Err refusal) (open_after p least branches line)
     → RefusedLargeOnly {X = Bool} (IsLargeLine p least branches line) (Err refusal)
     → fault.kind ≡ TooLarge → IsLargeFrom p least (Ok branches) place (line ∷ lines) fault.line
 refused-large p least branches place line lines splits (Stopped limits.Memory) fault refused parsed large e = absurd cc
@@ -133,17 +133,17 @@ refused-large p least branches place line lines splits (Stopped limits.TooLarge)
     inl (omega arith, large)
 refused-large p least branches place line lines splits (Fault kind) fault refused parsed large e =
     let of_fault : fault.kind ≡ kind = ap (λ (f : CertificateFault). f.kind) refused in
-    absurd (parsed-not (behind p least branches line) kind (behind-not p least branches line) parsed (sym of_fault ∙ e))
+    absurd (parsed-not (open_after p least branches line) kind (after-not p least branches line) parsed (sym of_fault ∙ e))
 
 -- a line more
 pub line-passed : (p : Table) (least : ℤ) (branches after : Option (List Branch)) (place : ℕ) (line : List ℕ) (lines rest : List (List ℕ))
     (first : Option (ℕ × CertificateFaultKind)) (IsLarge : ℕ → Type 0) → lines ≡ line ∷ rest
-    → GoOnAlike p least (behind p least branches line) (Ok after) → fault_from p least (Ok branches) place lines ≡ first
+    → GoOnAlike p least (open_after p least branches line) (Ok after) → fault_from p least (Ok branches) place lines ≡ first
     → ((number : ℕ) → IsLargeFrom p least (Ok branches) place lines number → IsLarge number)
     → (fault_from p least (Ok after) (place + 1) rest ≡ first) × ((number : ℕ) → IsLargeFrom p least (Ok after) (place + 1) rest number → IsLarge number)
 line-passed p least branches after place line lines rest first IsLarge e alike before large =
     let next : place + 1 ≡ suc place = omega arith in
-    let now : fault_from p least (behind p least branches line) (suc place) rest ≡ first =
+    let now : fault_from p least (open_after p least branches line) (suc place) rest ≡ first =
     subst (λ (ls : List (List ℕ)). fault_from p least (Ok branches) place ls ≡ first) e before in (
       subst (λ (k : ℕ). fault_from p least (Ok after) k rest ≡ first) (sym next) (sym (alike (suc place) rest).0 ∙ now),
       λ number h.

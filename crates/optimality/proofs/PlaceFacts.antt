@@ -31,8 +31,8 @@ zero-at numbers place q = by_lt_z (pos place) (pos (length numbers))
     by : length numbers ≤ place → (b : Bool) → (place == q) ≡ b → number_at (slice_set numbers place (pos 0)) q ≡ cond b (pos 0) (number_at numbers q)
     by past true e =
         let same : q ≡ place = grind (arith, nat_tests) in
-        let behind : length (slice_set numbers place (pos 0)) ≤ q = omega (arith, length-set numbers place (pos 0)) in
-        get_or_past (slice_set numbers place (pos 0)) q (pos 0) behind
+        let after : length (slice_set numbers place (pos 0)) ≤ q = omega (arith, length-set numbers place (pos 0)) in
+        get_or_past (slice_set numbers place (pos 0)) q (pos 0) after
     by past false e = let other : q ≢ place = grind (arith, nat_tests) in get_or-set_other numbers place q (pos 0) (pos 0) other
 
 -- ---------- listed places ----------

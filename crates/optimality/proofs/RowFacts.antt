@@ -144,11 +144,11 @@ entry-is m row (e ∷ es) h = by (entry-is m row es h.3) (e.0 == row) refl
     by rest false q = omega (arith, ints)
 
 -- no entry comes after the last row
-none-behind : (m row : ℕ) (es : List (ℕ × ℤ)) → AreEntries m es → m ≤ row → number_in es row ≡ pos 0
-none-behind m row [] h l = refl
-none-behind m row (e ∷ es) h l =
+none-after : (m row : ℕ) (es : List (ℕ × ℤ)) → AreEntries m es → m ≤ row → number_in es row ≡ pos 0
+none-after m row [] h l = refl
+none-after m row (e ∷ es) h l =
     let other : (e.0 == row) ≡ false = grind (arith, nat_tests, h.0) in
-    rw (other, none-behind m row es h.3 l) refl
+    rw (other, none-after m row es h.3 l) refl
 
 pub entries-of : (m : ℕ) (cs : List TableColumn) (i : ℕ) (c : TableColumn) → AllByRecursion (λ d. AreEntries m d.entries) cs
     → slice_get cs i ≡ Some c → AreEntries m c.entries
@@ -173,8 +173,8 @@ row-form-at p h row i c at =
     omega (arith, ints))
     (λ more.
     let l : m ≤ row = omega (arith, ints) in
-    let behind : length (row_forms p) ≤ row = omega (arith, length-columns 0 p.columns none, length-replicate {A = Form} m []) in
-    ap (λ (form : Form). number_in form i) (get_or_past (row_forms p) row [] behind) ∙ sym (none-behind m row c.entries entries l)
+    let after : length (row_forms p) ≤ row = omega (arith, length-columns 0 p.columns none, length-replicate {A = Form} m []) in
+    ap (λ (form : Form). number_in form i) (get_or_past (row_forms p) row [] after) ∙ sym (none-after m row c.entries entries l)
     ∙ entry-is m row c.entries entries)
 
 -- the entry at a place, added before those after it

@@ -92,6 +92,6 @@ row-form-within p h row =
     omega arith)
     (λ more.
     let l : m ≤ row = omega (arith, ints) in
-    let behind : length (row_forms p) ≤ row = omega (arith, length-columns 0 p.columns none, length-replicate {A = Form} m []) in
-    let empty : held (row_forms p) row ≡ 0 = ap form_size (get_or_past (row_forms p) row [] behind) in
+    let after : length (row_forms p) ≤ row = omega (arith, length-columns 0 p.columns none, length-replicate {A = Form} m []) in
+    let empty : held (row_forms p) row ≡ 0 = ap form_size (get_or_past (row_forms p) row [] after) in
     omega arith)

@@ -21,7 +21,7 @@ use Rattle.auction_terms.specs.Decimals.{number}
 use Rattle.program_rows.specs.ProgramNames.{row_names, column_names}
 use Rattle.optimality.specs.LineMeaning.{ParsedLine, BoundLine, SplitLine, parsed_natural, parsed_naturals, parsed_integer}
 use Rattle.optimality.specs.LineMeaning.{named_numbers, parsed_certificate_line}
-use Rattle.optimality.specs.inside.LineMeaning.{bound_behind, split_behind}
+use Rattle.optimality.specs.inside.LineMeaning.{bound_after, split_after}
 use Rattle.optimality.proofs.LineFacts.{line_by_word}
 use Rattle.optimality.specs.CertificateText.{TellsCertificate, IsShownBy}
 use Rattle.optimality.specs.Branches.{Branch, At, cuts_above, closed}
@@ -131,7 +131,7 @@ signed p found rows s scale y ys e = by (list_all (may_have p.rows) found) refl 
     by false t e = absurd cc
 
 bound-signed : (p : Table) (depth : ℕ) (fs : List (List ℕ)) (scale : ℕ) (ys : List ℕ) (rows : Form)
-    → bound_behind p depth fs ≡ Ok (BoundLine scale ys rows) → list_all (may_have p.rows) rows ≡ true
+    → bound_after p depth fs ≡ Ok (BoundLine scale ys rows) → list_all (may_have p.rows) rows ≡ true
 bound-signed p depth [] scale ys rows e = absurd cc
 bound-signed p depth (token ∷ fs) scale ys rows e =
     let a = passed (parsed_natural token) (λ s. and_then (parsed_naturals depth fs)
@@ -143,7 +143,7 @@ bound-signed p depth (token ∷ fs) scale ys rows e =
     Sign) (BoundLine scale ys rows) b.1 in
     signed p d.0 rows a.0 scale b.0.0 ys d.1
 
-split-apart : (p : Table) (fs : List (List ℕ)) (scale : ℕ) (ys : List ℕ) (rows : Form) → split_behind p fs ≡ Ok (BoundLine scale ys rows) → ⊥
+split-apart : (p : Table) (fs : List (List ℕ)) (scale : ℕ) (ys : List ℕ) (rows : Form) → split_after p fs ≡ Ok (BoundLine scale ys rows) → ⊥
 split-apart p [] scale ys rows e = cc
 split-apart p (token ∷ fs) scale ys rows e =
     let a = passed (parsed_integer (number token)) (λ most. and_then (named_numbers (column_names p) _ fs)
@@ -156,7 +156,7 @@ line-signed : (p : Table) (depth : ℕ) (fs : List (List ℕ)) (scale : ℕ) (ys
 line-signed p depth [] scale ys rows e = absurd cc
 line-signed p depth (word ∷ fs) scale ys rows e = by (bytes_eq word (codes "split")) (bytes_eq word (codes "bound")) (sym (line_by_word p depth word fs) ∙ e)
   where
-    by : (b d : Bool) → (if b then split_behind p fs else (if d then bound_behind p depth fs else Err Fields))
+    by : (b d : Bool) → (if b then split_after p fs else (if d then bound_after p depth fs else Err Fields))
         ≡ Ok (BoundLine scale ys rows) → list_all (may_have p.rows) rows ≡ true
     by true d e = absurd (split-apart p fs scale ys rows e)
     by false true e = bound-signed p depth fs scale ys rows e

@@ -10,7 +10,7 @@ use Rattle.optimality.specs.Branches.{Branch, cuts_above}
 use Rattle.optimality.specs.Certificates.{Form, Cut}
 use Rattle.optimality.specs.LineMeaning.{ParsedLine, BoundLine, parsed_certificate_line}
 use Rattle.optimality.specs.Reduced.{right_side_at}
-use Rattle.optimality.specs.Verdict.{behind}
+use Rattle.optimality.specs.Verdict.{open_after}
 
 -- the sum of these sizes
 abbrev pub size_of : {X : Type 0} → (X → ℕ) → List X → ℕ
@@ -52,7 +52,7 @@ IsLargeLine p least (Some above) line = IsLargeParsed p least above (parsed_cert
 -- the line of this number is such a leaf, and no line before it has a fault; `place` lines were before these
 abbrev pub IsLargeFrom : Table → ℤ → Result (Option (List Branch)) CertificateFaultKind → ℕ → List (List ℕ) → ℕ → Type 0
 IsLargeFrom p least (Ok branches) place (line ∷ lines) number = ((suc place ≡ number) × IsLargeLine p least branches line)
-    ⊎ IsLargeFrom p least (behind p least branches line) (suc place) lines number
+    ⊎ IsLargeFrom p least (open_after p least branches line) (suc place) lines number
 IsLargeFrom p least parsed place lines number = ⊥
 
 -- the line of this number in a text that is to show `least`

@@ -18,8 +18,8 @@ taken p least branches (BoundLine scale ys rows) =
     if int_lt (pos scale *ℤ (least -ℤ pos 1)) (leaf_value p (cuts_above branches) scale ys rows) then Ok (closed branches) else Err NotShown
 
 -- what is open after a line; nothing may follow the last subtree
-abbrev pub behind : Table → ℤ → Option (List Branch) → List ℕ → Result (Option (List Branch)) CertificateFaultKind
-behind p least branches line =
+abbrev pub open_after : Table → ℤ → Option (List Branch) → List ℕ → Result (Option (List Branch)) CertificateFaultKind
+open_after p least branches line =
     if is_skipped line then Ok branches else and_then (ok_or branches Beyond)
     (λ above. and_then (parsed_certificate_line p (length above) (fields line)) (taken p least above))
 
@@ -27,7 +27,7 @@ behind p least branches line =
 abbrev pub fault_from : Table → ℤ → Result (Option (List Branch)) CertificateFaultKind → ℕ → List (List ℕ) → Option (ℕ × CertificateFaultKind)
 fault_from p least (Err kind) place lines = Some (place, kind)
 fault_from p least (Ok branches) place [] = option_map (λ b. (place, NoEnd)) branches
-fault_from p least (Ok branches) place (line ∷ lines) = fault_from p least (behind p least branches line) (suc place) lines
+fault_from p least (Ok branches) place (line ∷ lines) = fault_from p least (open_after p least branches line) (suc place) lines
 
 -- the first fault of a text that is to show `least`
 abbrev pub certificate_fault : Table → ℤ → List ℕ → Option (ℕ × CertificateFaultKind)

@@ -7,14 +7,14 @@ ghost use Rattle.optimality.specs.inside.Answers.{AnswersSeen, IsStopped, Answer
 ghost use Rattle.optimality.specs.inside.Checking.{IsPrepared};
 ghost use Rattle.optimality.specs.inside.Stopping.{TooLargeOnly, RefusedLargeOnly};
 ghost use Rattle.optimality.specs.LineMeaning.{SplitLine, BoundLine, parsed_certificate_line};
-ghost use Rattle.optimality.specs.inside.LineMeaning.{split_behind, bound_behind};
+ghost use Rattle.optimality.specs.inside.LineMeaning.{split_after, bound_after};
 ghost use Rattle.std.specs.List.{list_all};
 ghost use Rattle.optimality.specs.inside.Branches.{branches_of, opened, AnswersAlike};
 ghost use Rattle.optimality.specs.Branches.{closed, cuts_above};
 ghost use Rattle.auction_terms.specs.Stages.{and_then};
 ghost use Rattle.optimality.specs.Shows.{leaf_value};
 ghost use Rattle.optimality.specs.Sizes.{IsLargeLine, IsLargeParsed, leaf_size};
-ghost use Rattle.optimality.specs.Verdict.{behind, taken};
+ghost use Rattle.optimality.specs.Verdict.{open_after, taken};
 ghost use Rattle.optimality.specs.Shows as shows;
 
 use crate::checker::{Checker, Leaf, OpenSplit};
@@ -38,7 +38,7 @@ pub struct ParsedSplit {
 fn take_split(checker: &Checker, text: &[u8]) -> Result<ParsedSplit, Refusal>
     requires { IsPrepared checker.now }
     ensures { AnswersSeen (λ split. SplitLine split.form.items split.most) result
-        (split_behind checker.now.program.now (fields text.now)) }
+        (split_after checker.now.program.now (fields text.now)) }
 {
     let Some(token) = next_field(text) else {
         return Err(Refusal::Fault(CertificateFaultKind::Fields));
@@ -88,7 +88,7 @@ fn are_signed(program: &Selection<'_>, rows: &[(usize, i64)]) -> bool
 fn take_leaf(checker: &Checker, depth: usize, text: &[u8]) -> Result<Leaf, Refusal>
     requires { IsPrepared checker.now }
     ensures parsed { AnswersSeen (λ leaf. BoundLine leaf.scale leaf.multipliers.items leaf.rows.items)
-        result (bound_behind checker.now.program.now depth (fields text.now)) }
+        result (bound_after checker.now.program.now depth (fields text.now)) }
     ensures count { IfOk result (λ leaf. length leaf.multipliers.items ≡ depth) }
 {
     let Some(token) = next_field(text) else {
@@ -137,7 +137,7 @@ fn take_split_line(
 ) -> Result<bool, Refusal>
     requires { IsPrepared checker.now }
     ensures value { AnswersAlike checker.now.program.now checker.now.least splits.new.items result
-        (and_then (split_behind checker.now.program.now (fields text.now))
+        (and_then (split_after checker.now.program.now (fields text.now))
         (taken checker.now.program.now checker.now.least (branches_of splits.old.items))) }
     ensures too_large { RefusedLargeOnly ⊥ result }
 {
@@ -174,10 +174,10 @@ fn take_leaf_line(
 ) -> Result<bool, Refusal>
     requires { IsPrepared checker.now }
     ensures value { AnswersClosed (λ is_last. opened is_last splits.new.items) result
-        (and_then (bound_behind checker.now.program.now (length splits.old.items) (fields text.now))
+        (and_then (bound_after checker.now.program.now (length splits.old.items) (fields text.now))
         (taken checker.now.program.now checker.now.least (branches_of splits.old.items))) }
     ensures too_large { RefusedLargeOnly (IsLargeParsed checker.now.program.now checker.now.least
-        (branches_of splits.old.items) (bound_behind checker.now.program.now
+        (branches_of splits.old.items) (bound_after checker.now.program.now
         (length splits.old.items) (fields text.now))) result }
 {
     let leaf = take_leaf(checker, splits.len(), text)?;
@@ -246,7 +246,7 @@ pub fn take_any(
 ) -> Result<bool, Refusal>
     requires { IsPrepared checker.now }
     ensures value { AnswersAlike checker.now.program.now checker.now.least splits.new.items result
-        (behind checker.now.program.now checker.now.least (opened is_last splits.old.items)
+        (open_after checker.now.program.now checker.now.least (opened is_last splits.old.items)
         line.now) }
     ensures too_large { RefusedLargeOnly (IsLargeLine checker.now.program.now checker.now.least
         (opened is_last splits.old.items) line.now) result }

@@ -156,17 +156,17 @@ fn one_above(program: &Selection<'_>, values: &Point) -> i128
 
 /// What a certificate is checked against, and the splits that are open above it.
 #[derive(Drop)]
-struct BehindSplit<'p> {
+struct AfterSplit<'p> {
     checker: Checker<'p>,
     splits: Vec<OpenSplit>,
 }
 
-fn behind_split<'p>(
+fn after_split<'p>(
     alloc: Global,
     text: &[u8],
     program: &'p Selection<'p>,
     values: &Point,
-) -> Result<BehindSplit<'p>, AllocError>
+) -> Result<AfterSplit<'p>, AllocError>
     requires { length values.now ≡ length program.now.columns }
     ensures prepared { IfOk result (λ start. IsPrepared start.checker) }
     ensures program { IfOk result (λ start. start.checker.program.now ≡ program.now) }
@@ -177,7 +177,7 @@ fn behind_split<'p>(
 {
     let splits = open_splits(alloc, program, values)?;
     let checker = new_checker(alloc, text, program, one_above(program, values))?;
-    Ok(BehindSplit { checker, splits })
+    Ok(AfterSplit { checker, splits })
 }
 
 /// Checks that a text describes a certificate that each other point of the program has a higher objective than these values. It is
@@ -199,8 +199,8 @@ pub fn check_only(
         values.now text.now fault.line) }
 {
     let selection = Selection::whole(program);
-    match behind_split(alloc, text, &selection, values) {
-        Ok(BehindSplit { checker, splits }) => check_lines(&checker, splits, text),
+    match after_split(alloc, text, &selection, values) {
+        Ok(AfterSplit { checker, splits }) => check_lines(&checker, splits, text),
         Err(_) => Err(refused(0, Refusal::Stopped(Limit::Memory))),
     }
 }

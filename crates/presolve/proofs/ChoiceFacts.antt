@@ -42,9 +42,9 @@ is_of c o h = let e = and_parts (c.bidder == o.bidder) (c.bid == o.number) h in 
 
 module _ (lots : Lots) (q : Offer → Bool) (c : Choice) (earlier : (o : Offer) → q o ≡ true → IsEarlier (choice_of o) c) where
   -- the offer of a choice comes after those of earlier choices
-  one_behind : (xs : List Offer) → AreOffers lots xs → filter (λ o. q o || is_offer_of c o) xs ≡ filter q xs ++ filter (is_offer_of c) xs
-  one_behind [] h = refl
-  one_behind (o ∷ xs) h = by (q o) (is_offer_of c o) refl refl (one_behind xs h.2)
+  one_after : (xs : List Offer) → AreOffers lots xs → filter (λ o. q o || is_offer_of c o) xs ≡ filter q xs ++ filter (is_offer_of c) xs
+  one_after [] h = refl
+  one_after (o ∷ xs) h = by (q o) (is_offer_of c o) refl refl (one_after xs h.2)
     where
       by : (a b : Bool) → q o ≡ a → is_offer_of c o ≡ b → filter (λ p. q p || is_offer_of c p) xs ≡ filter q xs ++ filter (is_offer_of c) xs
           → filter (λ p. q p || is_offer_of c p) (o ∷ xs) ≡ filter q (o ∷ xs) ++ filter (is_offer_of c) (o ∷ xs)
@@ -54,7 +54,7 @@ module _ (lots : Lots) (q : Offer → Bool) (c : Choice) (earlier : (o : Offer) 
       by false true e f more =
           let same = is_of c o f in
           let none : filter q xs ≡ [] = none_left q xs (all_agree (IsBefore o) (λ p. q p ≡ false) xs
-          (λ p behind. false_from_ne_true (q p) (λ t. let before = earlier p t in absurd (grind arith))) h.1) in
+          (λ p after. false_from_ne_true (q p) (λ t. let before = earlier p t in absurd (grind arith))) h.1) in
           rw (e, f, none) (ap (λ (rest : List Offer). o ∷ rest) (rw none at more))
 
 -- ---------- the offer of a choice ----------
@@ -183,7 +183,7 @@ module _ (lots : Lots) (book : Book) (group : ℕ → Bool) (within : IsBook lot
     one_more place less at earlier =
         filter_agree (λ o. has_choice (take (place + 1) sorted) o.bidder o.number)
         (λ o. has_choice (take place sorted) o.bidder o.number || is_offer_of c o) (has_more place less at) (kept_of lots book group)
-        ∙ one_behind lots (λ o. has_choice (take place sorted) o.bidder o.number) c (λ o has.
+        ∙ one_after lots (λ o. has_choice (take place sorted) o.bidder o.number) c (λ o has.
         let w = found o place (omega arith) has in
         let same = is_of (get_or sorted w.0 c) o w.2 in
         let before = earlier w.0 w.1 in
@@ -267,13 +267,13 @@ cases_le x y l = ⊎_elim (λ less. inl less) (λ least. inr (omega arith)) (cas
 strictly : (a m b n : ℕ) → IsUpTo a m b n → (a ≡ b → m ≡ n → ⊥) → (a < b) ⊎ ((a ≡ b) × (m < n))
 strictly a m b n up differ = ⊎_elim (λ l. inl l) (λ e. ⊎_elim (λ l. inr (e.0, l)) (λ same. absurd (differ e.0 same)) (cases_le m n e.1)) up
 
-strictly_behind : (a m b n c o : ℕ) → IsUpTo a m b n → (b < c) ⊎ ((b ≡ c) × (n < o)) → (a < c) ⊎ ((a ≡ c) × (m < o))
-strictly_behind a m b n c o up later = grind arith
+strictly_after : (a m b n c o : ℕ) → IsUpTo a m b n → (b < c) ⊎ ((b ≡ c) × (n < o)) → (a < c) ⊎ ((a ≡ c) × (m < o))
+strictly_after a m b n c o up later = grind arith
 
 -- a choice that isn't the one before it comes after all before it
-pub behind_all : (sorted : List Choice) (place : ℕ) (c : Choice) → AllPairs IsInOrder sorted → place < length sorted
+pub after_all : (sorted : List Choice) (place : ℕ) (c : Choice) → AllPairs IsInOrder sorted → place < length sorted
     → slice_get sorted place ≡ Some c → (IsRepeated sorted place → ⊥) → (k : ℕ) → k < place → IsEarlier (get_or sorted k c) c
-behind_all sorted place c rising less at new k before =
+after_all sorted place c rising less at new k before =
     let last = get_or sorted (place - 1) c in
     let here : get_or sorted place c ≡ c = get_or_from_slice_get sorted place c c at in
     let next : IsInOrder last c = subst (IsInOrder last) here (rising (place - 1) place c (omega arith) less) in
@@ -281,7 +281,7 @@ behind_all sorted place c rising less at new k before =
     let same : last ≡ c = ap₂ (λ (x y : ℕ). record { bidder = x; bid = y }) b n in
     new (omega arith, at ∙ ap (λ (d : Choice). Some d) (sym same) ∙ sym (slice_get-get_or sorted (place - 1) c (omega arith)))) in
     ⊎_elim
-    (λ l. strictly_behind _ _ last.bidder last.bid c.bidder c.bid (rising k (place - 1) c l (omega arith)) ends)
+    (λ l. strictly_after _ _ last.bidder last.bid c.bidder c.bid (rising k (place - 1) c l (omega arith)) ends)
     (λ same. subst (λ (n : ℕ). IsEarlier (get_or sorted n c) c) (sym same) ends)
     (cases_le k (place - 1) (omega arith))
 

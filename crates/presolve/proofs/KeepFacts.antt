@@ -73,12 +73,12 @@ pub flagged_more : (b i : ℕ) (bids : List Bid) (flags : List Bool) (x : Bid) (
     → offers (kept ++ k ∷ []) ++ flagged_from b (1 + (i + 1)) (drop (i + 1) bids) (drop (i + 1) flags) ≡ all
 flagged_more b i bids flags x k kept all within long is set own so_far =
     let rest = flagged_from b (1 + (i + 1)) (drop (i + 1) bids) (drop (i + 1) flags) in
-    let behind : 1 + i + 1 ≡ 1 + (i + 1) = omega arith in
+    let after : 1 + i + 1 ≡ 1 + (i + 1) = omega arith in
     let number : i + 1 ≡ 1 + i = omega arith in
     ap (λ (os : List Offer). os ++ rest) (map-append offer_of kept (k ∷ []))
     ∙ append_assoc (offers kept) (offer_of k ∷ []) rest
     ∙ ap (λ (o : Offer). offers kept ++ o ∷ rest) (own ∙ ap (λ (n : ℕ). record { bidder = b; number = n; bid = x }) number)
-    ∙ ap (λ (n : ℕ). offers kept ++ record { bidder = b; number = 1 + i; bid = x } ∷ flagged_from b n (drop (i + 1) bids) (drop (i + 1) flags)) (sym behind)
+    ∙ ap (λ (n : ℕ). offers kept ++ record { bidder = b; number = 1 + i; bid = x } ∷ flagged_from b n (drop (i + 1) bids) (drop (i + 1) flags)) (sym after)
     ∙ ap (λ (os : List Offer). offers kept ++ os) (sym (flagged_at b i (1 + i) bids flags x true within long is set))
     ∙ so_far
 
@@ -88,8 +88,8 @@ pub flagged_less : (b i : ℕ) (bids : List Bid) (flags : List Bool) (x : Bid) (
     → offers kept ++ flagged_from b (1 + i) (drop i bids) (drop i flags) ≡ all
     → offers kept ++ flagged_from b (1 + (i + 1)) (drop (i + 1) bids) (drop (i + 1) flags) ≡ all
 flagged_less b i bids flags x kept all within long is unset so_far =
-    let behind : 1 + i + 1 ≡ 1 + (i + 1) = omega arith in
-    ap (λ (n : ℕ). offers kept ++ flagged_from b n (drop (i + 1) bids) (drop (i + 1) flags)) (sym behind)
+    let after : 1 + i + 1 ≡ 1 + (i + 1) = omega arith in
+    ap (λ (n : ℕ). offers kept ++ flagged_from b n (drop (i + 1) bids) (drop (i + 1) flags)) (sym after)
     ∙ ap (λ (os : List Offer). offers kept ++ os) (sym (flagged_at b i (1 + i) bids flags x false within long is unset))
     ∙ so_far
 

@@ -109,9 +109,9 @@ is_sieve rivals numbers number sieve lower same made =
     }
 
 -- a rival that isn't smaller doesn't beat the bid
-none_behind : (x : SizedBid) (rivals : List SizedBid) (place i : ℕ) (d : SizedBid) → AllPairs (λ (s t : SizedBid). s.size ≤ t.size) rivals
+none_after : (x : SizedBid) (rivals : List SizedBid) (place i : ℕ) (d : SizedBid) → AllPairs (λ (s t : SizedBid). s.size ≤ t.size) rivals
     → x ≡ slice_index_or rivals place x → place ≤ i → i < length rivals → beats x (slice_index_or rivals i d) ≡ false
-none_behind x rivals place i d rising is behind within =
+none_after x rivals place i d rising is after within =
     let s : SizedBid = slice_index_or rivals i d in
     let mine : x ≡ slice_index_or rivals place d = is ∙ get_or_default rivals place x d (omega arith) in
     let up : x.size ≤ s.size = ⊎_elim
@@ -128,7 +128,7 @@ pub stands_before : (x : SizedBid) (rivals : List SizedBid) (place i : ℕ) (d :
 stands_before x rivals place i d rising is within b =
     ⊎_elim
     (λ (before : i < place). before)
-    (λ (behind : place ≤ i). absurd (false≢true (sym (none_behind x rivals place i d rising is behind within) ∙ b)))
+    (λ (after : place ≤ i). absurd (false≢true (sym (none_after x rivals place i d rising is after within) ∙ b)))
     (cases_lt i place)
 
 -- words of 0 mark no place

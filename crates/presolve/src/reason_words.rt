@@ -93,12 +93,12 @@ fn add_over_cap<S: Sink>(
 }
 
 // Adds words and a number, and words after it.
-fn add_number<S: Sink>(writer: &mut Writer<'_, S>, before: &[u8], number: u64, behind: &[u8])
+fn add_number<S: Sink>(writer: &mut Writer<'_, S>, before: &[u8], number: u64, after: &[u8])
     ensures { Adds S.taken S.failures writer.old writer.new
-        (before.now ++ (decimal number ++ behind.now)) }
+        (before.now ++ (decimal number ++ after.now)) }
 {
     let mut digits = Buffer::new();
-    let pieces: [&[u8]; 3] = [before, digits.format(number).as_bytes(), behind];
+    let pieces: [&[u8]; 3] = [before, digits.format(number).as_bytes(), after];
     writer.add_pieces(&pieces);
 }
 

@@ -220,14 +220,14 @@ listed t offers first more all n m f c p categories pools =
     ∙ ap₂ (λ (k l : ℕ). bidder_subjects offers ++ (map Category (range_with_len 0 k) ++ map Pool (range_with_len 0 l))) count caps
 
 -- few bidders
-few_behind : (low : ℕ) (bs : List ℕ) → low ≤ MOST_BIDDERS → AllByRecursion (λ b. low < b) bs → AllByRecursion (λ b. b ≤ MOST_BIDDERS) bs
+few_after : (low : ℕ) (bs : List ℕ) → low ≤ MOST_BIDDERS → AllByRecursion (λ b. low < b) bs → AllByRecursion (λ b. b ≤ MOST_BIDDERS) bs
     → Rises bs → length bs + low ≤ MOST_BIDDERS
-few_behind low [] l a h r = omega arith
-few_behind low (b ∷ bs) l a h r = let rest = few_behind b bs h.0 r.0 h.1 r.1 in let first = a.0 in omega arith
+few_after low [] l a h r = omega arith
+few_after low (b ∷ bs) l a h r = let rest = few_after b bs h.0 r.0 h.1 r.1 in let first = a.0 in omega arith
 
 few : (bs : List ℕ) → AllByRecursion (λ b. b ≤ MOST_BIDDERS) bs → Rises bs → length bs ≤ MOST_BIDDERS + 1
 few [] h r = omega arith
-few (b ∷ bs) h r = let rest = few_behind b bs h.0 r.0 h.1 r.1 in omega arith
+few (b ∷ bs) h r = let rest = few_after b bs h.0 r.0 h.1 r.1 in omega arith
 
 pub few_bidders : (lots : Lots) (offers : List Offer) → AreOffers lots offers → length (bidder_subjects offers) ≤ MOST_BIDDERS + 1
 few_bidders lots offers h =

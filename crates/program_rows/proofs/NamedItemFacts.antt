@@ -75,20 +75,20 @@ rows_equal r s name kind side = λ i. record { name = name i; kind = kind i; rig
 
 -- an item is found by its own name if names differ
 module _ {X : Type 0} (name_of : X → List ℕ) where
-  pub behind : (x : X) (xs ys : List X) → AllByRecursion (λ n. bytes_eq (name_of x) n ≡ false) (map name_of ys)
+  pub after : (x : X) (xs ys : List X) → AllByRecursion (λ n. bytes_eq (name_of x) n ≡ false) (map name_of ys)
       → AllByRecursion (λ y. find (λ z. bytes_eq (name_of y) (name_of z)) xs ≡ Some y) ys
       → AllByRecursion (λ y. find (λ z. bytes_eq (name_of y) (name_of z)) (x ∷ xs) ≡ Some y) ys
-  behind x xs [] d h = tt
-  behind x xs (y ∷ ys) d h =
+  after x xs [] d h = tt
+  after x xs (y ∷ ys) d h =
       let apart : bytes_eq (name_of y) (name_of x) ≡ false = bytes_flip (name_of x) (name_of y) d.0 in
-      (rw apart h.0, behind x xs ys d.1 h.1)
+      (rw apart h.0, after x xs ys d.1 h.1)
 
   pub own : (xs : List X) → IsDistinct bytes_eq (map name_of xs) → AllByRecursion (λ x. find (λ y. bytes_eq (name_of x) (name_of y)) xs ≡ Some x) xs
   unfolding IsDistinct
   own [] d = tt
   own (x ∷ xs) d =
       let here : bytes_eq (name_of x) (name_of x) ≡ true = (bytes_eq-Decides (name_of x) (name_of x)).1 refl in
-      (rw here refl, behind x xs xs d.0 (own xs d.1))
+      (rw here refl, after x xs xs d.0 (own xs d.1))
 
 -- ---------- places by name ----------
 

@@ -90,15 +90,15 @@ pub other_letter : (name : List ℕ) → get_or name 0 0 ≢ 88 → None ≡ col
 other_letter name h = sym (none_named name (λ b j i e. h (ap (λ (xs : List ℕ). get_or xs 0 0) e)))
 
 -- what follows the letter
-behind_letter : (name : List ℕ) (b j : ℕ) → name ≡ bid_name b j → drop 1 name ≡ decimal b ++ 95 ∷ decimal j
-behind_letter name b j e = ap (λ (xs : List ℕ). drop 1 xs) e
+after_letter : (name : List ℕ) (b j : ℕ) → name ≡ bid_name b j → drop 1 name ≡ decimal b ++ 95 ∷ decimal j
+after_letter name b j e = ap (λ (xs : List ℕ). drop 1 xs) e
 
 bidder_digits : (b j : ℕ) → is_bid b j ≡ true → AllByRecursion (λ d. (d == 95) ≡ false) (decimal b)
 bidder_digits b j h = let most = (bidder_range b j h).1 in no_bar (decimal b) (decimal_is_IsNumeral b (omega arith)).0.1
 
 pub without_bar : (name : List ℕ) → position_or_len (λ (c : ℕ). c == 95) (drop 1 name) ≡ length (drop 1 name) → None ≡ column_bid name
 without_bar name h = sym (none_named name (λ b j i e.
-    let numbers = behind_letter name b j e in
+    let numbers = after_letter name b j e in
     let place = ap (λ (xs : List ℕ). position_or_len (λ (c : ℕ). c == 95) xs) numbers ∙ bar_at (decimal b) (decimal j) (bidder_digits b j i) in
     let count = ap (λ (xs : List ℕ). length xs) numbers ∙ length-append (decimal b) (95 ∷ decimal j) in
     absurd (omega arith)))
@@ -109,7 +109,7 @@ other_bidder name front f never = sym (none_named name (λ b j i e.
     let range = bidder_range b j i in
     let some = range.0 in
     let most = range.1 in
-    let same = f ∙ ap (λ (xs : List ℕ). before_first (λ (c : ℕ). c == 95) xs) (behind_letter name b j e)
+    let same = f ∙ ap (λ (xs : List ℕ). before_first (λ (c : ℕ). c == 95) xs) (after_letter name b j e)
     ∙ before_at (decimal b) (decimal j) (bidder_digits b j i) in
     never b some (omega arith) (sym same)))
 
@@ -119,7 +119,7 @@ other_bid name back f never = sym (none_named name (λ b j i e.
     let range = bid_range b j i in
     let some = range.0 in
     let most = range.1 in
-    let same = f ∙ ap (λ (xs : List ℕ). after_first (λ (c : ℕ). c == 95) xs) (behind_letter name b j e)
+    let same = f ∙ ap (λ (xs : List ℕ). after_first (λ (c : ℕ). c == 95) xs) (after_letter name b j e)
     ∙ after_at (decimal b) (decimal j) (bidder_digits b j i) in
     never j some (omega arith) (sym same)))
 
@@ -151,18 +151,18 @@ out_of_range name b j lb lj e h = sym (none_named name (λ c k i f.
     cc))
 
 -- the parts of a name, as they are cut
-module _ (name numbers : List ℕ) (bar : ℕ) (behind : numbers ≡ drop 1 name) (at : bar ≡ position_or_len (λ (c : ℕ). c == 95) numbers) where
+module _ (name numbers : List ℕ) (bar : ℕ) (after : numbers ≡ drop 1 name) (at : bar ≡ position_or_len (λ (c : ℕ). c == 95) numbers) where
   pub front_is : (front : List ℕ) → front ≡ take bar numbers → front ≡ before_first (λ (c : ℕ). c == 95) (drop 1 name)
-  front_is front f = f ∙ ap (λ (n : ℕ). take n numbers) at ∙ ap (λ (xs : List ℕ). before_first (λ (c : ℕ). c == 95) xs) behind
+  front_is front f = f ∙ ap (λ (n : ℕ). take n numbers) at ∙ ap (λ (xs : List ℕ). before_first (λ (c : ℕ). c == 95) xs) after
 
   pub back_is : (back : List ℕ) → back ≡ drop (bar + 1) numbers → back ≡ after_first (λ (c : ℕ). c == 95) (drop 1 name)
-  back_is back f = f ∙ ap (λ (n : ℕ). drop (n + 1) numbers) at ∙ ap (λ (xs : List ℕ). after_first (λ (c : ℕ). c == 95) xs) behind
+  back_is back f = f ∙ ap (λ (n : ℕ). drop (n + 1) numbers) at ∙ ap (λ (xs : List ℕ). after_first (λ (c : ℕ). c == 95) xs) after
 
   pub bar_at_end : bar ≡ length numbers → position_or_len (λ (c : ℕ). c == 95) (drop 1 name) ≡ length (drop 1 name)
-  bar_at_end e = sym (ap (λ (xs : List ℕ). position_or_len (λ (c : ℕ). c == 95) xs) behind) ∙ sym at ∙ e ∙ ap (λ (xs : List ℕ). length xs) behind
+  bar_at_end e = sym (ap (λ (xs : List ℕ). position_or_len (λ (c : ℕ). c == 95) xs) after) ∙ sym at ∙ e ∙ ap (λ (xs : List ℕ). length xs) after
 
   pub bar_within : bar ≤ length numbers → bar ≢ length numbers → position_or_len (λ (c : ℕ). c == 95) (drop 1 name) < length (drop 1 name)
   bar_within le ne =
-      let place = at ∙ ap (λ (xs : List ℕ). position_or_len (λ (c : ℕ). c == 95) xs) behind in
-      let count = ap (λ (xs : List ℕ). length xs) behind in
+      let place = at ∙ ap (λ (xs : List ℕ). position_or_len (λ (c : ℕ). c == 95) xs) after in
+      let count = ap (λ (xs : List ℕ). length xs) after in
       omega arith

@@ -38,18 +38,18 @@ are-same c d e =
 -- a choice, and the list before and after it
 record Stands (c : Choice) (xs : List Choice) : Type 0 where
   before : List Choice
-  behind : List Choice
-  is : xs ≡ before ++ c ∷ behind
+  after : List Choice
+  is : xs ≡ before ++ c ∷ after
 
 stands-here-or-later : (c x : Choice) (xs : List Choice) (b : Bool) → same_choice c x ≡ b → 1 ≤ times c (x ∷ xs)
     → (1 ≤ times c xs → Stands c xs) → Stands c (x ∷ xs)
-stands-here-or-later c x xs true e h later = record { before = []; behind = xs; is = ap (λ (d : Choice). d ∷ xs) (sym (are-same c x e)) }
+stands-here-or-later c x xs true e h later = record { before = []; after = xs; is = ap (λ (d : Choice). d ∷ xs) (sym (are-same c x e)) }
 stands-here-or-later c x xs false e h later =
     let n : ℕ = cond (same_choice c x) 1 0 in
     let none : n ≡ 0 = ap (λ (b : Bool). cond b 1 0) e in
     let more : times c (x ∷ xs) ≡ n + times c xs = sum_by-cons (λ d. cond (same_choice c d) 1 0) x xs in
     let r = later (omega arith) in
-    record { before = x ∷ r.before; behind = r.behind; is = ap (λ (ys : List Choice). x ∷ ys) r.is }
+    record { before = x ∷ r.before; after = r.after; is = ap (λ (ys : List Choice). x ∷ ys) r.is }
 
 stands : (c : Choice) (xs : List Choice) → 1 ≤ times c xs → Stands c xs
 stands c [] h = absurd (omega arith)
@@ -69,20 +69,20 @@ as-often (x ∷ xs) ys h =
     let more : times x (x ∷ xs) ≡ n + times x xs = sum_by-cons (λ d. cond (same_choice x d) 1 0) x xs in
     let here : times x (x ∷ xs) ≡ times x ys = h x in
     let r = stands x ys (omega arith) in
-    let others : (c : Choice) → times c xs ≡ times c (r.before ++ r.behind) = λ c.
+    let others : (c : Choice) → times c xs ≡ times c (r.before ++ r.after) = λ c.
     let m : ℕ = cond (same_choice c x) 1 0 in
     let first : times c (x ∷ xs) ≡ m + times c xs = sum_by-cons (λ d. cond (same_choice c d) 1 0) x xs in
-    let whole : times c ys ≡ times c (r.before ++ x ∷ r.behind) = ap (times c) r.is in
-    let parts : times c (r.before ++ x ∷ r.behind) ≡ times c r.before + times c (x ∷ r.behind) =
-    sum_by-append (λ d. cond (same_choice c d) 1 0) r.before (x ∷ r.behind) in
-    let next : times c (x ∷ r.behind) ≡ m + times c r.behind = sum_by-cons (λ d. cond (same_choice c d) 1 0) x r.behind in
-    let together : times c (r.before ++ r.behind) ≡ times c r.before + times c r.behind = sum_by-append (λ d. cond (same_choice c d) 1 0) r.before r.behind in
+    let whole : times c ys ≡ times c (r.before ++ x ∷ r.after) = ap (times c) r.is in
+    let parts : times c (r.before ++ x ∷ r.after) ≡ times c r.before + times c (x ∷ r.after) =
+    sum_by-append (λ d. cond (same_choice c d) 1 0) r.before (x ∷ r.after) in
+    let next : times c (x ∷ r.after) ≡ m + times c r.after = sum_by-cons (λ d. cond (same_choice c d) 1 0) x r.after in
+    let together : times c (r.before ++ r.after) ≡ times c r.before + times c r.after = sum_by-append (λ d. cond (same_choice c d) 1 0) r.before r.after in
     let both : times c (x ∷ xs) ≡ times c ys = h c in
     omega arith in
-    let moved = IsPermutation-cons x xs (r.before ++ r.behind) (as-often xs (r.before ++ r.behind) others) in
-    let back_in = IsPermutation-sym (r.before ++ x ∷ r.behind) (x ∷ (r.before ++ r.behind)) (IsPermutation-middle r.before x r.behind) in
+    let moved = IsPermutation-cons x xs (r.before ++ r.after) (as-often xs (r.before ++ r.after) others) in
+    let back_in = IsPermutation-sym (r.before ++ x ∷ r.after) (x ∷ (r.before ++ r.after)) (IsPermutation-middle r.before x r.after) in
     subst (λ (zs : List Choice). IsPermutation (x ∷ xs) zs) (sym r.is)
-    (IsPermutation-trans (x ∷ xs) (x ∷ (r.before ++ r.behind)) (r.before ++ x ∷ r.behind) moved back_in)
+    (IsPermutation-trans (x ∷ xs) (x ∷ (r.before ++ r.after)) (r.before ++ x ∷ r.after) moved back_in)
 
 -- ---------- the law ----------
 

@@ -214,18 +214,18 @@ own_place rows k d l =
 abbrev IsOwn : ℕ → List (ℕ × ℤ) → ℕ × ℤ → Type 0
 IsOwn rows entries e = (e.0 < rows) × (find (in_row_at e.0) entries ≡ Some e)
 
-entries_behind : (rows : ℕ) (e : ℕ × ℤ) (entries es : List (ℕ × ℤ)) → AllByRecursion (λ later. e.0 < later.0) es
+entries_after : (rows : ℕ) (e : ℕ × ℤ) (entries es : List (ℕ × ℤ)) → AllByRecursion (λ later. e.0 < later.0) es
     → AllByRecursion (IsOwn rows entries) es → AllByRecursion (IsOwn rows (e ∷ entries)) es
-entries_behind rows e entries [] l h = tt
-entries_behind rows e entries (f ∷ es) l h =
+entries_after rows e entries [] l h = tt
+entries_after rows e entries (f ∷ es) l h =
     let apart : (e.0 == f.0) ≡ false = ne_eqb e.0 f.0 (λ t. let less = l.0 in omega arith) in
-    ((h.0.0, rw apart h.0.1), entries_behind rows e entries es l.1 h.1)
+    ((h.0.0, rw apart h.0.1), entries_after rows e entries es l.1 h.1)
 
 own_entries : (rows : ℕ) (es : List (ℕ × ℤ)) → AreEntries rows es → AllByRecursion (IsOwn rows es) es
 own_entries rows [] h = tt
 own_entries rows (e ∷ es) h =
     let here : (e.0 == e.0) ≡ true = eq-eqb e.0 e.0 refl in
-    ((h.0, rw here refl), entries_behind rows e es es h.2 (own_entries rows es h.3))
+    ((h.0, rw here refl), entries_after rows e es es h.2 (own_entries rows es h.3))
 
 entries_stand : (rows others : List TableRow) (c d : TableColumn) (es : List (ℕ × ℤ)) → IsDistinct bytes_eq (map (λ r. r.name) rows)
     → ((name : List ℕ) → coefficient_in rows c name ≡ coefficient_in others d name) → AllByRecursion (IsOwn (length rows) c.entries) es

@@ -62,15 +62,15 @@ pub bar_at : (xs ys : List ℕ) → AllByRecursion (λ b. (b == 95) ≡ false) x
 bar_at [] ys h = refl
 bar_at (x ∷ xs) ys h = let r = bar_at xs ys h.1 in rw h.0 (omega arith)
 
-left_behind : (xs ys : List ℕ) (y n : ℕ) → n ≡ suc (length xs) → drop n (xs ++ y ∷ ys) ≡ ys
-left_behind [] ys y n e = rw e refl
-left_behind (x ∷ xs) ys y n e = rw e (left_behind xs ys y (suc (length xs)) refl)
+left_after : (xs ys : List ℕ) (y n : ℕ) → n ≡ suc (length xs) → drop n (xs ++ y ∷ ys) ≡ ys
+left_after [] ys y n e = rw e refl
+left_after (x ∷ xs) ys y n e = rw e (left_after xs ys y (suc (length xs)) refl)
 
 pub before_at : (xs ys : List ℕ) → AllByRecursion (λ b. (b == 95) ≡ false) xs → before_first (λ (c : ℕ). c == 95) (xs ++ 95 ∷ ys) ≡ xs
 before_at xs ys h = ap (λ (n : ℕ). take n (xs ++ 95 ∷ ys)) (bar_at xs ys h) ∙ take_at xs (95 ∷ ys) (length xs) refl
 
 pub after_at : (xs ys : List ℕ) → AllByRecursion (λ b. (b == 95) ≡ false) xs → after_first (λ (c : ℕ). c == 95) (xs ++ 95 ∷ ys) ≡ ys
-after_at xs ys h = left_behind xs ys 95 (position_or_len (λ (c : ℕ). c == 95) (xs ++ 95 ∷ ys) + 1) (let p = bar_at xs ys h in omega arith)
+after_at xs ys h = left_after xs ys 95 (position_or_len (λ (c : ℕ). c == 95) (xs ++ 95 ∷ ys) + 1) (let p = bar_at xs ys h in omega arith)
 
 read_bidder : (b j : ℕ) → b < 2 ^ 64 → digits_value 10 (before_first (λ (c : ℕ). c == 95) (drop 1 (bid_name b j))) ≡ b
 read_bidder b j hb = let d = decimal_is_IsNumeral b hb in ap (digits_value 10) (before_at (decimal b) (decimal j) (no_bar (decimal b) d.0.1)) ∙ d.1

@@ -11,10 +11,10 @@ use Rattle.program_rows.specs.declared.mps_fault_kind.MpsFaultKind.{MpsFaultKind
 use Rattle.program_rows.specs.declared.mps_fault_kind.MpsFaultKind.TheVariants.{NoEnd}
 
 -- the meaning of the lines after those that are gathered: the first faulty line and its fault, else, at the end, the program of all that are gathered
-abbrev pub meaning_behind : ℕ → Sections → List Line → Result Table (ℕ × MpsFaultKind)
-meaning_behind count s [] = Err (count, NoEnd)
-meaning_behind count s (line ∷ after) =
-    unless (option_map (λ kind. (count + 1, kind)) (fault s line)) (if is_end line then Ok (program s) else meaning_behind (count + 1) (with_line s line) after)
+abbrev pub meaning_after : ℕ → Sections → List Line → Result Table (ℕ × MpsFaultKind)
+meaning_after count s [] = Err (count, NoEnd)
+meaning_after count s (line ∷ after) =
+    unless (option_map (λ kind. (count + 1, kind)) (fault s line)) (if is_end line then Ok (program s) else meaning_after (count + 1) (with_line s line) after)
 
 unfoldable pub meaning : List ℕ → Result Table (ℕ × MpsFaultKind)
-meaning text = meaning_behind 0 no_lines (map line_of (lines_of text))
+meaning text = meaning_after 0 no_lines (map line_of (lines_of text))

@@ -4,7 +4,7 @@ ghost use Rattle.std.specs.Prelude.{◌≡◌, ◌≢◌, ℕ, ◌^◌, ◌<◌,
 ghost use Rattle.std.specs.List.{position_or_len};
 ghost use Rattle.program_rows.specs.Spelling.{column_bid, is_bid};
 
-use auction_terms::{Choice, MOST_BIDDERS, MOST_BIDS, are_all_digits, behind, digits_behind};
+use auction_terms::{Choice, MOST_BIDDERS, MOST_BIDS, after, are_all_digits, digits_after};
 
 /// The number that is spelled by digits without a leading zero, if there are at most four.
 fn number_spelled(text: &[u8]) -> Option<u16>
@@ -23,7 +23,7 @@ fn number_spelled(text: &[u8]) -> Option<u16>
     if !are_all_digits(text) {
         return None;
     }
-    Some(digits_behind(0, 0, text) as u16)
+    Some(digits_after(0, 0, text) as u16)
 }
 
 fn is_bar_byte(b: u8) -> bool
@@ -55,7 +55,7 @@ fn is_bid(bidder: u16, bid: u16) -> bool
 }
 
 /// What follows the letter that a name begins with.
-fn behind_letter(name: &[u8]) -> &[u8]
+fn after_letter(name: &[u8]) -> &[u8]
     requires { 0 < length name.now }
     ensures { result.now ≡ drop 1 name.now }
 {
@@ -80,7 +80,7 @@ pub fn bid_named(name: &[u8]) -> Option<Choice>
     if name[0] != b'X' {
         return None;
     }
-    let numbers = behind_letter(name);
+    let numbers = after_letter(name);
     let bar = bar_in(numbers);
     if bar == numbers.len() {
         return None;
@@ -88,7 +88,7 @@ pub fn bid_named(name: &[u8]) -> Option<Choice>
     let Some(bidder) = number_spelled(front(bar, numbers)) else {
         return None;
     };
-    let Some(bid) = number_spelled(behind(bar, numbers)) else {
+    let Some(bid) = number_spelled(after(bar, numbers)) else {
         return None;
     };
     if !is_bid(bidder, bid) {

@@ -57,7 +57,7 @@ fn path_beside(rt: &HostRuntime, place: &str) -> Result<String, FileFault> {
     Ok(format!(in rt.alloc(); "{folder}.{kept}.{number:016x}")?)
 }
 
-// Where a file is, or is to be, behind all links.
+// Where a file is, or is to be, once all links are followed.
 fn place_of(rt: &HostRuntime, name: &str, is_there: bool) -> io::Result<String> {
     if is_there {
         return Ok(fs::canonicalize(rt, name)?.into_string());

@@ -46,6 +46,6 @@ pub record HaveAdded (asked : Request) (old new parts : List Part) : Type 0 wher
   pub held : new ≡ old ++ parts
 
 -- the first fault of parts after others; or memory was short
-abbrev pub IsFaultBehind : Request → List Part → List Part → PartFault → Type 0
-IsFaultBehind asked old parts fault.OutOfMemory = ⊤
-IsFaultBehind asked old parts f = first_fault (part_fault asked) old parts ≡ Some f
+abbrev pub IsFaultAfter : Request → List Part → List Part → PartFault → Type 0
+IsFaultAfter asked old parts fault.OutOfMemory = ⊤
+IsFaultAfter asked old parts f = first_fault (part_fault asked) old parts ≡ Some f

@@ -35,8 +35,8 @@ parsed_first_record (header ∷ more) = and_then (ok_or (version_of header) (fau
     unless (first_failed (header_checks v header)) (Ok (record { version = v; step = field_number 3 header })))
 
 -- the rules, by what comes after a first record that gives this
-abbrev pub rules_behind : Header → List Record → Result Terms RulesFault
-rules_behind header records =
+abbrev pub rules_after : Header → List Record → Result Terms RulesFault
+rules_after header records =
     unless (first_fault (entry_fault header.version) [] records)
     (unless (first_failed (end_checks (length records + 1) (entries_of header.version records)))
     (Ok (terms_of header.step (entries_of header.version records))))

@@ -29,8 +29,8 @@ abbrev pub is_text_byte : ℕ → Bool
 is_text_byte b = (b == 9) || (nat_le 32 b && nat_le b 126)
 
 -- a byte that ends a field: white space, or one that no text has
-abbrev pub is_behind : ℕ → Bool
-is_behind b = not (nat_le 33 b && nat_le b 126)
+abbrev pub is_after : ℕ → Bool
+is_after b = not (nat_le 33 b && nat_le b 126)
 
 -- the first fields of a line: more than five are as good as six
 pub record AreFirst (first : List (List ℕ)) (all : List (List ℕ)) : Type 0 where

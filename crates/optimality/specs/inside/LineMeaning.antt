@@ -5,10 +5,10 @@ use Rattle.program_rows.specs.declared.certificate_fault.CertificateFaultKind.{C
 use Rattle.program_rows.specs.declared.certificate_fault.CertificateFaultKind.TheVariants.{Fields}
 use Rattle.optimality.specs.LineMeaning.{ParsedLine, parsed_bound, parsed_split}
 
-abbrev pub bound_behind : Table → ℕ → List (List ℕ) → Result ParsedLine CertificateFaultKind
-bound_behind p depth [] = Err Fields
-bound_behind p depth (token ∷ fields) = parsed_bound p depth token fields
+abbrev pub bound_after : Table → ℕ → List (List ℕ) → Result ParsedLine CertificateFaultKind
+bound_after p depth [] = Err Fields
+bound_after p depth (token ∷ fields) = parsed_bound p depth token fields
 
-abbrev pub split_behind : Table → List (List ℕ) → Result ParsedLine CertificateFaultKind
-split_behind p [] = Err Fields
-split_behind p (token ∷ fields) = parsed_split p token fields
+abbrev pub split_after : Table → List (List ℕ) → Result ParsedLine CertificateFaultKind
+split_after p [] = Err Fields
+split_after p (token ∷ fields) = parsed_split p token fields

@@ -2,7 +2,7 @@ use Rattle.std.proofs.Common.{◌++◌, ◌∷◌, ◌∙◌, [], ℕ, List, ap,
 use Rattle.std.proofs.lemmas.List.{map-append, take_more}
 use Rattle.auction_input.specs.FileTexts.{named_files}
 use Rattle.auction_input.specs.declared.input.TheConstants.{INPUT_LIMIT}
-use Rattle.auction_input.proofs.FileFacts.{bytes-more, part-then, read-more, text-in-part, texts-in-part, unread-behind}
+use Rattle.auction_input.proofs.FileFacts.{bytes-more, part-then, read-more, text-in-part, texts-in-part, unread-after}
 use Rattle.auction_input.proofs.input.read_each.Goals as goal
 
 pub loop-name-init : goal.loop-name-init
@@ -33,7 +33,7 @@ loop-name-preserved g c =
 pub returns-in-Err-clause-unread : goal.returns-in-Err-clause-unread
 returns-in-Err-clause-unread g c =
     let (read, sum, same, at) = c.loop-name.invariant in
-    unread-behind c.in-Err.fault _ _ _ _ _ _ (texts-in-part (g.D.Files.content c.args.files.now) _ _ _ _ read) same c.in-Err.ensures.unread
+    unread-after c.in-Err.fault _ _ _ _ _ _ (texts-in-part (g.D.Files.content c.args.files.now) _ _ _ _ read) same c.in-Err.ensures.unread
 
 pub returns-in-Err-add_given-clause-unread : goal.returns-in-Err-add_given-clause-unread
 returns-in-Err-add_given-clause-unread g c =

@@ -2,7 +2,7 @@ use Rattle.std.proofs.Common.{rules, ◌≡◌, ◌∷◌, [], ◌++◌, ◌+◌
 use Rattle.std.proofs.lemmas.List.{length-map}
 use Rattle.auction_input.specs.inside.Parts.{kind_named, part_name, part}
 use Rattle.auction_input.specs.Parts.{Part, cut_lines, parts_held, parts_in}
-use Rattle.auction_input.proofs.PartFacts.{CheckedBehind, behind-all, behind-fault, behind-more, held-more, known-part, none-left, starts-so, unknown-part}
+use Rattle.auction_input.proofs.PartFacts.{CheckedAfter, after-all, after-fault, after-more, held-more, known-part, none-left, starts-so, unknown-part}
 use Rattle.auction_input.proofs.parts.add_parts.Goals as goal
 
 pub loop-rest-init : goal.loop-rest-init
@@ -23,9 +23,9 @@ loop-rest-preserved c =
     let kind : kind_named asked (part_name first.result.head.now) ≡ Some k = rw c.head_name.ensures at (sym c.kind_named.ensures ∙ c.in-Some.is) in
     let grown : parts_held new ≡ parts_held old ++ p ∷ [] = held-more old new asked (part_name first.result.head.now)
     (record { text = number; kind = k; bytes = first.result.bytes }) kind c.in_ok-add_part.ensures in (
-      subst (λ (held : List Part). CheckedBehind asked (parts_held c.args.parts.now.items) all held
+      subst (λ (held : List Part). CheckedAfter asked (parts_held c.args.parts.now.items) all held
           (parts_in number (cut_lines first.result.rest.now))) (sym grown)
-          (behind-more asked (parts_held c.args.parts.now.items) all (parts_held old) (parts_in number (cut_lines c.loop-rest.rest.now))
+          (after-more asked (parts_held c.args.parts.now.items) all (parts_held old) (parts_in number (cut_lines c.loop-rest.rest.now))
           (parts_in number (cut_lines first.result.rest.now)) p so_far (first.ensures.parts number)
           (known-part asked (parts_held old) p k kind)),
       first.ensures.next,
@@ -43,7 +43,7 @@ returns-in_default-clause-fault c =
     let kind : kind_named asked (part_name first.result.head.now) ≡ None = rw c.head_name.ensures at (sym c.kind_named.ensures ∙ c.in_default.is) in
     let length-is : c.len.result ≡ length held = search rules in
     let count : c.len.result ≡ length (parts_held held) = length-is ∙ sym (length-map held _) in
-    rw count (behind-fault asked old (parts_in number (cut_lines c.args.text.now)) (parts_held held)
+    rw count (after-fault asked old (parts_in number (cut_lines c.args.text.now)) (parts_held held)
     (parts_in number (cut_lines c.loop-rest.rest.now)) (parts_in number (cut_lines first.result.rest.now)) p _ so_far
     (first.ensures.parts number) (unknown-part asked (parts_held held) p kind))
 
@@ -53,4 +53,4 @@ returns-clause-added c =
     let number = c.args.number in
     let (so_far, starts) = c.loop-rest.invariant in
     let empty : c.loop-rest.rest.now ≡ [] = none-left c.loop-rest.rest.now (sym c.is_empty.ensures ∙ c.loop-rest-test.false) in
-    behind-all asked (parts_held c.args.parts.now.items) (parts_in number (cut_lines c.args.text.now)) (parts_held c.loop-rest.parts.items) (rw empty at so_far)
+    after-all asked (parts_held c.args.parts.now.items) (parts_in number (cut_lines c.args.text.now)) (parts_held c.loop-rest.parts.items) (rw empty at so_far)

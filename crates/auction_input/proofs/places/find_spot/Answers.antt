@@ -1,7 +1,7 @@
 use Rattle.std.proofs.Common.{◌∙◌, ◌+◌, ◌-◌, ◌∷◌, ap, arith, drop, drop_of_length-le, map, sym}
 use Rattle.std.proofs.lemmas.List.{drop_more}
 use Rattle.auction_input.specs.Places.{count_in, located}
-use Rattle.auction_input.proofs.PlaceFacts.{located-behind, located-here, shifted, shifted-none}
+use Rattle.auction_input.proofs.PlaceFacts.{located-after, located-here, shifted, shifted-none}
 use Rattle.auction_input.proofs.places.find_spot.Goals as goal
 
 pub loop-place-init : goal.loop-place-init
@@ -17,7 +17,7 @@ loop-place-preserved c =
     let counted = c.count_in-count.ensures in
     c.loop-place.invariant ∙ ap (λ xs. shifted place (located (map counts xs) left))
     (drop_more texts place at c.loop-place-test.true ∙ ap (λ x. x ∷ drop (place + 1) texts) (sym c.index-texts-place.is))
-    ∙ located-behind place left (counts at) (map counts (drop (place + 1) texts)) (omega arith)
+    ∙ located-after place left (counts at) (map counts (drop (place + 1) texts)) (omega arith)
     ∙ ap (λ n. shifted (place + 1) (located (map counts (drop (place + 1) texts)) (left - n))) (sym counted)
 
 pub returns-then-left-count : goal.returns-then-left-count

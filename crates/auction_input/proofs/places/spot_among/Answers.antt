@@ -1,7 +1,7 @@
 use Rattle.std.proofs.Common.{◌∙◌, ◌+◌, ap, arith, drop, drop_of_length-le, sym}
 use Rattle.std.proofs.lemmas.List.{drop_more}
 use Rattle.auction_input.specs.Places.{located}
-use Rattle.auction_input.proofs.PlaceFacts.{located-behind, located-here, shifted, shifted-none}
+use Rattle.auction_input.proofs.PlaceFacts.{located-after, located-here, shifted, shifted-none}
 use Rattle.auction_input.proofs.places.spot_among.Goals as goal
 
 pub loop-place-init : goal.loop-place-init
@@ -13,7 +13,7 @@ loop-place-preserved c =
     let place = c.loop-place.place in
     let left = c.loop-place.left in
     c.loop-place.invariant ∙ ap (λ ns. shifted place (located ns left)) (drop_more counts place 0 c.loop-place-test.true)
-    ∙ located-behind place left _ (drop (place + 1) counts) (omega arith)
+    ∙ located-after place left _ (drop (place + 1) counts) (omega arith)
 
 pub returns-then-left-count : goal.returns-then-left-count
 returns-then-left-count c =

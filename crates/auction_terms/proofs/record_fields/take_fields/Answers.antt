@@ -1,7 +1,7 @@
 use Rattle.std.proofs.Common.{◌≡◌, ◌∙◌, true, sym, drop, arith}
 use Rattle.csv.specs.Records.{fields_of}
 use Rattle.auction_terms.specs.inside.RecordFields.{TakesFields, begins_with, comma}
-use Rattle.auction_terms.proofs.FieldFacts.{taken_behind}
+use Rattle.auction_terms.proofs.FieldFacts.{taken_after}
 use Rattle.auction_terms.proofs.record_fields.take_fields.Goals as goal
 
 pub loop-rest-smaller : goal.loop-rest-smaller
@@ -16,6 +16,6 @@ loop-rest-preserved c =
     let begins : begins_with comma rest ≡ true = sym c.begins_with.ensures.value ∙ c.loop-rest-test.true in
     let more : TakesFields (drop 1 rest) so_far after left = rw c.split_at.ensures.back at c.in_ok-rest-2.ensures.taken in
     record {
-      taken = taken_behind c.args.bytes.now rest left (fields_of c.args.row.now) so_far after c.loop-rest.invariant.taken begins more;
+      taken = taken_after c.args.bytes.now rest left (fields_of c.args.row.now) so_far after c.loop-rest.invariant.taken begins more;
       whole = c.in_ok-rest-2.ensures.whole;
     }

@@ -1,6 +1,6 @@
 use Rattle.std.proofs.Common.{◌≡◌, ◌∙◌, ◌++◌, false, true, sym, arith}
 use Rattle.auction_terms.specs.inside.RecordFields.{begins_with, quote}
-use Rattle.auction_terms.proofs.FieldFacts.{closed, doubled, gives_behind, never_closed}
+use Rattle.auction_terms.proofs.FieldFacts.{closed, doubled, gives_after, never_closed}
 use Rattle.auction_terms.proofs.record_fields.unquote.Goals as goal
 
 pub returns-then-not-begins_with-clause-given : goal.returns-then-not-begins_with-clause-given
@@ -15,7 +15,7 @@ returns-then-not-begins_with-clause-given c =
       c.split_at-then-not-begins_with.ensures.front,
       c.split_at-then-not-begins_with.ensures.back,
     )
-    (gives_behind c.args.bytes.now left c.args.field.now.items c.loop-mark.field.items _ _ c.loop-mark.invariant.same
+    (gives_after c.args.bytes.now left c.args.field.now.items c.loop-mark.field.items _ _ c.loop-mark.invariant.same
     (closed c.loop-mark.field.items left after c.in-Some.mark c.in-Some.ensures.0.high c.in-Some.ensures.0.before c.in-Some.ensures.1
     c.split_at-in-Some.ensures.back c.field_end.result plain c.field_end.ensures.within c.field_end.ensures.before
     c.field_end.ensures.end))
@@ -37,5 +37,5 @@ loop-mark-preserved c =
 pub returns-clause-given : goal.returns-clause-given
 returns-clause-given c =
     rw c.in_ok-extend_from_slice-3.ensures.items
-    (gives_behind c.args.bytes.now c.loop-mark.left.now c.args.field.now.items c.loop-mark.field.items _ _ c.loop-mark.invariant.same
+    (gives_after c.args.bytes.now c.loop-mark.left.now c.args.field.now.items c.loop-mark.field.items _ _ c.loop-mark.invariant.same
     (never_closed c.loop-mark.field.items c.loop-mark.left.now c.in_default.ensures))

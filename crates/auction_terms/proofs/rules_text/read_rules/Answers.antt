@@ -19,5 +19,5 @@ returns-clause-answer c = λ within.
     let first = c.in_ok-header.header in
     let records = records_of c.args.bytes.now in
     let parsed = rw c.new-reader.ensures.all at c.in_ok-header.ensures.answer in
-    let behind = rw c.new-reader.ensures.all at c.in_ok-header.ensures.behind in
-    rw (header-taken records first parsed, ← behind) c.read_behind.ensures
+    let after = rw c.new-reader.ensures.all at c.in_ok-header.ensures.after in
+    rw (header-taken records first parsed, ← after) c.read_after.ensures

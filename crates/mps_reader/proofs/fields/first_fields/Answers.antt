@@ -13,6 +13,6 @@ loop-field-preserved c =
     ∙ eqb-true _ _ (sym c.is_full.ensures.value ∙ c.if-not-is_full.false) in
     record {
       few = c.loop-field.invariant.few;
-      front = c.loop-field.invariant.front ∙ take_at items (fields c.loop-field.rest.now) 6 full ∙ sym (take_at items (fields c.in-Some.behind.now) 6 full);
+      front = c.loop-field.invariant.front ∙ take_at items (fields c.loop-field.rest.now) 6 full ∙ sym (take_at items (fields c.in-Some.after.now) 6 full);
       text = search rules;
     }

@@ -6,7 +6,7 @@ use Rattle.std.specs.Prelude.{Ok}
 use Rattle.program_rows.specs.MpsLines.{line_of}
 use Rattle.program_rows.specs.MpsSections.{no_lines, with_line}
 use Rattle.mps_reader.proofs.LineAnswerFacts.{meaning-starts, meaning-goes-on, meaning-ends, program-ended}
-use Rattle.program_rows.specs.MpsMeaning.{meaning_behind}
+use Rattle.program_rows.specs.MpsMeaning.{meaning_after}
 use Rattle.mps_reader.proofs.reader.read_lines.Goals as goal
 
 pub overflow_add-place : goal.overflow_add-place
@@ -38,7 +38,7 @@ pub loop-line-init : goal.loop-line-init
 loop-line-init c = (
   c.start-reading.ensures.fit,
   ([], sym c.new-lines.ensures, refl),
-  (no_lines, meaning-starts c.args.text.now ∙ ap (λ ls. meaning_behind 0 no_lines (map line_of ls)) (sym c.new-lines.ensures), c.start-reading.ensures.tells),
+  (no_lines, meaning-starts c.args.text.now ∙ ap (λ ls. meaning_after 0 no_lines (map line_of ls)) (sym c.new-lines.ensures), c.start-reading.ensures.tells),
 )
 
 pub returns-in-Ok-finished-clause-meaning : goal.returns-in-Ok-finished-clause-meaning

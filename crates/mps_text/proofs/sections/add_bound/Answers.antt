@@ -8,4 +8,4 @@ returns g c =
     let column = c.args.column.now in
     Adds-to (Adds-then c.add.ensures (Adds-then c.add-2.ensures c.add-3.ensures))
     (bound_parts ((bound_words column.bounds).0) column.name.now ((bound_words column.bounds).1) c.before_bound.result.now
-    c.behind_bound.result.now c.before_bound.ensures c.behind_bound.ensures)
+    c.after_bound.result.now c.before_bound.ensures c.after_bound.ensures)

@@ -18,8 +18,8 @@ returns-then-not-are_all_digits c = λ n some low e. only_digits n c.args.text.n
 
 pub returns : goal.returns
 returns c =
-    let value = c.digits_behind.ensures.value in
-    let low = below_four c.digits_behind.result _ c.digits_behind.ensures.low c.if-text-gt4.false in
+    let value = c.digits_after.ensures.value in
+    let low = below_four c.digits_after.result _ c.digits_after.ensures.low c.if-text-gt4.false in
     ap decimal value
     ∙ spelled c.args.text.now (is_some _ (sym c.is_empty.ensures ∙ c.if-is_empty.false)) c.if-text-gt4.false c.if-text-eq48.false
     (sym c.are_all_digits.ensures ∙ c.if-not-are_all_digits.false) (rw value at low)

@@ -11,7 +11,7 @@ use Rattle.auction_terms.proofs.LimitFacts.{kept_are_offers, offers_left}
 use Rattle.bid_desk.specs.Closing.{book_of}
 use Rattle.presolve.specs.Flags.{has_choice}
 use Rattle.presolve.specs.inside.Flags.{is_offer_of}
-use Rattle.presolve.proofs.ChoiceFacts.{at_end, at_start, behind_all, not_repeated, one_again_at, one_more, repeated}
+use Rattle.presolve.proofs.ChoiceFacts.{at_end, at_start, after_all, not_repeated, one_again_at, one_more, repeated}
 use Rattle.presolve.proofs.KeepFacts.{are_kept}
 use Rattle.presolve.proofs.flags.Flags.kept_among.Goals.{then-not-is_repeated+in_ok-keep_choice, else-not-is_repeated}
 use Rattle.presolve.proofs.flags.Flags.kept_among.Goals as goal
@@ -40,7 +40,7 @@ loop-place-preserved c =
       | then-not-is_repeated+in_ok-keep_choice w ↦
           (let choice = w.index.result.now in
           let at : slice_get sorted place ≡ Some choice = slice_get-get_or sorted place choice less ∙ ap (λ (d : Choice). Some d) (sym w.index.ensures) in
-          let earlier = behind_all sorted place choice c.by_rising_bid-sorted.ensures.rising less at
+          let earlier = after_all sorted place choice c.by_rising_bid-sorted.ensures.rising less at
           (not_repeated sorted c.deref.result.now place c.is_repeated.result shown c.is_repeated.ensures w.if-not-is_repeated.true) in
           rw w.kept-is (record {
             so_far = w.in_ok-keep_choice.ensures.added ∙ ap (λ (os : List Offer). os ++ filter (is_offer_of choice)

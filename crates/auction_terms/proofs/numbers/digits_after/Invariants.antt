@@ -1,6 +1,6 @@
 use Rattle.std.proofs.Common.{◌≡◌, ◌+◌, ◌-◌, ◌^◌, ◌<◌, ◌≤◌, length, take}
 use Rattle.std.specs.Str.Parse.{digits_value_after}
-use Rattle.auction_terms.proofs.numbers.digits_behind.Given as goal
+use Rattle.auction_terms.proofs.numbers.digits_after.Given as goal
 
 -- the value of the digits so far
 abbrev pub invariant-loop-i : goal.invariant-loop-i

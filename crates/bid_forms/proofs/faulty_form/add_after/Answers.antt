@@ -1,7 +1,7 @@
 use Rattle.std.proofs.Common.{◌≡◌, true, rules}
 use Rattle.auction_terms.proofs.AllFaultsFacts.{keeps-both}
 use Rattle.bid_forms.specs.AllFormFaults.{is_unknown_bidder}
-use Rattle.bid_forms.proofs.faulty_form.add_behind.Goals as goal
+use Rattle.bid_forms.proofs.faulty_form.add_after.Goals as goal
 
 pub returns-clause-added : goal.returns-clause-added
 returns-clause-added c =

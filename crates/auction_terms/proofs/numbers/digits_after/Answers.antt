@@ -1,6 +1,6 @@
 use Rattle.std.proofs.Common.{◌+◌, ◌*◌, ◌-◌, ◌≤◌, ℕ, slice_index_or, arith, ap, ◌∙◌}
 use Rattle.auction_terms.proofs.FoldingFacts.{after-next, digit-at, next-low, fits}
-use Rattle.auction_terms.proofs.numbers.digits_behind.Goals as goal
+use Rattle.auction_terms.proofs.numbers.digits_after.Goals as goal
 
 pub overflow_mul-value : goal.overflow_mul-value
 overflow_mul-value c = omega (arith, fits c.loop-i.value (c.args.count + c.loop-i.i) c.loop-i.invariant.2 (omega (arith, c.requires.few)))
