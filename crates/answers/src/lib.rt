@@ -1,4 +1,5 @@
-//! What the program answers to its words and its input: the text or the report of each command, or the line of a refusal.
+//! What the program answers to its words and its input: the text or the report of each command, or the line of a refusal;
+//! and what solutions, certificates, claims and prices show of an auction.
 #![tactic(auto)]
 
 mod certified;

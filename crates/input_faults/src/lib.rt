@@ -1,4 +1,4 @@
-//! All faults of an input, in the order in which they are reported, and their lines.
+//! All faults of an input, in the order in which they are reported, with their lines, fields and causes: what `explain` prints.
 #![tactic(auto)]
 
 mod detail;

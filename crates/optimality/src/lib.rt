@@ -1,4 +1,4 @@
-//! Certificates that no point of a 0-1 program has a lower objective.
+//! Certificates that no point of a 0-1 program has a lower objective, or that no other point has as low a one.
 #![tactic(auto)]
 
 mod arithmetic;

@@ -1,5 +1,5 @@
 //! Presolve: which bids can be left out of the winner determination, since another bid of their form is at least as good,
-//! or since their lots are worth more where they are left.
+//! or since their lots are worth more where they are left; and which other bid, or that worth, is the reason.
 #![tactic(auto)]
 
 mod few_bids;

@@ -1,4 +1,5 @@
-//! A 0-1 program as rows and columns.
+//! A 0-1 program as rows and columns: the program of an auction's bids, what a text of one means, and the faults of programs,
+//! solutions and certificates.
 #![tactic(auto)]
 
 mod agreeing;
