@@ -1,6 +1,6 @@
 //! The text of the bidder groups.
 
-ghost use Rattle.std.specs.Prelude.{◌≡◌, ◌≤◌, ◌<◌, Err, [], ◌∷◌, IfOk, OnOk, length, map, not, Some};
+ghost use Rattle.std.specs.Prelude.{◌≡◌, ◌≤◌, ◌<◌, Err, [], ◌∷◌, IfErr, IfOk, OnOk, length, map, not, None, Some};
 ghost use Rattle.std.specs.List.{list_any};
 ghost use Rattle.std.specs.Str.{bytes_eq};
 ghost use Rattle.auction_terms.specs.FirstFault.{first_failed, first_fault};
@@ -141,12 +141,15 @@ pub(crate) fn room_fault(place: u32) -> Option<GroupFault>
     None
 }
 
-macro_rules! refuse_if {
-    ($fault:expr) => {
-        if let Some(fault) = $fault {
-            return Err(fault);
-        }
-    };
+// Tests that there is no fault.
+fn check_none(fault: Option<GroupFault>) -> Result<(), GroupFault>
+    ensures none { OnOk result (fault ≡ None) }
+    ensures one { IfErr result (λ f. fault ≡ Some f) }
+{
+    match fault {
+        Some(fault) => Err(fault),
+        None => Ok(()),
+    }
 }
 
 // The names of a line.
@@ -163,7 +166,7 @@ fn read_names<'a>(
     let mut names = Vec::new(alloc);
     let mut reader = NameReader::new(line);
     while let Some(name) = reader.next() {
-        refuse_if!(name_fault(place, bidders, &names, name));
+        check_none(name_fault(place, bidders, &names, name))?;
         if names.push(name).is_err() {
             return Err(GroupFault::OutOfMemory);
         }
@@ -200,9 +203,9 @@ fn read_group(
     ensures room { OnOk result (place ≤ MOST_GROUPS) }
     ensures group { IfOk result IsGroup }
 {
-    refuse_if!(empty_fault(place, line));
+    check_none(empty_fault(place, line))?;
     let names = read_names(alloc, place, bidders, line)?;
-    refuse_if!(room_fault(place));
+    check_none(room_fault(place))?;
     let numbers = numbers_of(alloc, bidders, &names)?;
     Ok(Group::new(numbers))
 }

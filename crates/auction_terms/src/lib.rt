@@ -10,6 +10,16 @@ macro_rules! refuse {
     };
 }
 
+/// The number that a text gives. Returns a fault if it gives none.
+macro_rules! number {
+    ($text:expr, $fault:expr) => {
+        match $crate::numbers::number($text) {
+            Some(value) => value,
+            None => return Err($fault),
+        }
+    };
+}
+
 mod bids;
 mod choices;
 mod decimals;

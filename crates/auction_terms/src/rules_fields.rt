@@ -1,6 +1,6 @@
 //! At which field of its record a fault of the rules is.
 
-ghost use Rattle.std.specs.Prelude.{◌≡◌, Some, if◌then◌else◌, is_some};
+ghost use Rattle.std.specs.Prelude.{◌≡◌, None, Some, IfErr, OnOk, true, false, if◌then◌else◌, is_some, option_map};
 ghost use Rattle.std.specs.Option.{option_map_or};
 ghost use Rattle.csv.specs.Records.{fields_of};
 ghost use Rattle.auction_terms.specs.Names.{is_name};
@@ -29,41 +29,55 @@ pub struct NumberLimits {
     pub greatest: u64,
 }
 
-// Whether a text is a number.
-fn is_number(text: &[u8]) -> bool
-    ensures { result ≡ is_some (number_of text.now) }
-{
-    number(text).is_some()
-}
-
-// Whether the number that a text gives, 0 if it gives none, is within these limits.
-fn is_within(text: &[u8], least: u64, greatest: u64) -> bool
-    ensures { result ≡ is_between least greatest (parsed_numeral text.now) }
+// Tests that the text of a field is a number.
+fn check_number(field: usize, text: &[u8]) -> Result<(), usize>
+    ensures number { OnOk result (is_some (number_of text.now) ≡ true) }
+    ensures none { IfErr result (λ n. (is_some (number_of text.now) ≡ false) × (n ≡ field)) }
 {
     match number(text) {
-        Some(value) => least <= value && value <= greatest,
-        None => least == 0,
+        Some(_) => Ok(()),
+        None => Err(field),
     }
 }
 
-macro_rules! tell_missing {
-    ($field:expr, $text:expr) => {
-        if !is_number($text) {
-            return $field;
-        }
-    };
+// Tests that the number in a field, 0 if its text gives none, is within these limits.
+fn check_limits(field: usize, text: &[u8], least: u64, greatest: u64) -> Result<(), NumberLimits>
+    ensures within { OnOk result (is_between least greatest (parsed_numeral text.now) ≡ true) }
+    ensures outside { IfErr result (λ limits.
+        (is_between least greatest (parsed_numeral text.now) ≡ false)
+        × (limits ≡ record { field = field; least = least; greatest = greatest })) }
+{
+    let value = number(text).unwrap_or(0);
+    if least <= value && value <= greatest {
+        return Ok(());
+    }
+    Err(NumberLimits {
+        field,
+        least,
+        greatest,
+    })
 }
 
-macro_rules! tell_outside {
-    ($field:expr, $text:expr, $least:expr, $greatest:expr) => {
-        if !is_within($text, $least, $greatest) {
-            return Some(NumberLimits {
-                field: $field,
-                least: $least,
-                greatest: $greatest,
-            });
+// Tests that each field of an entry that is to be a number is one, or returns the first that is none.
+fn check_numbers(version: Version, row: &ByteRecord, kind: RecordKind) -> Result<(), usize>
+    ensures numbers { OnOk result (number_missing version (fields_of row.now) kind ≡ None) }
+    ensures missing { IfErr result (λ field. option_map (λ n. n.0)
+        (number_missing version (fields_of row.now) kind) ≡ Some field) }
+{
+    match kind {
+        RecordKind::Category => {
+            check_number(3, field(row, 3))?;
+            check_number(4, field(row, 4))?;
+            check_number(5, field(row, 5))?;
+            check_number(6, value_text(version, row))
         }
-    };
+        RecordKind::Bidder => {
+            check_number(3, field(row, 3))?;
+            check_number(4, field(row, 4))
+        }
+        RecordKind::Pool => check_number(3, field(row, 3)),
+        RecordKind::Member => check_number(4, field(row, 4)),
+    }
 }
 
 // The first field of an entry that is to be a number and is none; 0 where each is one.
@@ -71,42 +85,39 @@ fn missing_field(version: Version, row: &ByteRecord, kind: RecordKind) -> usize
     ensures { result ≡ option_map_or (λ n. n.0)
         (number_missing version (fields_of row.now) kind) 0 }
 {
+    match check_numbers(version, row, kind) {
+        Ok(()) => 0,
+        Err(field) => field,
+    }
+}
+
+// Tests that each number of a record of that kind is within its limits, or returns those of the first that isn't.
+fn check_ranges(version: Version, row: &ByteRecord, kind: RecordKind) -> Result<(), NumberLimits>
+    ensures within { OnOk result (limits_outside version (fields_of row.now) kind ≡ None) }
+    ensures outside { IfErr result (λ limits. limits_outside version (fields_of row.now) kind
+        ≡ Some limits) }
+{
     match kind {
         RecordKind::Category => {
-            tell_missing!(3, field(row, 3));
-            tell_missing!(4, field(row, 4));
-            tell_missing!(5, field(row, 5));
-            tell_missing!(6, value_text(version, row));
+            check_limits(3, field(row, 3), 0, GREATEST_QUANTITY)?;
+            check_limits(4, field(row, 4), 0, GREATEST_AMOUNT)?;
+            check_limits(5, field(row, 5), 0, GREATEST_POINTS)?;
+            check_limits(6, value_text(version, row), 0, GREATEST_VALUE)
         }
         RecordKind::Bidder => {
-            tell_missing!(3, field(row, 3));
-            tell_missing!(4, field(row, 4));
+            check_limits(3, field(row, 3), 0, GREATEST_AMOUNT)?;
+            check_limits(4, field(row, 4), 1, MOST_SESSIONS)
         }
-        RecordKind::Pool => tell_missing!(3, field(row, 3)),
-        RecordKind::Member => tell_missing!(4, field(row, 4)),
+        RecordKind::Pool => check_limits(3, field(row, 3), 0, GREATEST_AMOUNT),
+        RecordKind::Member => check_limits(4, field(row, 4), 1, GREATEST_WEIGHT),
     }
-    0
 }
 
 /// The limits of the first number of a record of that kind that is outside its own.
 pub fn limits_outside(version: Version, row: &ByteRecord, kind: RecordKind) -> Option<NumberLimits>
     ensures { result ≡ limits_outside version (fields_of row.now) kind }
 {
-    match kind {
-        RecordKind::Category => {
-            tell_outside!(3, field(row, 3), 0, GREATEST_QUANTITY);
-            tell_outside!(4, field(row, 4), 0, GREATEST_AMOUNT);
-            tell_outside!(5, field(row, 5), 0, GREATEST_POINTS);
-            tell_outside!(6, value_text(version, row), 0, GREATEST_VALUE);
-        }
-        RecordKind::Bidder => {
-            tell_outside!(3, field(row, 3), 0, GREATEST_AMOUNT);
-            tell_outside!(4, field(row, 4), 1, MOST_SESSIONS);
-        }
-        RecordKind::Pool => tell_outside!(3, field(row, 3), 0, GREATEST_AMOUNT),
-        RecordKind::Member => tell_outside!(4, field(row, 4), 1, GREATEST_WEIGHT),
-    }
-    None
+    check_ranges(version, row, kind).err()
 }
 
 // The field of the first number that is outside its limits; 0 where none is.

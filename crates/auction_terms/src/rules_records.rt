@@ -20,21 +20,11 @@ use crate::limits::{
     MOST_BIDDERS, MOST_CATEGORIES, MOST_POOLS, MOST_SESSIONS,
 };
 use crate::names::{Name, is_name};
-use crate::numbers::number;
 use crate::record_kinds::{RecordKind, Version, field, kind_of, value_text};
 use crate::rules::{Bidder, Category};
 use crate::rules_text::RulesFault;
 use csv::ByteRecord;
 use std::alloc::Global;
-
-macro_rules! number {
-    ($text:expr, $fault:expr) => {
-        match number($text) {
-            Some(value) => value,
-            None => return Err($fault),
-        }
-    };
-}
 
 // The step that a header gives.
 pub(crate) fn read_step(version: Version, row: &ByteRecord) -> Result<u64, RulesFault>

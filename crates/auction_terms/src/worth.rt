@@ -29,15 +29,6 @@ fn value_at(categories: &[Category], place: usize) -> u64
     categories[place].value
 }
 
-// The supply at a place, in the same words. It is at most 10,000, and so fits.
-fn supply_at(categories: &[Category], place: usize) -> u16
-    requires place { place < length categories.now }
-    requires limits { All IsCategory categories.now }
-    ensures { result ≡ slice_index (map (λ category. category.supply) categories.now) place }
-{
-    categories[place].supply as u16
-}
-
 fn worth_of(categories: &[Category], quantities: &[u16]) -> u64
     requires few { length categories.now ≤ MOST_CATEGORIES }
     requires limits { All IsCategory categories.now }
@@ -76,8 +67,8 @@ fn worth_of_supply(categories: &[Category]) -> u64
     ensures limit { result ≤ MOST_CATEGORIES * 10 ^ 17 }
 {
     let mut sum = 0;
-    for place in 0..categories.len() {
-        sum += product(value_at(categories, place), supply_at(categories, place));
+    for category in categories {
+        sum += product(category.value, category.supply as u16);
     }
     sum
 }

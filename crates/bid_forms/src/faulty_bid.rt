@@ -262,7 +262,7 @@ fn add_lots(
         (parsed_bid (fields_of row.now)).package))))) }
     ensures seen { OnOk result (AreSeen seen.new.multiplier seen.new.prints.keys before.now) }
 {
-    let _categories = rules.categories();
+    rules.within_limits();
     match take_quantities(faults, place, row)? {
         None => Ok(()),
         Some(quantities) => {
@@ -301,7 +301,7 @@ fn add_bid_faults(
     if let Some(fault) = count_fault(rules, place, row) {
         return faults.add(0, fault);
     }
-    let _categories = rules.categories();
+    rules.within_limits();
     let amount = take_amount(faults, rules.step(), place, row)?;
     add_lots(faults, rules, eligibility, place, seen, before, row, amount)?;
     add(faults, 0, room_fault(place, before))?;

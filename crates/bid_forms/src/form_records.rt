@@ -24,25 +24,9 @@ use crate::sums::{is_empty_package, points_of, reserve_of};
 use arrayvec::ArrayVec;
 use auction_terms::{
     Bid, Category, GREATEST_AMOUNT, GREATEST_QUANTITY, MOST_BIDS, Package, Quantities, Rules,
-    field, number,
 };
 use csv::ByteRecord;
 use std::alloc::AllocError;
-
-macro_rules! field {
-    ($row:expr, $place:expr) => {
-        field($row, $place)
-    };
-}
-
-macro_rules! number {
-    ($row:expr, $place:expr, $fault:expr) => {
-        match number(field!($row, $place)) {
-            Some(value) => value,
-            None => return Err($fault),
-        }
-    };
-}
 
 // Whether the fields after the first are the names of the categories.
 fn is_header(categories: &[Category], row: &ByteRecord) -> bool
@@ -201,12 +185,15 @@ pub(crate) fn room_fault(place: u32, before: &[Bid]) -> Option<FormFault>
     None
 }
 
-macro_rules! refuse_if {
-    ($fault:expr) => {
-        if let Some(fault) = $fault {
-            return Err(fault);
-        }
-    };
+// Tests that there is no fault.
+fn check_none(fault: Option<FormFault>) -> Result<(), FormFault>
+    ensures none { OnOk result (fault ≡ None) }
+    ensures one { IfErr result (λ f. fault ≡ Some f) }
+{
+    match fault {
+        Some(fault) => Err(fault),
+        None => Ok(()),
+    }
 }
 
 // Tests the quantities and the amount of a record, after the bids before it. The package is among those seen from now on.
@@ -237,10 +224,11 @@ fn check_lots(
         → AreSeen seen.new.multiplier seen.new.prints.keys before.now) }
 {
     let categories = rules.categories();
-    refuse_if!(package_fault(categories, eligibility, place, quantities));
-    refuse_if!(reserve_fault(categories, place, quantities, amount));
-    refuse_if!(repeat_fault(seen, place, before, quantities)?);
-    refuse_if!(room_fault(place, before));
+    check_none(package_fault(categories, eligibility, place, quantities))?;
+    check_none(reserve_fault(categories, place, quantities, amount))?;
+    let repeated = repeat_fault(seen, place, before, quantities)?;
+    check_none(repeated)?;
+    check_none(room_fault(place, before))?;
     Ok(())
 }
 
@@ -267,8 +255,8 @@ pub(crate) fn read_bid(
     ensures kept { IfErr result (λ f. is_form_memory f ≡ false
         → AreSeen seen.new.multiplier seen.new.prints.keys before.now) }
 {
-    let _categories = rules.categories();
-    refuse_if!(count_fault(rules, place, row));
+    rules.within_limits();
+    check_none(count_fault(rules, place, row))?;
     let amount = read_amount(rules.step(), place, row)?;
     let quantities = read_quantities(place, row)?;
     let lots = quantities.as_slice();

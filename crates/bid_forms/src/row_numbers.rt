@@ -17,7 +17,7 @@ fn parsed_package(rules: &Rules, row: &ByteRecord) -> Option<Quantities>
         × (length lots.items ≡ length rules.now.categories)
         × All (λ quantity. quantity ≤ GREATEST_QUANTITY) lots.items) }
 {
-    let _categories = rules.categories();
+    rules.within_limits();
     if count_fault(rules, 0, row).is_some() {
         return None;
     }

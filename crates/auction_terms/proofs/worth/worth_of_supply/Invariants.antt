@@ -2,8 +2,8 @@ use Rattle.std.proofs.Common.{◌≡◌, ◌≤◌, ◌+◌, ◌*◌, ◌^◌, d
 use Rattle.auction_terms.specs.Packages.{weighed}
 use Rattle.auction_terms.proofs.worth.worth_of_supply.Given as goal
 
-abbrev pub invariant-loop-place : goal.invariant-loop-place
-invariant-loop-place l = (l.sum + weighed (drop l.place (map (λ category. category.value) l.categories))
-    (drop l.place (map (λ category. category.supply) l.categories))
+abbrev pub invariant-loop-category : goal.invariant-loop-category
+invariant-loop-category l = (l.sum + weighed (map (λ category. category.value) (drop l.category-index l.categories))
+    (map (λ category. category.supply) (drop l.category-index l.categories))
     ≡ weighed (map (λ category. category.value) l.categories) (map (λ category. category.supply) l.categories)) × (l.sum
-    ≤ 10 ^ 17 * l.place)
+    ≤ 10 ^ 17 * l.category-index)
