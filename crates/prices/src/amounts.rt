@@ -13,7 +13,6 @@ pub fn amount_of(book: &ClosedBook, choice: Choice) -> u64
     ensures amount { result ≡ amount_of (book_of book.now) choice }
     ensures small { result ≤ GREATEST_AMOUNT }
 {
-    // Its contract says that the bids are within limits.
-    let _within_limits = book.rules();
+    book.within_limits();
     outcome::amount_of(book, choice)
 }

@@ -50,8 +50,7 @@ pub fn check_cover(
         (neg_ℤ (pos (revenue (lots_in book.now.rules) (book_of book.now) first.now
         (price_in prices.now)))) text.now fault.line) }
 {
-    // Its contract says that lots and bids are within limits.
-    let _within_limits = book.rules();
+    book.within_limits();
     let Ok(program) = raised(alloc, program, book, first, prices) else {
         return Err(CertificateFault {
             line: 0,

@@ -92,8 +92,7 @@ fn paid(book: &ClosedBook, first: &Allocation, prices: &[u64]) -> u128
     ensures paid { result ≡ of_prices.paid (price_in prices.now) first.now }
     ensures small { result ≤ 2 ^ 48 }
 {
-    // Its contract says that the bids are within limits.
-    let _within_limits = book.rules();
+    book.within_limits();
     outcome::paid(prices, first.choices())
 }
 
@@ -140,8 +139,8 @@ fn weighted_cost(
     ensures low { pos 0 ≤ℤ result }
     ensures high { result ≤ℤ pos (2 ^ 112) }
 {
-    // Its contract says that the bids are within limits.
-    let _within_limits = book.rules();
+    book.within_limits();
+    // Its contract says that the bidders of its choices rise.
     let _rising = first.choices();
     let cost = cost(book, first, group, without);
     i128::from(weight) * cost
@@ -216,8 +215,7 @@ pub fn shows_least_sum(
     ensures least { OnTrue result (IsLeastSum (reserves_in book.now.rules)
         (lots_in book.now.rules) (book_of book.now) first.now (price_in prices.now)) }
 {
-    // Its contract says that the bids are within limits.
-    let _within_limits = book.rules();
+    book.within_limits();
     if !are_within(groups, weights, first.choices()) {
         return false;
     }

@@ -5,4 +5,4 @@ use Rattle.prices.proofs.amounts.amount_of.Goals as goal
 
 pub returns-clause-small : goal.returns-clause-small
 returns-clause-small c = rw c.amount_of.ensures (amount_small (lots_in c.args.book.now.rules) (book_of c.args.book.now) c.args.choice
-    c.rules-within_limits.ensures.book)
+    c.within_limits.ensures.book)

@@ -22,8 +22,8 @@ use Rattle.prices.proofs.cover.check_cover.Goals as goal
 pub raised-requires-clause-small : goal.raised-requires-clause-small
 raised-requires-clause-small c =
     subst (λ (p : Table). AllByRecursion (λ (x : TableColumn). IsSmall x.cost) p.columns) (sym c.requires.program)
-    (small_costs (lots_in c.args.book.now.rules) (book_of c.args.book.now) (λ b. false) c.rules-within_limits.ensures.lots
-    c.rules-within_limits.ensures.book)
+    (small_costs (lots_in c.args.book.now.rules) (book_of c.args.book.now) (λ b. false) c.within_limits.ensures.lots
+    c.within_limits.ensures.book)
 
 -- the program that the certificate is checked against, and its bound
 module _ (c : goal.After-drop-program-inside-8) where
@@ -38,7 +38,7 @@ module _ (c : goal.After-drop-program-inside-8) where
 pub returns-clause-covers : goal.returns-clause-covers
 returns-clause-covers c = on_ok_weaker c.check_certificate.result (λ sound.
     bound_covers (lots_in c.args.book.now.rules) (book_of c.args.book.now) c.args.first.now (price_in c.args.prices.now) c.in-Ok.program
-    (to_z w128 (of_z w128 (pos 0 -ℤ to_z w128 c.revenue_of.result))) c.rules-within_limits.ensures.book c.requires.feasible
+    (to_z w128 (of_z w128 (pos 0 -ℤ to_z w128 c.revenue_of.result))) c.within_limits.ensures.book c.requires.feasible
     c.requires.prices (judged c) (least c) sound) c.check_certificate.ensures.sound
 
 pub returns-clause-first : goal.returns-clause-first

@@ -8,6 +8,6 @@ use Rattle.prices.proofs.least_sum.paid.Goals as goal
 pub returns-clause-small : goal.returns-clause-small
 returns-clause-small c =
     let few = paid_few (lots_in c.args.book.now.rules) (book_of c.args.book.now) (price_in c.args.prices.now) c.args.first.now
-    c.rules-within_limits.ensures.book c.requires.feasible c.choices.ensures.rising c.requires.prices in
+    c.within_limits.ensures.book c.requires.feasible c.choices.ensures.rising c.requires.prices in
     let whole = c.paid.ensures.sum ∙ ap (paid (price_in c.args.prices.now)) c.choices.ensures.choices in
     omega (arith, few, whole)

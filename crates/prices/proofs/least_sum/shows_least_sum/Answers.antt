@@ -24,7 +24,7 @@ use Rattle.prices.proofs.least_sum.shows_least_sum.Goals as goal
 
 pub weighted_reserves-reserves-requires-clause-few : goal.weighted_reserves-reserves-requires-clause-few
 weighted_reserves-reserves-requires-clause-few c =
-    let few = few_winners (lots_in c.args.book.now.rules) (book_of c.args.book.now) c.args.first.now c.rules-within_limits.ensures.book
+    let few = few_winners (lots_in c.args.book.now.rules) (book_of c.args.book.now) c.args.first.now c.within_limits.ensures.book
     c.requires.first.feasible c.choices-2.ensures.rising in
     let same = ap length c.choices-2.ensures.choices in
     omega (arith, few, same)
@@ -34,7 +34,7 @@ weighted_reserves-reserves-requires-clause-limits c =
     subst (All (λ (x : Choice). weighed_choice (reserves_in c.args.book.now.rules) (book_of c.args.book.now) x ≤ GREATEST_AMOUNT))
     (sym c.choices-2.ensures.choices)
     (reserves_few (lots_in c.args.book.now.rules) (book_of c.args.book.now) (reserves_in c.args.book.now.rules) (price_in c.args.prices.now)
-    c.args.first.now c.rules-within_limits.ensures.book c.requires.prices c.requires.reserves)
+    c.args.first.now c.within_limits.ensures.book c.requires.prices c.requires.reserves)
 
 module _ (c : goal.After-is_below) where
   abbrev ws : List Weighted

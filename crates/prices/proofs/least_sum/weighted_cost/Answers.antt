@@ -14,7 +14,7 @@ module _ (c : goal.After-from) where
 
   few : (pos 0 ≤ℤ it) × (it ≤ℤ pos (2 ^ 48))
   few = cost_few (lots_in c.args.book.now.rules) (book_of c.args.book.now) c.args.first.now c.args.group.now c.args.without.now
-      c.rules-within_limits.ensures.book c.requires.first c.choices-rising.ensures.rising c.requires.without
+      c.within_limits.ensures.book c.requires.first c.choices-rising.ensures.rising c.requires.without
 
 pub overflow_mul-result : goal.overflow_mul-result
 overflow_mul-result c = product_fits c.from.result c.cost-cost.result c.args.weight (it c) c.from.ensures c.cost-cost.ensures (small c) (few c).0 (few c).1
