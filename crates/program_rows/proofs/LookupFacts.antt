@@ -1,14 +1,19 @@
 -- Searching a list by name, and testing it item by item.
 use Rattle.std.proofs.Common.{nat_lt, lt-ltb, ℤ, pos, ◌≡◌, ℕ, zero, suc, ◌+◌, ◌<◌, ◌≤◌, Bool, true, false, List, [], ◌∷◌}
-use Rattle.std.proofs.Common.{Some, None, drop, length, map, slice_get, refl, sym, ap, ◌∙◌, arith}
+use Rattle.std.proofs.Common.{Some, None, drop, get_or, length, map, slice_get, refl, sym, ap, ◌∙◌, arith}
 use Rattle.std.specs.Prelude.{bytes_eq, find, position}
 use Rattle.std.specs.Option.{option_map, option_map_or}
 use Rattle.std.specs.List.{list_all, position_or_len, IsDistinct}
 use Rattle.std.proofs.lemmas.Bool.{false_from_ne_true, cond-true, cond-false, le-ltb}
 use Rattle.std.proofs.lemmas.List.{at_drop_all, at_drop_more}
 use Rattle.std.proofs.lemmas.List.Folds.{find_at}
-use Rattle.std.proofs.lemmas.Option.{get_or_from_slice_get, slice_get_past, slice_get_within}
+use Rattle.std.proofs.lemmas.Option.{get_or_from_slice_get, slice_get-map, slice_get_past, slice_get_read, slice_get_within}
 use Rattle.std.proofs.lemmas.Slice.Eq.{bytes_eq-Decides}
+
+-- an item of a list, in the list of what each shows
+pub shown_at : {X Y : Type 0} (shown : X → Y) (xs : List X) (i : ℕ) (x : X) → i < length xs → x ≡ get_or xs i x
+    → slice_get (map shown xs) i ≡ Some (shown x)
+shown_at shown xs i x l is = slice_get-map shown xs i ∙ ap (option_map shown) (slice_get_read xs (length xs) i x refl l is)
 
 module _ {X : Type 0} (name_of : X → List ℕ) (name : List ℕ) where
   abbrev pub test : X → Bool

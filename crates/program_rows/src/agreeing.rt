@@ -1,5 +1,5 @@
 // Rows and columns of one program in another.
-ghost use Rattle.std.specs.Prelude.{◌≡◌, ◌<◌, Some, bytes_eq, length, map, slice_get};
+ghost use Rattle.std.specs.Prelude.{◌≡◌, bytes_eq, map};
 ghost use Rattle.std.specs.List.{IsDistinct, list_all};
 ghost use Rattle.program_rows.specs.inside.Comparing as comparing;
 ghost use Rattle.program_rows.specs.Parts.{shown_column, shown_row};
@@ -84,14 +84,6 @@ fn is_entry_of(rows: &[Row], others: &[Row], column: &Column<'_>, entry: &(usize
     coefficient_named(others, entry.0, name_or_none(rows, entry.0), column) == entry.1
 }
 
-// An entry by its place, in the words of lists: each loop below states what it went over by these.
-fn entry_at(entries: &[(usize, i64)], place: usize) -> &(usize, i64)
-    requires { place < length entries.now }
-    ensures { slice_get entries.now place ≡ Some result.now }
-{
-    &entries[place]
-}
-
 fn are_entries_of(
     rows: &[Row],
     others: &[Row],
@@ -102,12 +94,9 @@ fn are_entries_of(
     ensures { result ≡ list_all (comparing.entry_stands (map shown_row rows.now)
         (map shown_row others.now) (shown_column column.now)) entries.now }
 {
-    for i in 0..entries.len() {
-        if !is_entry_of(rows, others, column, entry_at(entries, i)) {
-            return false;
-        }
-    }
-    true
+    entries
+        .iter()
+        .all(|entry| is_entry_of(rows, others, column, entry))
 }
 
 fn agrees_with_column(rows: &[Row], others: &[Row], column: &Column<'_>, other: &Column<'_>) -> bool

@@ -187,8 +187,8 @@ pub fn build(alloc: Global, rules: &Rules, kept: &Kept<'_>) -> Result<Program, A
     requires sized { All (λ k. length k.offer.now.package ≡ length rules.now.categories) kept.now }
     ensures { IfOk result (λ program. program ≡ program_of (lots_in rules.now) (offers kept.now)) }
 {
-    // Their contracts say that rules and bids are within limits, which makes the program well formed.
-    let _terms = rules.categories();
+    rules.within_limits();
+    // Its contract says that the bids are within limits.
     let _bids = kept.bids();
     let mut parts = build_bids(alloc, rules, kept)?;
     add_worth(&mut parts.columns, rules)?;

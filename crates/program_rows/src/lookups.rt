@@ -16,8 +16,8 @@ pub(crate) fn is_same_name(name: &[u8], other: &[u8]) -> bool
 fn search_row(rows: &[Row], name: &[u8]) -> usize
     ensures { result ≡ position_or_len (λ r. bytes_eq name.now r.name) (map shown_row rows.now) }
 {
-    for i in 0..rows.len() {
-        if is_same_name(name, name_at(rows, i)) {
+    for (i, row) in rows.iter().enumerate() {
+        if is_same_name(name, row.name.as_slice()) {
             return i;
         }
     }

@@ -11,15 +11,14 @@ use crate::lookups::is_same_name;
 use crate::parts::ProgramParts;
 use crate::program::Program;
 use crate::row::Row;
-use crate::row_readers::row_at;
 
 fn are_rows_among(rows: &[Row], others: &[Row]) -> bool
     requires { IsDistinct bytes_eq (map (λ r. r.name) (map shown_row others.now)) }
     ensures { result ≡ list_all (comparing.row_stands (map shown_row others.now))
         (map shown_row rows.now) }
 {
-    for i in 0..rows.len() {
-        if !is_among_rows(row_at(rows, i), i, others) {
+    for (i, row) in rows.iter().enumerate() {
+        if !is_among_rows(row, i, others) {
             return false;
         }
     }

@@ -106,8 +106,7 @@ pub fn build_shared(
     requires sized { All (λ k. length k.offer.now.package ≡ length rules.now.categories) kept.now }
     ensures { IfOk result (λ shared. shared ≡ shared_of (lots_in rules.now) (offers kept.now)) }
 {
-    // Their contracts say that rules and bids are within limits.
-    let _terms = rules.categories();
+    rules.within_limits();
     let bids = kept.bids();
     let rows = row_owners(alloc, rules, bids)?;
     let mut columns = bid_owners(alloc, bids)?;

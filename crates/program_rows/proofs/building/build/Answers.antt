@@ -14,7 +14,7 @@ from_parts-requires c =
     (is_built (lots_in c.args.rules.now) (offers c.args.kept.now) _ (subjects (lots_in c.args.rules.now) (offers c.args.kept.now)) _ _
     c.in_ok-parts.ensures.objective refl c.in_ok-parts.ensures.rows
     (c.in_ok-add_worth.ensures ∙ ap (λ cs. cs ++ worth_column (lots_in c.args.rules.now)) c.in_ok-parts.ensures.columns))
-    (built_is_legal (lots_in c.args.rules.now) (offers c.args.kept.now) (are_lots c.args.rules.now c.categories-terms.ensures.terms)
+    (built_is_legal (lots_in c.args.rules.now) (offers c.args.kept.now) (are_lots c.args.rules.now c.within_limits.ensures.terms)
     (are_offers c.args.rules.now c.args.kept.now c.requires.sized c.bids-bids.ensures.kept))
 
 pub returns : goal.returns

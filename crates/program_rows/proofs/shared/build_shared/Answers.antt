@@ -18,6 +18,6 @@ invariant_of-result c =
       lots = lots;
       offers = offers c.args.kept.now;
       is = λ i. shared (c.in_ok-program.ensures i) (rows i) (columns i);
-      within = are_lots rules_ c.categories-terms.ensures.terms;
+      within = are_lots rules_ c.within_limits.ensures.terms;
       each = are_offers rules_ c.args.kept.now c.requires.sized c.bids-bids.ensures.kept;
     }
