@@ -19,4 +19,5 @@ pub mod PlaceSizeFacts
 pub mod RowSizeFacts
 pub mod ColumnSizeFacts
 pub mod StopFacts
+pub mod FormFacts
 pub mod LargeFacts

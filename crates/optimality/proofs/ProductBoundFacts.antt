@@ -1,10 +1,10 @@
 -- Products of numbers of 64 bits lie between -2^126 and 2^126.
-use Rattle.std.proofs.Common.{ℕ, ◌*◌, ◌^◌, ◌≤◌, ◌<◌, arith, ℤ, pos, negsuc, neg_ℤ, ◌≤ℤ◌, ◌<ℤ◌, ◌+ℤ◌}
+use Rattle.std.proofs.Common.{◌≡◌, ℕ, ◌*◌, ◌^◌, ◌≤◌, ◌<◌, arith, ℤ, pos, negsuc, neg_ℤ, ◌≤ℤ◌, ◌<ℤ◌, ◌+ℤ◌}
 use Rattle.std.specs.Prelude.{◌*ℤ◌, unsigned_abs}
 use native.Mathlib.Nat.{mul-le-mul_left}
-use Rattle.std.proofs.lemmas.Int.{ints, unsigned_abs-mul}
-use mir.Syntax.{w16, w64}
-use mir.Val.{SFits}
+use Rattle.std.proofs.lemmas.Int.{ints, to_z-of_z, unsigned_abs-mul}
+use mir.Syntax.{w16, w64, w128}
+use mir.Val.{SFits, to_z, of_z}
 
 pub abs-within : (n : ℤ) → SFits w64 n → unsigned_abs n ≤ 2 ^ 63
 abs-within (pos n) f = let below : n < 2 ^ 63 = f.sfits in omega arith
@@ -24,11 +24,15 @@ by-abs-high : (n : ℤ) (m : ℕ) → unsigned_abs n ≤ m → n ≤ℤ pos m
 by-abs-high (pos n) m h = omega (arith, ints)
 by-abs-high (negsuc n) m h = omega (arith, ints)
 
-pub product_low : (a b : ℤ) → SFits w64 a → SFits w64 b → neg_ℤ (pos (2 ^ 126)) ≤ℤ (a *ℤ b)
-product_low a b f g = by-abs-low (a *ℤ b) (2 ^ 126) (abs-product a b f g)
-
-pub product_high : (a b : ℤ) → SFits w64 a → SFits w64 b → (a *ℤ b) ≤ℤ pos (2 ^ 126)
-product_high a b f g = by-abs-high (a *ℤ b) (2 ^ 126) (abs-product a b f g)
+-- the product as the code holds it
+pub product_within : (a b product : ℤ) → SFits w64 a → SFits w64 b → SFits w128 product → product ≡ to_z w64 (of_z w64 a) *ℤ to_z w64 (of_z w64 b)
+    → (neg_ℤ (pos (2 ^ 126)) ≤ℤ to_z w128 (of_z w128 product)) × (to_z w128 (of_z w128 product) ≤ℤ pos (2 ^ 126))
+product_within a b product f g h is =
+    let within = abs-product a b f g in
+    rw (to_z-of_z w128 product h, is, to_z-of_z w64 a f, to_z-of_z w64 b g) (
+      by-abs-low (a *ℤ b) (2 ^ 126) within,
+      by-abs-high (a *ℤ b) (2 ^ 126) within,
+    )
 
 -- a factor up to 2^47 and a number of 16 bits: their product is 2^62 at most
 abs-short : (n : ℤ) → SFits w16 n → unsigned_abs n ≤ 2 ^ 15

@@ -28,8 +28,7 @@ fn add_multipliers(multipliers: &mut [i64], rows: &[(usize, i128)]) -> Option<()
     requires { AreNone multipliers.old }
     ensures { IfSome result (λ _. AreOf rows.now multipliers.new) }
 {
-    for i in 0..rows.len() {
-        let (row, number) = rows[i];
+    for &(row, number) in rows {
         add_at(multipliers, row, narrow(number)?)?;
     }
     Some(())

@@ -127,8 +127,8 @@ pub fn add_cuts(sums: &mut Sums, multipliers: &[u64], splits: &[OpenSplit]) -> R
     ensures too_large { TooLargeOnly (ReachesLimit sums.old.numbers.items (size_of (λ e. e.0
         * form_size e.1.form) (zip multipliers.now (cuts_of splits.now)))) result }
 {
-    for i in 0..splits.len() {
-        add_cut(sums, multipliers[i], &splits[i])?;
+    for (i, split) in splits.iter().enumerate() {
+        add_cut(sums, multipliers[i], split)?;
     }
     Ok(())
 }
@@ -161,8 +161,8 @@ pub fn cuts_right(multipliers: &[u64], splits: &[OpenSplit]) -> Result<i128, Lim
         (zip multipliers.now (cuts_of splits.now))) result }
 {
     let mut sum: i128 = 0;
-    for i in 0..splits.len() {
-        sum = add_most(sum, multipliers[i], &splits[i])?;
+    for (i, split) in splits.iter().enumerate() {
+        sum = add_most(sum, multipliers[i], split)?;
     }
     Ok(sum)
 }
@@ -189,8 +189,7 @@ pub fn add_rows(sums: &mut Sums, forms: &[RowForm], rows: &[(usize, i128)]) -> R
         (size_of (λ t. unsigned_abs t.1 * form_size (form_at (forms_held forms.now) t.0)) rows.now))
         result }
 {
-    for i in 0..rows.len() {
-        let (row, multiplier) = rows[i];
+    for &(row, multiplier) in rows {
         add_row(sums, forms, row, multiplier)?;
     }
     Ok(())
@@ -231,8 +230,7 @@ pub fn rows_right(program: &Selection<'_>, rows: &[(usize, i128)]) -> Result<i12
         (reduced.right_side_at program.now.rows t.0)) rows.now) result }
 {
     let mut sum: i128 = 0;
-    for i in 0..rows.len() {
-        let (row, multiplier) = rows[i];
+    for &(row, multiplier) in rows {
         sum = add_right_side(sum, program, row, multiplier)?;
     }
     Ok(sum)

@@ -183,9 +183,9 @@ fn cut_terms(multipliers: &[u64], splits: &[OpenSplit]) -> usize
     requires { length multipliers.now ≡ length splits.now }
 {
     let mut count: usize = 0;
-    for i in 0..splits.len() {
+    for (i, split) in splits.iter().enumerate() {
         if multipliers[i] != 0 {
-            count = count.saturating_add(splits[i].form.len());
+            count = count.saturating_add(split.form.len());
         }
     }
     count

@@ -84,8 +84,7 @@ fn add_product(sums: &mut [i64], factor: i64, place: usize, number: i64) -> Opti
 fn add_form(sums: &mut [i64], factor: i64, form: &[(usize, i64)]) -> Option<()>
     ensures { IfSome result (λ _. AreGivenMore (form_given factor form.now) sums.old sums.new) }
 {
-    for i in 0..form.len() {
-        let (place, number) = form[i];
+    for &(place, number) in form {
         add_product(sums, factor, place, number)?;
     }
     Some(())
@@ -98,8 +97,7 @@ fn add_short_products(sums: &mut [i64], factor: i64, form: &[(u32, i16)]) -> Opt
     requires high { factor ≤ℤ pos (2 ^ 47) }
     ensures { IfSome result (λ _. AreGivenMore (form_given factor form.now) sums.old sums.new) }
 {
-    for i in 0..form.len() {
-        let (place, number) = form[i];
+    for &(place, number) in form {
         add_small(sums, place as usize, factor * i64::from(number))?;
     }
     Some(())
@@ -112,8 +110,7 @@ fn add_short_form(sums: &mut [i64], factor: i64, form: &[(u32, i16)]) -> Option<
     if -MOST_FACTOR <= factor && factor <= MOST_FACTOR {
         return add_short_products(sums, factor, form);
     }
-    for i in 0..form.len() {
-        let (place, number) = form[i];
+    for &(place, number) in form {
         add_product(sums, factor, place as usize, i64::from(number))?;
     }
     Some(())
@@ -124,8 +121,7 @@ fn add_short_form(sums: &mut [i64], factor: i64, form: &[(u32, i16)]) -> Option<
 fn add_wide_form(sums: &mut [i64], factor: i64, form: &[(usize, i128)]) -> Option<()>
     ensures { IfSome result (λ _. AreGivenMore (form_given factor form.now) sums.old sums.new) }
 {
-    for i in 0..form.len() {
-        let (place, number) = form[i];
+    for &(place, number) in form {
         add_product(sums, factor, place, narrow(number)?)?;
     }
     Some(())
@@ -148,8 +144,8 @@ pub fn add_cuts(sums: &mut [i64], multipliers: &[u64], splits: &[OpenSplit]) -> 
     ensures { IfSome result (λ _. AreGivenMore (cuts_given multipliers.now (cuts_of splits.now))
         sums.old sums.new) }
 {
-    for i in 0..splits.len() {
-        add_cut(sums, multipliers[i], &splits[i])?;
+    for (i, split) in splits.iter().enumerate() {
+        add_cut(sums, multipliers[i], split)?;
     }
     Some(())
 }
@@ -172,8 +168,7 @@ pub fn add_rows(sums: &mut [i64], forms: &[RowForm], rows: &[(usize, i128)]) -> 
     ensures { IfSome result (λ _. AreGivenMore (rows_given rows.now (forms_held forms.now)) sums.old
         sums.new) }
 {
-    for i in 0..rows.len() {
-        let (row, multiplier) = rows[i];
+    for &(row, multiplier) in rows {
         add_row(sums, forms, row, multiplier)?;
     }
     Some(())

@@ -165,8 +165,7 @@ fn add_narrow(sums: &mut Sums, factor: i64, form: &[(usize, i64)]) -> Result<(),
     ensures too_large { TooLargeOnly (ReachesLimit sums.old.numbers.items (unsigned_abs factor
         * form_size form.now)) result }
 {
-    for i in 0..form.len() {
-        let (place, number) = form[i];
+    for &(place, number) in form {
         add_product(sums, factor, place, number)?;
     }
     Ok(())
@@ -179,8 +178,7 @@ fn add_widened(sums: &mut Sums, factor: i128, form: &[(usize, i64)]) -> Result<(
     ensures too_large { TooLargeOnly (ReachesLimit sums.old.numbers.items (unsigned_abs factor
         * form_size form.now)) result }
 {
-    for i in 0..form.len() {
-        let (place, number) = form[i];
+    for &(place, number) in form {
         add_multiple(sums, factor, place, i128::from(number))?;
     }
     Ok(())
@@ -206,8 +204,7 @@ pub fn add_short_form(sums: &mut Sums, factor: i128, form: &[(u32, i16)]) -> Res
     ensures too_large { TooLargeOnly (ReachesLimit sums.old.numbers.items (unsigned_abs factor
         * form_size form.now)) result }
 {
-    for i in 0..form.len() {
-        let (place, number) = form[i];
+    for &(place, number) in form {
         add_multiple(sums, factor, place as usize, i128::from(number))?;
     }
     Ok(())
@@ -220,8 +217,7 @@ pub fn add_wide_form(sums: &mut Sums, factor: i128, form: &[(usize, i128)]) -> R
     ensures too_large { TooLargeOnly (ReachesLimit sums.old.numbers.items (unsigned_abs factor
         * form_size form.now)) result }
 {
-    for i in 0..form.len() {
-        let (place, number) = form[i];
+    for &(place, number) in form {
         add_multiple(sums, factor, place, number)?;
     }
     Ok(())
@@ -233,8 +229,7 @@ fn add_terms(sums: &mut Sums, terms: &[(usize, i64)]) -> Result<(), Limit>
         sums.new.numbers.items) }
     ensures too_large { TooLargeOnly ⊥ result }
 {
-    for i in 0..terms.len() {
-        let (place, number) = terms[i];
+    for &(place, number) in terms {
         sums.add(place, i128::from(number))?;
     }
     Ok(())

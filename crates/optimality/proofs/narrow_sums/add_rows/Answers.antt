@@ -6,9 +6,9 @@ use Rattle.optimality.specs.inside.RowForms.{forms_held}
 use Rattle.optimality.proofs.StepFacts.{rows-step}
 use Rattle.optimality.proofs.narrow_sums.add_rows.Goals as goal
 
-pub loop-i-preserved : goal.loop-i-preserved
-loop-i-preserved c =
-    let fits_number : SFits w128 (get_or c.args.rows.now c.loop-i.i (0, pos 0)).1 = search rules in
+pub loop-row-preserved : goal.loop-row-preserved
+loop-row-preserved c =
+    let fits_number : SFits w128 (get_or c.args.rows.now c.loop-row.row-index (0, pos 0)).1 = search rules in
     let added = simp to_z-of_z at c.in_ok-add_row.ensures in
-    rows-step c.args.rows.now (forms_held c.args.forms.now) c.loop-i.i (0, pos 0) c.args.sums.now c.loop-i.sums c.add_row.new.sums
-    c.loop-i-test.true added c.loop-i.invariant
+    rows-step c.args.rows.now (forms_held c.args.forms.now) c.loop-row.row-index (0, pos 0) c.args.sums.now c.loop-row.sums c.add_row.new.sums
+    c.loop-row-test.true added c.loop-row.invariant

@@ -4,6 +4,6 @@ use Rattle.optimality.specs.inside.RowForms.{forms_held}
 use Rattle.optimality.proofs.narrow_sums.add_rows.Given as goal
 
 -- the sums so far, and what the rows that are left give
-abbrev pub invariant-loop-i : goal.invariant-loop-i
-invariant-loop-i l = (q : ℕ) → number_at l.sums q +ℤ rows_given (drop l.i l.rows) (forms_held l.forms) q
+abbrev pub invariant-loop-row : goal.invariant-loop-row
+invariant-loop-row l = (q : ℕ) → number_at l.sums q +ℤ rows_given (drop l.row-index l.rows) (forms_held l.forms) q
     ≡ number_at l.initial.sums q +ℤ rows_given l.rows (forms_held l.forms) q

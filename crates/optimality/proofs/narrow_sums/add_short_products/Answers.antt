@@ -10,20 +10,20 @@ use Rattle.optimality.proofs.narrow_sums.add_short_products.Goals as goal
 
 pub overflow_mul-factor : goal.overflow_mul-factor
 overflow_mul-factor c =
-    let t = get_or c.args.form.now c.loop-i.i (0, pos 0) in
+    let t = get_or c.args.form.now c.loop-place.place-index (0, pos 0) in
     let fits_factor : SFits w64 c.args.factor = c.ranges.factor in
     let fits : SFits w64 c.from.result = search rules in
-    let fits_number : SFits w16 (get_or c.args.form.now c.loop-i.i (0, pos 0)).1 = search rules in
+    let fits_number : SFits w16 (get_or c.args.form.now c.loop-place.place-index (0, pos 0)).1 = search rules in
     let number = simp to_z-of_z at c.from.ensures in
     let product = short_product c.args.factor t.1 c.requires.low c.requires.high fits_number in
     simp to_z-of_z (subst (λ (n : ℤ). SFits w64 (c.args.factor *ℤ n)) (sym number) product)
 
 pub add_small-requires-clause-low : goal.add_small-requires-clause-low
 add_small-requires-clause-low c =
-    let t = get_or c.args.form.now c.loop-i.i (0, pos 0) in
+    let t = get_or c.args.form.now c.loop-place.place-index (0, pos 0) in
     let fits_factor : SFits w64 c.args.factor = c.ranges.factor in
     let fits : SFits w64 c.from.result = search rules in
-    let fits_number : SFits w16 (get_or c.args.form.now c.loop-i.i (0, pos 0)).1 = search rules in
+    let fits_number : SFits w16 (get_or c.args.form.now c.loop-place.place-index (0, pos 0)).1 = search rules in
     let number = simp to_z-of_z at c.from.ensures in
     let product = short_product c.args.factor t.1 c.requires.low c.requires.high fits_number in
     let fits_product : SFits w64 (c.args.factor *ℤ c.from.result) = subst (λ (n : ℤ). SFits w64 (c.args.factor *ℤ n)) (sym number) product in
@@ -32,33 +32,33 @@ add_small-requires-clause-low c =
 
 pub add_small-requires-clause-high : goal.add_small-requires-clause-high
 add_small-requires-clause-high c =
-    let t = get_or c.args.form.now c.loop-i.i (0, pos 0) in
+    let t = get_or c.args.form.now c.loop-place.place-index (0, pos 0) in
     let fits_factor : SFits w64 c.args.factor = c.ranges.factor in
     let fits : SFits w64 c.from.result = search rules in
-    let fits_number : SFits w16 (get_or c.args.form.now c.loop-i.i (0, pos 0)).1 = search rules in
+    let fits_number : SFits w16 (get_or c.args.form.now c.loop-place.place-index (0, pos 0)).1 = search rules in
     let number = simp to_z-of_z at c.from.ensures in
     let product = short_product c.args.factor t.1 c.requires.low c.requires.high fits_number in
     let fits_product : SFits w64 (c.args.factor *ℤ c.from.result) = subst (λ (n : ℤ). SFits w64 (c.args.factor *ℤ n)) (sym number) product in
     simp to_z-of_z (subst (λ (n : ℤ). (c.args.factor *ℤ n) ≤ℤ pos (2 ^ 62)) (sym number)
     (short_high c.args.factor t.1 c.requires.low c.requires.high fits_number))
 
-pub loop-i-preserved : goal.loop-i-preserved
-loop-i-preserved c =
-    let t = get_or c.args.form.now c.loop-i.i (0, pos 0) in
+pub loop-place-preserved : goal.loop-place-preserved
+loop-place-preserved c =
+    let t = get_or c.args.form.now c.loop-place.place-index (0, pos 0) in
     let fits_factor : SFits w64 c.args.factor = c.ranges.factor in
     let fits : SFits w64 c.from.result = search rules in
-    let fits_number : SFits w16 (get_or c.args.form.now c.loop-i.i (0, pos 0)).1 = search rules in
+    let fits_number : SFits w16 (get_or c.args.form.now c.loop-place.place-index (0, pos 0)).1 = search rules in
     let number = simp to_z-of_z at c.from.ensures in
     let product = short_product c.args.factor t.1 c.requires.low c.requires.high fits_number in
     let fits_product : SFits w64 (c.args.factor *ℤ c.from.result) = subst (λ (n : ℤ). SFits w64 (c.args.factor *ℤ n)) (sym number) product in
     let added = simp to_z-of_z at c.in_ok-add_small.ensures in
-    let before = simp to_z-of_z at c.loop-i.invariant in
-    simp to_z-of_z (form-step c.args.factor c.args.form.now c.loop-i.i (0, pos 0) c.args.sums.now c.loop-i.sums c.add_small.new.sums c.loop-i-test.true
-    (subst (λ (n : ℤ). AreGivenMore (at_place t.0 (c.args.factor *ℤ n)) c.loop-i.sums c.add_small.new.sums) number added) before)
+    let before = simp to_z-of_z at c.loop-place.invariant in
+    simp to_z-of_z (form-step c.args.factor c.args.form.now c.loop-place.place-index (0, pos 0) c.args.sums.now c.loop-place.sums c.add_small.new.sums c.loop-place-test.true
+    (subst (λ (n : ℤ). AreGivenMore (at_place t.0 (c.args.factor *ℤ n)) c.loop-place.sums c.add_small.new.sums) number added) before)
 
 pub returns : goal.returns
 returns c =
     let fits_factor : SFits w64 c.args.factor = c.ranges.factor in
-    let before = simp to_z-of_z at c.loop-i.invariant in
-    let past : length c.args.form.now ≤ c.loop-i.i = omega (arith, c.loop-i-test.false) in
-    form-end c.args.factor c.args.form.now c.loop-i.i c.args.sums.now c.loop-i.sums past before
+    let before = simp to_z-of_z at c.loop-place.invariant in
+    let past : length c.args.form.now ≤ c.loop-place.place-index = omega (arith, c.loop-place-test.false) in
+    form-end c.args.factor c.args.form.now c.loop-place.place-index c.args.sums.now c.loop-place.sums past before

@@ -1,39 +1,27 @@
-use Rattle.std.proofs.Common.{get_or, pos, rules, arith, ◌≤◌, length}
+use Rattle.std.proofs.Common.{get_or, pos, rules, arith}
 use Rattle.std.proofs.lemmas.Int.{to_z-of_z}
 use mir.Syntax.{w128}
-use mir.Val.{SFits}
-use Rattle.optimality.proofs.PlaceFacts.{form-step, form-end}
-use Rattle.optimality.specs.inside.Adding.{number_at}
-use Rattle.optimality.proofs.SizeFacts.{form-step-within, reach}
+use mir.Val.{to_z, of_z}
+use Rattle.optimality.proofs.FormFacts.{term-added, all-added, term-too-large}
 use Rattle.optimality.proofs.StopFacts.{too-large-passed}
 use Rattle.optimality.proofs.sums.add_wide_form.Goals as goal
 
-pub loop-i-preserved : goal.loop-i-preserved
-loop-i-preserved c =
-    let fits_factor : SFits w128 c.args.factor = c.ranges.factor in
-    let fits_number : SFits w128 (get_or c.args.form.now c.loop-i.i (0, pos 0)).1 = search rules in
-    let added = simp to_z-of_z at c.in_ok-add_multiple.ensures.value in
-    let before = simp to_z-of_z at c.loop-i.invariant in
-    simp to_z-of_z (form-step c.args.factor c.args.form.now c.loop-i.i (0, pos 0) c.args.sums.now.numbers.items c.loop-i.sums.numbers.items
-    c.add_multiple.new.sums.numbers.items c.loop-i-test.true added before)
+pub loop-place-preserved : goal.loop-place-preserved
+loop-place-preserved c =
+    let t = get_or c.args.form.now c.loop-place.place-index (0, pos 0) in
+    let number = to_z-of_z w128 t.1 (search rules) in
+    term-added (to_z w128 (of_z w128 c.args.factor)) c.args.form.now c.loop-place.place-index _ c.args.sums.now.numbers.items
+    c.loop-place.sums.numbers.items c.add_multiple.new.sums.numbers.items c.loop-place-test.true number c.in_ok-add_multiple.ensures.value c.loop-place.invariant
 
 pub returns-clause-value : goal.returns-clause-value
 returns-clause-value c =
-    let fits_factor : SFits w128 c.args.factor = c.ranges.factor in
-    let before = simp to_z-of_z at c.loop-i.invariant in
-    let past : length c.args.form.now ≤ c.loop-i.i = omega (arith, c.loop-i-test.false) in
-    form-end c.args.factor c.args.form.now c.loop-i.i c.args.sums.now.numbers.items c.loop-i.sums.numbers.items past before
+    all-added _ c.args.factor c.args.form.now c.loop-place.place-index c.args.sums.now.numbers.items c.loop-place.sums.numbers.items
+    (to_z-of_z w128 c.args.factor c.ranges.factor) (omega (arith, c.loop-place-test.false)) c.loop-place.invariant
 
 pub returns-in_err-add_multiple-clause-too_large : goal.returns-in_err-add_multiple-clause-too_large
 returns-in_err-add_multiple-clause-too_large c =
-    let t = get_or c.args.form.now c.loop-i.i (0, pos 0) in
-    let fits_factor : SFits w128 c.args.factor = c.ranges.factor in
-    let fits_number : SFits w128 (get_or c.args.form.now c.loop-i.i (0, pos 0)).1 = search rules in
-    let before = simp to_z-of_z at c.loop-i.invariant in
+    let t = get_or c.args.form.now c.loop-place.place-index (0, pos 0) in
+    let number = to_z-of_z w128 t.1 (search rules) in
     too-large-passed (Unit {0}) c.from_residual.result c.in_err-add_multiple.field-0.0 c.from_residual.ensures.1 c.in_err-add_multiple.ensures.too_large
-    (λ large. (
-      t.0,
-      reach (form-step-within c.args.factor c.args.form.now c.loop-i.i (0, pos 0) t.0
-          (number_at c.loop-i.sums.numbers.items t.0) (number_at c.args.sums.now.numbers.items t.0) c.loop-i-test.true (before t.0))
-          (simp to_z-of_z at large),
-    ))
+    (λ large. term-too-large _ c.args.factor c.args.form.now c.loop-place.place-index _ c.args.sums.now.numbers.items c.loop-place.sums.numbers.items
+    (to_z-of_z w128 c.args.factor c.ranges.factor) c.loop-place-test.true number c.loop-place.invariant large)

@@ -3,6 +3,6 @@ use Rattle.optimality.specs.inside.Adding.{number_at, form_given}
 use Rattle.optimality.proofs.sums.add_widened.Given as goal
 
 -- the sums so far, and what the terms that are left give
-abbrev pub invariant-loop-i : goal.invariant-loop-i
-invariant-loop-i l = (q : ℕ) → number_at l.sums.numbers.items q +ℤ form_given l.factor (drop l.i l.form) q
+abbrev pub invariant-loop-place : goal.invariant-loop-place
+invariant-loop-place l = (q : ℕ) → number_at l.sums.numbers.items q +ℤ form_given l.factor (drop l.place-index l.form) q
     ≡ number_at l.fn.sums.numbers.items q +ℤ form_given l.factor l.form q
