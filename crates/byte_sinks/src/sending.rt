@@ -25,13 +25,12 @@ pub(crate) fn put_all<S: Sink>(sink: &mut S, bytes: &[u8], sent: &mut u64) -> Re
     ensures failed { OnErr result (HasFailed (S.failures sink.old) (S.failures sink.new)) }
     ensures succeeded { OnOk result (S.failures sink.new ≡ S.failures sink.old) }
 {
-    // The range of a number that is borrowed is known once the number is read.
-    let _known = *sent;
+    let before = *sent;
     let mut from = 0;
     while from < bytes.len() {
         let n = sink.put(front_piece(&bytes[from..]))?;
         from += n;
-        *sent = sent.saturating_add(n as u64);
+        *sent = before.saturating_add(from as u64);
     }
     Ok(())
 }

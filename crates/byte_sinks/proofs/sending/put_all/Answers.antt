@@ -22,6 +22,6 @@ loop-from-preserved g c =
           c.in_ok-n.ensures.within i.within;
       gone = Appends-then _ _ _ _ _ _ (piece-step c.loop-from.from c.in_ok-n.n PIECE_LEN c.args.bytes.now c.front_piece.result.now
           c.front_piece.ensures c.in_ok-n.ensures.within) i.gone c.in_ok-n.ensures.took;
-      count = omega (arith, i.count, c.saturating_add.ensures);
+      count = c.saturating_add.ensures;
       failures = c.in_ok-n.ensures.succeeded ∙ i.failures;
     }
