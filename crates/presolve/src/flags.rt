@@ -77,10 +77,10 @@ impl Flags {
         ensures { IfOk result (λ kept. offers kept
             ≡ kept_of (lots_in book.now.rules) (book_of book.now) (has group.now)) }
     {
-        let bidders = book.rules().bidders().len();
+        book.within_limits();
         let mut kept = Vec::new(alloc);
-        for place in 0..bidders {
-            keep_bidder(&mut kept, book, group, place as u16 + 1, &self.forms[place])?;
+        for (place, flags) in self.forms.iter().enumerate() {
+            keep_bidder(&mut kept, book, group, place as u16 + 1, flags)?;
         }
         Ok(Kept::new(kept))
     }
@@ -98,8 +98,7 @@ impl Flags {
             ≡ kept_among (lots_in book.now.rules) (book_of book.now) (has group.now)
             choices.items) }
     {
-        // Its contract says that the forms are within limits.
-        let _rules = book.rules();
+        book.within_limits();
         let sorted = by_rising_bid(choices);
         let mut kept = Vec::new(alloc);
         for place in 0..sorted.len() {
@@ -125,8 +124,7 @@ impl Flags {
             (kept_of (lots_in book.now.rules) (book_of book.now) (has group.now))) }
         ensures each { OnOk result (All IsKeptBid kept.new.items) }
     {
-        // Its contract says how many bidders there are.
-        let _rules = book.rules();
+        book.within_limits();
         let Choice { bidder, bid } = choice;
         if group.has(bidder) {
             return Ok(());
@@ -160,8 +158,7 @@ impl Flags {
         ensures { IfOk result (λ kept. offers kept
             ≡ kept_in_form (lots_in book.now.rules) bidder (form_of (book_of book.now) bidder)) }
     {
-        // Its contract says that the rules are within limits, and so how many bidders there are.
-        let _rules = book.rules();
+        book.within_limits();
         let mut own = Vec::new(alloc);
         let flags = &self.forms[bidder as usize - 1];
         keep_form(&mut own, book, bidder, flags)?;

@@ -59,10 +59,9 @@ fn narrow(left: &mut [u64], first: &[u64], second: &[u64], third: &[u64], fourth
     ensures none { result ≡ false → All (λ word. word ≡ 0) left.new }
 {
     let mut any = 0;
-    for place in 0..left.len() {
-        let word = left[place] & first[place] & second[place] & third[place] & fourth[place];
-        left[place] = word;
-        any |= word;
+    for (place, word) in left.iter_mut().enumerate() {
+        *word &= first[place] & second[place] & third[place] & fourth[place];
+        any |= *word;
     }
     any != 0
 }
@@ -73,9 +72,7 @@ fn leave_before(left: &mut [u64], place: usize)
     ensures count { length left.new ≡ length left.old }
     ensures before { (i : ℕ) → i < place → IsMarked left.new i }
 {
-    for word in 0..place / 64 {
-        left[word] = u64::MAX;
-    }
+    left[..place / 64].fill(u64::MAX);
     left[place / 64] = (1 << (place % 64)) - 1;
 }
 
@@ -85,9 +82,7 @@ fn leave_others(left: &mut [u64], place: usize)
     ensures count { length left.new ≡ length left.old }
     ensures others { (i : ℕ) → i / 64 < length left.new → i ≢ place → IsMarked left.new i }
 {
-    for word in 0..left.len() {
-        left[word] = u64::MAX;
-    }
+    left.fill(u64::MAX);
     left[place / 64] = !(1 << (place % 64));
 }
 

@@ -83,10 +83,9 @@ fn add_lower(level: &mut Level, so_far: &mut Level)
     ensures lower { (i : ℕ) → IsMarked so_far.old.words.items i
         → IsMarked so_far.new.words.items i }
 {
-    for place in 0..so_far.words.len() {
-        let word = so_far.words[place] | level.words[place];
-        so_far.words[place] = word;
-        level.words[place] = word;
+    for (place, word) in level.words.iter_mut().enumerate() {
+        *word |= so_far.words[place];
+        so_far.words[place] = *word;
     }
 }
 
@@ -99,8 +98,8 @@ fn sieve_of(alloc: Global, numbers: &[u64]) -> Result<Sieve, AllocError>
     let mut levels = own_levels(alloc, &ranks)?;
     let words = vec![in alloc; 0; ranks.len().div_ceil(64)]?;
     let mut so_far = Level { words };
-    for rank in 0..levels.len() {
-        add_lower(&mut levels[rank], &mut so_far);
+    for level in levels.iter_mut() {
+        add_lower(level, &mut so_far);
     }
     Ok(Sieve { ranks, levels })
 }

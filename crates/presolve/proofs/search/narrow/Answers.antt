@@ -15,8 +15,8 @@ loop-place-preserved c =
     let before = c.loop-place.invariant in
     let args = c.args in
     let within : place < length left = (let count = before.count in let small = c.loop-place-test.true in omega arith) in
-    let word : ℕ = bit_and (bit_and (bit_and (bit_and (slice_index left place) (slice_index args.first.now place))
-    (slice_index args.second.now place)) (slice_index args.third.now place)) (slice_index args.fourth.now place) in
+    let word : ℕ = bit_and (slice_index left place) (bit_and (bit_and (bit_and (slice_index args.first.now place)
+    (slice_index args.second.now place)) (slice_index args.third.now place)) (slice_index args.fourth.now place)) in
     record {
       count = length-set left place word ∙ before.count;
       kept = λ j k small. set_word
@@ -27,7 +27,7 @@ loop-place-preserved c =
           (λ j earlier. before.kept j k earlier)
           (λ own first second third fourth.
           let mine = ap (λ (n : ℕ). bit_at n k) (before.later place (omega arith)) ∙ own in
-          both_set _ _ k (both_set _ _ k (both_set _ _ k (both_set (slice_index left place) _ k mine first) second) third) fourth)
+          both_set (slice_index left place) _ k mine (both_set _ _ k (both_set _ _ k (both_set _ _ k first second) third) fourth))
           j small;
       none = λ j small nothing.
           let any = le_or_l c.loop-place.any word in

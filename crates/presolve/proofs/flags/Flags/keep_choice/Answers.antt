@@ -76,7 +76,7 @@ returns-in_ok-push-clause-each c =
     let bidder = bidder_within (book_of c.args.book.now) c.args.choice.bidder (omega arith) in
     rw c.in_ok-push.ensures.items (All-push IsKeptBid c.args.kept.now.items _ c.requires.each record {
       some_bidder = bidder.0;
-      bidders = omega (arith, bidder.1, c.rules-rules.ensures.book.bidders);
+      bidders = omega (arith, bidder.1, c.within_limits.ensures.book.bidders);
       some_bid = omega arith;
       bids = omega (arith, form.few);
       quantities = limits.quantities;

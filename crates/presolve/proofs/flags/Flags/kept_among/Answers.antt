@@ -23,7 +23,7 @@ loop-place-init c =
     let group = has c.args.group.now in
     let sorted = c.by_rising_bid-sorted.result.items in
     record {
-      so_far = ap (λ (ks : List KeptBid). offers ks) c.new-kept.ensures.items ∙ sym (at_start lots book group c.rules-rules.ensures.book sorted);
+      so_far = ap (λ (ks : List KeptBid). offers ks) c.new-kept.ensures.items ∙ sym (at_start lots book group c.within_limits.ensures.book sorted);
       each = rw c.new-kept.ensures.items (λ k d l. absurd (omega arith));
     }
 
@@ -45,13 +45,13 @@ loop-place-preserved c =
           rw w.kept-is (record {
             so_far = w.in_ok-keep_choice.ensures.added ∙ ap (λ (os : List Offer). os ++ filter (is_offer_of choice)
                 (kept_of lots book group)) c.loop-place.invariant.so_far
-                ∙ sym (one_more lots book group c.rules-rules.ensures.book sorted choice place less at earlier);
+                ∙ sym (one_more lots book group c.within_limits.ensures.book sorted choice place less at earlier);
             each = w.in_ok-keep_choice.ensures.each;
           }))
       | else-not-is_repeated w ↦
           (let again = repeated sorted c.deref.result.now place c.is_repeated.result shown c.is_repeated.ensures w.if-not-is_repeated.false in
           rw w.kept-is (record {
-            so_far = c.loop-place.invariant.so_far ∙ sym (one_again_at lots book group c.rules-rules.ensures.book sorted place less again);
+            so_far = c.loop-place.invariant.so_far ∙ sym (one_again_at lots book group c.within_limits.ensures.book sorted place less again);
             each = c.loop-place.invariant.each;
           }))
     ]
@@ -64,8 +64,8 @@ new-requires c =
     let sorted = c.by_rising_bid-sorted.result.items in
     let over : length sorted ≤ c.loop-place.place = (let l = c.loop-place-test.false in omega (arith, c.by_rising_bid-sorted.result.ok.0)) in
     are_kept lots _ c.loop-place.kept.items (offers_left lots (λ o. has_choice c.args.choices.items o.bidder o.number)
-    (kept_of lots book group) (kept_are_offers lots book group c.rules-rules.ensures.book)) c.loop-place.invariant.each
-    (c.loop-place.invariant.so_far ∙ at_end lots book group c.rules-rules.ensures.book sorted c.loop-place.place c.args.choices.items over
+    (kept_of lots book group) (kept_are_offers lots book group c.within_limits.ensures.book)) c.loop-place.invariant.each
+    (c.loop-place.invariant.so_far ∙ at_end lots book group c.within_limits.ensures.book sorted c.loop-place.place c.args.choices.items over
     c.by_rising_bid-sorted.ensures.same)
 
 pub returns : goal.returns
@@ -76,4 +76,4 @@ returns c =
     let sorted = c.by_rising_bid-sorted.result.items in
     let over : length sorted ≤ c.loop-place.place = (let l = c.loop-place-test.false in omega (arith, c.by_rising_bid-sorted.result.ok.0)) in
     ap (λ (ks : List KeptBid). offers ks) c.new.ensures ∙ c.loop-place.invariant.so_far
-    ∙ at_end lots book group c.rules-rules.ensures.book sorted c.loop-place.place c.args.choices.items over c.by_rising_bid-sorted.ensures.same
+    ∙ at_end lots book group c.within_limits.ensures.book sorted c.loop-place.place c.args.choices.items over c.by_rising_bid-sorted.ensures.same

@@ -34,7 +34,7 @@ new-requires c =
     let lots = lots_in c.args.book.now.rules in
     let own = kept_in_form lots c.args.bidder (form_of book c.args.bidder) in
     are_kept lots own c.keep_form.new.kept.items (form_offers lots book c.args.bidder c.requires.some c.requires.bidders
-    c.rules-rules.ensures.book) c.in_ok-keep_form.ensures.each
+    c.within_limits.ensures.book) c.in_ok-keep_form.ensures.each
     (c.in_ok-keep_form.ensures.added ∙ ap (λ (ks : List KeptBid). offers ks ++ own) c.new-own.ensures.items)
 
 pub returns : goal.returns
