@@ -70,10 +70,8 @@ fn add_all_sessions<L: Round>(
     ensures parts { rest.new.parts ≡ 1 }
     ensures amount { rest.new.amount ≡ 0 }
 {
-    let bidders = rules.bidders();
-    for i in 0..bidders.len() {
-        let count = bidders[i].sessions;
-        add_sessions(alloc, sessions, rest, i as u16 + 1, count);
+    for (i, bidder) in rules.bidders().iter().enumerate() {
+        add_sessions(alloc, sessions, rest, i as u16 + 1, bidder.sessions);
     }
 }
 

@@ -34,21 +34,23 @@ known-of t i s d small least most =
 pub add_sessions-requires-clause-known : goal.add_sessions-requires-clause-known
 add_sessions-requires-clause-known g c = λ s least most.
     let i = c.loop-i.i in
-    let d = c.index-bidders-i.result in
-    let value = c.bidders-bidders.ensures.value in
+    let d = c.bidder-item.result in
+    let value = c.bidders-bidder-items.ensures.value in
     let small : i < length c.args.rules.now.bidders = omega (arith, c.loop-i-test.true, ap length value) in
     subst (λ (t : Terms). IsSessionOf t (i + 1) s) c.requires.rules
-    (known-of c.args.rules.now i s d small least (subst (λ (bidders : List Bidder). s ≤ (slice_index_or bidders i d).sessions) value most))
+    (known-of c.args.rules.now i s d small least (subst (λ (bidders : List Bidder). s ≤ (slice_index_or bidders i d).sessions) value
+    (subst (λ (b : Bidder). s ≤ b.sessions) c.bidder-item.is most)))
 
 pub loop-i-preserved : goal.loop-i-preserved
 loop-i-preserved g c =
     let all = c.args.rules.now.bidders in
-    let read = c.bidders-bidders.result.now in
+    let read = c.bidders-bidder-items.result.now in
     let i = c.loop-i.i in
-    let bidder = slice_index_or read i c.index-bidders-i.result in
-    let value = c.bidders-bidders.ensures.value in
+    let bidder = c.bidder-item.result in
+    let value = c.bidders-bidder-items.ensures.value in
     let next : drop i all ≡ bidder ∷ drop (i + 1) all =
-    ap (λ (bidders : List Bidder). drop i bidders) (sym value) ∙ drop_more read i c.index-bidders-i.result c.loop-i-test.true
+    ap (λ (bidders : List Bidder). drop i bidders) (sym value) ∙ drop_more read i bidder c.loop-i-test.true
+    ∙ ap (λ (b : Bidder). b ∷ drop (i + 1) read) (sym c.bidder-item.is)
     ∙ ap (λ (bidders : List Bidder). bidder ∷ drop (i + 1) bidders) value in
     let was = c.loop-i.invariant in
     let now = c.add_sessions.ensures in
@@ -63,6 +65,6 @@ loop-i-preserved g c =
 pub returns-clause-sessions : goal.returns-clause-sessions
 returns-clause-sessions g c =
     let all = c.args.rules.now.bidders in
-    let none : drop c.loop-i.i all ≡ [] = drop_all c.loop-i.i all (omega (arith, c.loop-i-test.false, ap length c.bidders-bidders.ensures.value)) in
+    let none : drop c.loop-i.i all ≡ [] = drop_all c.loop-i.i all (omega (arith, c.loop-i-test.false, ap length c.bidders-bidder-items.ensures.value)) in
     sym (append-nil c.loop-i.sessions.items) ∙ ap (λ (bidders : List Bidder). c.loop-i.sessions.items ++ all_sessions (c.loop-i.i + 1)
     bidders) (sym none) ∙ c.loop-i.invariant.items
