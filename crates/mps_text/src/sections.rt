@@ -1,6 +1,6 @@
 //! The lines of each section on their way to a sink.
 
-ghost use Rattle.std.specs.Prelude.{IfSome, ◌≡◌, ◌≤◌, ◌≤ℤ◌, ◌<ℤ◌, ◌∷◌, [], ◌++◌, codes, flat_map, length, map, pos, take, true};
+ghost use Rattle.std.specs.Prelude.{ℕ, List, IfSome, ◌≡◌, ◌≤◌, ◌≤ℤ◌, ◌<ℤ◌, ◌∷◌, [], ◌++◌, codes, flat_map, length, map, pos, take, true};
 ghost use Rattle.std.specs.Fmt.{signed_decimal};
 ghost use Rattle.program_rows.specs.MpsLines.{Data};
 ghost use Rattle.program_rows.specs.Parts.{shown_row, shown_column};
@@ -113,17 +113,14 @@ fn write_entry(
     rows: &[Row],
     front: &[u8; FRONT_LEN],
     front_len: usize,
-    name: &[u8],
     entry: &(usize, i64),
 ) -> Option<usize>
     requires within { front_len ≤ FRONT_LEN }
-    requires front { take front_len front.now ≡ 32 ∷ (name.now ++ 32 ∷ []) }
-    ensures written { IfSome result (λ end. take end lines.new
-        ≡ take at lines.old ++ entry_bytes (map shown_row rows.now) name.now entry.now) }
+    ensures written { (name : List ℕ) → take front_len front.now ≡ 32 ∷ (name ++ 32 ∷ [])
+        → IfSome result (λ end. take end lines.new
+        ≡ take at lines.old ++ entry_bytes (map shown_row rows.now) name entry.now) }
     ensures within { IfSome result (λ end. end ≤ LINES_LEN) }
 {
-    // Contracts alone speak of the name: its bytes are in the front already.
-    let _of_the_front = name;
     let row = name_at(rows, entry.0);
     if at <= LINES_LEN - LINE_ROOM && is_short(row, entry.1) {
         return Some(write_line(lines, at, front, front_len, row, entry.1 as u8));
@@ -147,7 +144,7 @@ fn write_entries(
     let front_len = write_front(&mut front, name);
     let mut at = 0;
     for entry in entries {
-        at = write_entry(lines, at, rows, &front, front_len, name, entry)?;
+        at = write_entry(lines, at, rows, &front, front_len, entry)?;
     }
     Some(at)
 }
