@@ -101,9 +101,9 @@ fn first_suiting(
     requires others { length others.now ≡ length book.now.rules.categories }
     ensures { result ≡ first_suiting (lots_in book.now.rules) bids.now own net others.now }
 {
-    for place in 0..bids.len() {
+    for (place, bid) in bids.iter().enumerate() {
         let number = place as u16 + 1;
-        if number != own && suits(book, net, others, &bids[place]) {
+        if number != own && suits(book, net, others, bid) {
             return Some(number);
         }
     }

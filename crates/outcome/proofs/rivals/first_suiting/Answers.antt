@@ -19,7 +19,7 @@ loop-place-preserved c =
     let lots = lots_in c.args.book.now.rules in
     c.loop-place.invariant ∙ elim c.else-number-own.branch [
       | else-number-own-via-then-number-own+else-suits w ↦ suiting_later lots c.args.bids.now c.args.own _ c.args.others.now
-          c.loop-place.place w.index-bids-place.result c.loop-place-test.true w.if-number-own.true w.index-bids-place.is w.if-suits.ensures
+          c.loop-place.place c.index-bids-place.result c.loop-place-test.true w.if-number-own.true c.index-bids-place.is w.if-suits.ensures
       | else-number-own-via-else-number-own w ↦ own_skipped lots c.args.bids.now c.args.own _ c.args.others.now c.loop-place.place
           c.loop-place-test.true w.if-number-own.false
     ]
