@@ -213,8 +213,7 @@ pub fn read_auction<'t, R: Threads + Wait + Sync + AllocGlobal>(
         form_bidders,
         groups,
     } = close_auction(rt, parts.as_slice(), input.last_wins())?;
-    // Its contract says that the book is closed.
-    let _history = book.history();
+    book.well_formed();
     let Beside {
         solutions,
         certificates,

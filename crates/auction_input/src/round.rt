@@ -59,8 +59,7 @@ pub fn close_round<R: Threads + Wait + Sync + AllocGlobal>(
 fn part_count(rules: &Rules) -> u64
     ensures { result ≡ session_count rules.now + 1 }
 {
-    // Its contract says that the rules are within limits, and so that the sum is no number too great.
-    let _within_limits = rules.bidders();
+    rules.within_limits();
     rules.session_count() as u64 + 1
 }
 

@@ -69,7 +69,7 @@ returns-clause-sold g c =
     record {
       parsed = returns-clause-parsed g c;
       book = book;
-      closed = c.history-history.ensures.closing;
+      closed = c.well_formed-2.ensures.closing;
       holds = returns-clause-submitted g c;
       sale_is = refl;
     }

@@ -4,6 +4,6 @@ use Rattle.auction_input.proofs.round.part_count.Goals as goal
 
 pub overflow_add-result : goal.overflow_add-result
 overflow_add-result c =
-    let few = few-sessions c.args.rules.now c.bidders-within_limits.ensures.terms in
+    let few = few-sessions c.args.rules.now c.within_limits.ensures.terms in
     let count = c.session_count.ensures in
     omega arith
