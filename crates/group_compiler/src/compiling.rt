@@ -115,6 +115,13 @@ impl<'b, 'g> Compiler<'b, 'g> {
         self.groups.count()
     }
 
+    /// What every compiler keeps to: how many groups there may be.
+    pub fn within_limits(&self)
+        ensures few { length self.now.groups ≤ MOST_GROUPS }
+    {
+        self.count();
+    }
+
     /// Group k, counted from 1.
     pub fn group(&self, k: usize) -> &'g Group
         requires some { 1 ≤ k }
@@ -183,8 +190,7 @@ impl<'b, 'g> Maker for Compiler<'b, 'g> {
     }
 
     fn make(&self, alloc: Global, number: usize) -> Result<Compiled<'g>, AllocError> {
-        // Its contract says how many groups there may be, so that the number after this one isn't too great.
-        let _few = Compiler::count(self);
+        self.within_limits();
         self.compile(alloc, number + 1)
     }
 }

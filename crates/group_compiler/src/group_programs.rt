@@ -66,8 +66,7 @@ impl<'b> GroupPrograms<'b> {
     pub fn without(&self, alloc: Global, group: &Group) -> Result<Selection<'_>, AllocError>
         ensures { IfOk result (λ program. program ≡ program_without self.now group.now) }
     {
-        // Its contract says that the book is within limits.
-        let _rules = self.book.rules();
+        self.book.within_limits();
         self.shared.without(alloc, group)
     }
 }

@@ -45,8 +45,7 @@ impl<'b> Maker for PageMaker<'b> {
     }
 
     fn make(&self, alloc: Global, number: usize) -> Result<Page, AllocError> {
-        // Its contract says that the rules are within limits, and so how many bidders there are.
-        let _rules = self.book.rules();
+        self.book.within_limits();
         Page::of_form(alloc, self.book, &self.flags, number as u16 + 1)
     }
 }

@@ -13,7 +13,7 @@ ghost use Rattle.group_compiler.specs.Compiled.{compiled};
 ghost use Rattle.group_compiler.specs.Gates.{AreAllPast, IsDueOncePast};
 ghost use Rattle.group_compiler.specs.inside.Works.{IsWork, draws};
 ghost use Rattle.group_compiler.specs.declared.limits.TheConstants.{WORKER_DRAWS};
-ghost use Rattle.auction_terms.specs.declared.limits.TheConstants.{MOST_WORKERS};
+ghost use Rattle.auction_terms.specs.declared.limits.TheConstants.{MOST_GROUPS, MOST_WORKERS};
 
 use crate::claim::Claim;
 use crate::claims::Claims;
@@ -47,6 +47,13 @@ impl<G: Gate, M: Maker> Promise<Result<Work<M::Made>, AllocError>> for WorkOfOne
     ghost kept_by = { λ p r. IfOk r (λ work. IsWork p.claims.value (M.count_of p.maker.value) (M.groups_of p.maker.value) (M.makes p.maker.value) (G.is_past p.gate.value) work × (draws work ≡ WORKER_DRAWS)) };
 }
 
+// What every maker keeps to: how many numbers there may be.
+fn within_limits<M: Maker>(maker: &M)
+    ensures few { M.count_of maker.now ≤ MOST_GROUPS }
+{
+    maker.count();
+}
+
 // The work of two claims, as that of one.
 fn join_works<G: Gate, M: Maker>(
     claims: &Claims,
@@ -62,8 +69,7 @@ fn join_works<G: Gate, M: Maker>(
     ensures { IfOk result (λ both. IsWork claims.now (M.count_of maker.now) (M.groups_of maker.now)
         (M.makes maker.now) (G.is_past gate.now) both × (draws both ≡ draws mine + draws theirs)) }
 {
-    // Its contract says how many numbers there may be, so that the draws of both claims add up to no number too great.
-    let _known = maker.count();
+    within_limits(maker);
     let Work { claim, mut results } = theirs;
     claims.join(&mut mine.claim, claim);
     mine.results.append(&mut results)?;
@@ -179,7 +185,7 @@ pub fn make_all<R: Threads + Wait + Sync, G: Gate + Sync, M: Maker + Sync>(
     let (claims, claim) = Claims::open(alloc)?;
     let work = run_workers(rt, alloc, &claims, workers, gate, maker, claim)?;
     let Work { claim, results } = work;
-    let _drawn = claims.close(claim);
+    claims.close(claim);
     in_order(alloc, maker, results)
 }
 

@@ -9,10 +9,10 @@ in_order-requires-clause-below g c κs within = all_below (g.M.Maker.count_of c.
 pub in_order-requires-clause-complete : goal.in_order-requires-clause-complete
 in_order-requires-clause-complete g c κs within =
     let w = c.in_ok-work.ensures.0 in
-    all_made _ _ c.close-drawn.result c.in_ok-work.work.claim.drawn _ c.close-drawn.ensures.each_once c.close-drawn.ensures.count w.finished w.numbers
+    all_made _ _ c.close.result c.in_ok-work.work.claim.drawn _ c.close.ensures.each_once c.close.ensures.count w.finished w.numbers
 
 pub returns-clause-past : goal.returns-clause-past
 returns-clause-past g c =
     let w = c.in_ok-work.ensures.0 in
-    IfOk-weaker c.in_order.result _ _ (λ all h. all_past _ _ c.close-drawn.result (g.G.Gate.is_past c.args.gate.now)
-    c.in_ok-work.work.claim.drawn c.close-drawn.ensures.each_once c.close-drawn.ensures.count w.finished w.past) c.in_order.ensures
+    IfOk-weaker c.in_order.result _ _ (λ all h. all_past _ _ c.close.result (g.G.Gate.is_past c.args.gate.now)
+    c.in_ok-work.work.claim.drawn c.close.ensures.each_once c.close.ensures.count w.finished w.past) c.in_order.ensures

@@ -15,5 +15,5 @@ returns c =
     IfOk-weaker c.without.result (λ (p : Table). p ≡ selection_without c.self.inside.shared (has group))
     (λ (p : Table). p ≡ program_without c.args.self.now group)
     (λ p e. e ∙ ap (λ (s : Shared). selection_without s (has group)) c.self.inside.shared_is ∙ selection_is book group
-    c.rules-rules.ensures.book ∙ ap (λ (b : Closing). program_without b group) c.self.view_is)
+    c.within_limits.ensures.book ∙ ap (λ (b : Closing). program_without b group) c.self.view_is)
     c.without.ensures
