@@ -14,7 +14,6 @@ ghost use Rattle.answers.specs.Claimed.{IsTooWideClaim};
 ghost use Rattle.answers.specs.SolutionWinners.{winners_of_groups};
 ghost use Rattle.answers.specs.inside.Claiming.{IsWonFirst};
 
-use crate::limits::within_limits;
 use crate::winning::won_without;
 use auction_input::{Auction, PartKind, Refusal};
 use bid_desk::ClosedBook;
@@ -72,7 +71,7 @@ fn only(
         (held auction.now).ties) r
         ⊎ IsTooWideClaim (held auction.now) r) }
 {
-    within_limits(&auction.book);
+    auction.book.within_limits();
     let program = compiler.program_without(alloc, auction.groups.group(1))?;
     // The solution was taken before, so that only memory can refuse it now.
     let Ok(point) = read_solution(alloc, auction.solutions[0], &program) else {

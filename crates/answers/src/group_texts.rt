@@ -14,7 +14,6 @@ ghost use Rattle.bid_desk.specs.Sale.{sale_of};
 ghost use Rattle.answers.specs.declared.group_texts.RunFault.TheVariants.{Sink as FaultOfSink};
 ghost use Rattle.answers.specs.GroupTexts.{FailsAsReported, StopsAsReported, program_bytes, programs_bytes};
 
-use crate::limits::within_limits;
 use auction_terms::{Group, Groups};
 use bid_desk::ClosedBook;
 use byte_sinks::{Sink, WriteFault, Writer};
@@ -55,7 +54,7 @@ fn add_program<S: Sink>(writer: &mut Writer<'_, S>, book: &ClosedBook, pages: &P
     ensures { Adds S.taken S.failures writer.old writer.new
         (text (program_without book.now group.now)) }
 {
-    within_limits(book);
+    book.within_limits();
     add_group_text(writer, pages, group);
 }
 

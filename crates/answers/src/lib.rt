@@ -8,7 +8,6 @@ mod commands;
 mod file_lines;
 mod group_texts;
 pub mod laws;
-mod limits;
 mod lowest;
 mod messages;
 mod options;

@@ -197,8 +197,7 @@ fn check_covered(
     ensures refuses { IfErr result (λ r. Refuses (covered (held auction.now) first.now prices.now
         text.now) r ⊎ IsTooWideCover (held auction.now) first.now prices.now text.now r) }
 {
-    // Their contract says how many groups there may be.
-    let _few = auction.groups.count();
+    auction.groups.within_limits();
     let program = compiler.program_without(alloc, auction.groups.group(1))?;
     match check_cover(alloc, text, program, &auction.book, first, prices) {
         Ok(()) => Ok(()),
@@ -287,8 +286,7 @@ fn priced(
         (slice_index_or (held auction.now).covers 0 [])) r
         ⊎ IsTooWidePriced (held auction.now) first.now r) }
 {
-    // Its contract says how many forms the book has.
-    let _sized = auction.book.rules();
+    auction.book.within_limits();
     let text = text_at(auction.prices.as_slice(), 0);
     let prices = read_prices(alloc, auction, first, text)?;
     let cover = text_at(auction.covers.as_slice(), 0);

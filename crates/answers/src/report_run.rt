@@ -56,8 +56,7 @@ impl<'a, 'b, 'g, 't> Maker for Winning<'a, 'b, 'g, 't> {
         if self.left.is_below(number) {
             return Ok(None);
         }
-        // Its contract says how many groups there may be, so that the number after this one is none too great.
-        let _few = self.compiler.count();
+        self.compiler.within_limits();
         let group = self.compiler.group(number + 1);
         let text = text_at(self.solutions, number);
         let won = won_by_named(alloc, self.compiler, group, text)?;
@@ -88,8 +87,7 @@ impl<'a, 'b, 'g, 't> Winning<'a, 'b, 'g, 't> {
         if let Some(allocation) = made {
             return Ok(allocation);
         }
-        // Its contract says how many groups there may be.
-        let _few = self.compiler.count();
+        self.compiler.within_limits();
         let group = self.compiler.group(number + 1);
         let text = text_at(self.solutions, number);
         won_by_all(alloc, self.compiler, group, number + 1, text)

@@ -12,7 +12,6 @@ ghost use Rattle.auction_input.specs.Refused.{Refuses};
 ghost use Rattle.answers.specs.SolutionWinners.{solution_refused, winners_by};
 ghost use Rattle.program_rows.specs.ProgramNames.{row_name};
 
-use crate::limits::within_limits;
 use auction_input::{Name, Refusal};
 use auction_terms::{Choice, Group, LineReader, next_field};
 use bid_desk::ClosedBook;
@@ -79,7 +78,7 @@ pub fn won_by_all(
     ensures refuses { IfErr result (Refuses (winners_by
         (program_without compiler.now.book group.now) solution text.now)) }
 {
-    within_limits(compiler.book());
+    compiler.book().within_limits();
     let program = compiler.program_without(alloc, group)?;
     allocation_won(alloc, compiler.book(), group, &program, solution, text)
 }
@@ -115,7 +114,7 @@ pub fn won_by_named(
     ensures won { IfOk result (λ taken. IfSome taken (λ a. (number : ℕ)
         → winners_by (program_without compiler.now.book group.now) number text.now ≡ Ok a)) }
 {
-    within_limits(compiler.book());
+    compiler.book().within_limits();
     let choices = named_bids(alloc, text)?;
     let program = compiler.program_among(alloc, group, choices)?;
     match read_solution(alloc, text, &program) {

@@ -16,7 +16,6 @@ ghost use Rattle.answers.specs.GroupTexts.{FailsAsReported, StopsAsReported, pro
 ghost use Rattle.auction_input.specs.Settled.{held};
 
 use crate::group_texts::{RunFault, write_programs};
-use crate::limits::within_limits;
 use auction_input::{Auction, Refusal, Request};
 use auction_terms::Groups;
 use bid_desk::ClosedBook;
@@ -54,7 +53,7 @@ pub fn run_compile<R: Threads + Wait + Sync, G: Gate + Sync, S: Sink>(
     ensures succeeded { OnOk result (S.failures out.new ≡ S.failures out.old) }
     ensures past { OnOk result (AreAllPast (length groups.now) (G.is_past gate.now)) }
 {
-    within_limits(book);
+    book.within_limits();
     match Pages::of_book(rt, alloc, book, groups.count(), workers, gate) {
         Ok(pages) => write_programs(book, &pages, groups, out),
         Err(AllocError) => Err(RunFault::OutOfMemory { written: 0 }),

@@ -9,7 +9,6 @@ ghost use Rattle.auction_terms.specs.declared.limits.TheConstants.{MOST_WORKERS}
 ghost use Rattle.bid_desk.specs.Sale.{sale_of};
 
 use crate::group_texts::write_program_without;
-use crate::limits::within_limits;
 use auction_input::{Auction, Refusal, Request};
 use auction_terms::{Groups, MOST_WORKERS};
 use bid_desk::ClosedBook;
@@ -48,7 +47,7 @@ pub fn write_program_of_all<R: Threads + Wait + Sync + AllocGlobal, S: Sink>(
 {
     let alloc: Global = rt.alloc();
     let book = &auction.book;
-    within_limits(book);
+    book.within_limits();
     let groups = Groups::only_empty(alloc)?;
     let workers = page_workers(rt, book);
     let pages = Pages::of_book(rt, alloc, book, groups.count(), workers, &OpenGate)?;

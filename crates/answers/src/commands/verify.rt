@@ -69,8 +69,7 @@ pub fn write_verified<R: Threads + Wait + Sync + AllocGlobal, S: Sink>(
     let won = won_by_groups(rt, auction, &compiler, workers)?;
     let allocations = won.as_slice();
     check_certificates(rt, alloc, auction, &compiler, allocations)?;
-    // Its contract says that the book is within limits.
-    let _within_limits = auction.book.rules();
+    auction.book.within_limits();
     let claim = claim_of(alloc, auction, &compiler, allocations)?;
     let pricing = pricing_of(alloc, auction, &compiler, allocations)?;
     report_with(

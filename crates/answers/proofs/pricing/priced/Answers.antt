@@ -19,7 +19,7 @@ at-place texts slice text same is = is ∙ ap (λ (xs : List Text). slice_index_
 pub check_covered-requires-clause-prices : goal.check_covered-requires-clause-prices
 check_covered-requires-clause-prices c =
     let hold = parsed-hold (held c.args.auction.now) c.args.first.now c.text_at-text.result.now c.in_ok-prices.prices.items
-    c.rules-sized.ensures.bidders c.requires.best.feasible c.in_ok-prices.ensures.parsed in
+    c.within_limits.ensures.bidders c.requires.best.feasible c.in_ok-prices.ensures.parsed in
     subst (λ (xs : List ℕ). ArePrices (book_of c.args.auction.now.book) c.args.first.now (price_in xs)) (sym c.as_slice-3.ensures.value) hold.0
 
 pub returns-in_err-check_covered-clause-refuses : goal.returns-in_err-check_covered-clause-refuses
@@ -42,13 +42,13 @@ returns-in_err-check_covered-clause-refuses c =
 pub is_least-requires-clause-prices : goal.is_least-requires-clause-prices
 is_least-requires-clause-prices c =
     let hold = parsed-hold (held c.args.auction.now) c.args.first.now c.text_at-text.result.now c.in_ok-prices.prices.items
-    c.rules-sized.ensures.bidders c.requires.best.feasible c.in_ok-prices.ensures.parsed in
+    c.within_limits.ensures.bidders c.requires.best.feasible c.in_ok-prices.ensures.parsed in
     subst (λ (xs : List ℕ). ArePrices (book_of c.args.auction.now.book) c.args.first.now (price_in xs)) (sym c.as_slice-4.ensures.value) hold.0
 
 pub is_least-requires-clause-reserves : goal.is_least-requires-clause-reserves
 is_least-requires-clause-reserves c =
     let hold = parsed-hold (held c.args.auction.now) c.args.first.now c.text_at-text.result.now c.in_ok-prices.prices.items
-    c.rules-sized.ensures.bidders c.requires.best.feasible c.in_ok-prices.ensures.parsed in
+    c.within_limits.ensures.bidders c.requires.best.feasible c.in_ok-prices.ensures.parsed in
     subst (λ (xs : List ℕ). MeetReserves (reserves_in c.args.auction.now.book.rules) (book_of c.args.auction.now.book) c.args.first.now
     (price_in xs)) (sym c.as_slice-4.ensures.value) hold.1
 

@@ -89,7 +89,7 @@ returns-in_err-pricing-clause-refused g c =
 pub pricing_of-requires-clause-without : goal.pricing_of-requires-clause-without
 pricing_of-requires-clause-without g c =
     let won = c.in_ok-won.ensures.won ∙ ap (λ (xs : List (List Choice)). Ok xs) (sym c.as_slice-allocations.ensures.value) in
-    certified-greatest (held c.args.auction.now) c.as_slice-allocations.result.now c.rules-within_limits.ensures.book won
+    certified-greatest (held c.args.auction.now) c.as_slice-allocations.result.now c.within_limits.ensures.book won
     c.in_ok-check_certificates.ensures.shown
 
 pub returns-in_err-report_with-clause-refused : goal.returns-in_err-report_with-clause-refused
