@@ -91,18 +91,17 @@ fn give_rights(file: &File, old: &Metadata) -> io::Result<()> {
     file.set_permissions(old.permissions())
 }
 
+// Why a file can't be written.
+fn unwritten(error: io::Error) -> FileFault {
+    fault_of(&error, FileFault::Unwritten)
+}
+
 impl NewFile {
     fn make(rt: &HostRuntime, name: &str) -> Result<NewFile, FileFault> {
         let old = fs::metadata(rt, name).ok();
-        let place = match place_of(rt, name, old.is_some()) {
-            Ok(place) => place,
-            Err(error) => return Err(fault_of(&error, FileFault::Unwritten)),
-        };
+        let place = place_of(rt, name, old.is_some()).map_err(unwritten)?;
         let path = path_beside(rt, place.as_str())?;
-        let file = match make(rt, path.as_str(), old.is_some()) {
-            Ok(file) => file,
-            Err(error) => return Err(fault_of(&error, FileFault::Unwritten)),
-        };
+        let file = make(rt, path.as_str(), old.is_some()).map_err(unwritten)?;
         let new = NewFile {
             file,
             path,

@@ -34,13 +34,7 @@ fn allowed_by(line: &str) -> Option<u64> {
 
 // How many bytes of stack the limits allow; none where they don't say it, or allow any number.
 fn allowed_among(limits: &str) -> Option<u64> {
-    for line in limits.lines() {
-        let allowed = allowed_by(line);
-        if allowed.is_some() {
-            return allowed;
-        }
-    }
-    None
+    limits.lines().find_map(allowed_by)
 }
 
 // How many bytes of stack the system allows; none where it doesn't say it, or allows any number.
@@ -54,10 +48,7 @@ fn allowed(rt: &HostRuntime) -> Option<u64> {
 
 // Whether the system allows as much stack as is needed.
 fn is_allowed(rt: &HostRuntime) -> bool {
-    match allowed(rt) {
-        None => true,
-        Some(allowed) => allowed >= NEEDED,
-    }
+    allowed(rt).is_none_or(|allowed| allowed >= NEEDED)
 }
 
 // Whether as much memory as is touched is to be had.
