@@ -12,11 +12,10 @@ from wdp.office.judge import Explained, explained
 from wdp.program import Limits, Path, answer, found_program
 from wdp.results import Allocation, Certified, Counts, Program, Report, Solutions, joined
 from wdp.texts import answers, records
-from wdp.texts.parts import with_groups
+from wdp.texts.parts import MOST_OF_INPUT, with_groups
 from wdp.texts.records import Text
 from wdp.texts.refusals import NotFound, NotSolved, Refused, WrongWords
 
-MOST_OF_A_FILE = 134_217_728  # bytes that the program reads in all
 UNENDED = "the last line has no end, as in a file that was cut off; say allow_unended=True if it is complete"
 
 Claims = tuple[str | None, str | None]  # what is proved of other winners: `unique`, or `tie`
@@ -341,7 +340,7 @@ def content(path: Path, allow_unended: bool, head: str, number: int | None = Non
     if not isinstance(path, (str, bytes, os.PathLike)):
         raise WrongWords(f"{name}: a path is asked for, and this is of type {type(path).__name__}")
     try:
-        data = files.read(os.fsdecode(path), MOST_OF_A_FILE, regular=True)
+        data = files.read(os.fsdecode(path), MOST_OF_INPUT, regular=True)
         if data and not data.endswith((b"\n", b"\r")) and not allow_unended:
             raise files.Unreadable(os.fsdecode(path), UNENDED)
         return data

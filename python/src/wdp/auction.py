@@ -25,7 +25,7 @@ from wdp.office.faults import counted
 from wdp.program import Limits, answer, found_program
 from wdp.publish import command as publishing
 from wdp.texts import accepted, answers
-from wdp.texts.parts import groups_in, parts_of, with_groups
+from wdp.texts.parts import MOST_OF_INPUT, groups_in, parts_of, with_groups
 from wdp.texts.refusals import NotSolved, Refused, WrongWords, need
 from wdp.texts.solution import read_solution, solution_text
 from wdp.texts.zero_one import read_program
@@ -33,7 +33,6 @@ from wdp.texts.zero_one import read_program
 NAMES = "programs/names.txt"  # the names that each group leaves out; there once all programs are
 REPORT, AUDIT, UNIQUE, PRICES = "report.txt", "audit.txt", "unique.txt", "prices.txt"
 UNCERTIFIED, PAGE, RESULTS = "report.uncertified.txt", "page.json", "results"
-MOST_OF_INPUT = 128 * 1024 * 1024  # bytes
 WRONG = 3  # the status if an answer can't be the best one
 PRINTED_EVERY = {True: 0.5, False: 30.0}  # seconds, at a terminal and elsewhere
 EPILOG = """Exit status: 0 everything is there; 1 something is refused or missing, and the next run goes on from there;

@@ -14,10 +14,11 @@ from wdp.files import Unreadable, put, read
 from wdp.office import choices
 from wdp.office.faults import Fault, all_counted, counted, printed
 from wdp.office.judge import explained
-from wdp.office.places import MOST_OF_AN_INPUT, faults_of_input
+from wdp.office.places import faults_of_input
 from wdp.office.reading import Auction
 from wdp.program import found_program
 from wdp.texts import accepted
+from wdp.texts.parts import MOST_OF_INPUT
 
 THEN = "the forms and groups are read once the parts and the rules are right"
 
@@ -44,7 +45,7 @@ def of_input(given: argparse.Namespace, program: str) -> tuple[list[Fault], bool
     path = given.paths[0]
     source = "input" if path == "-" else path
     try:
-        data = read(path, MOST_OF_AN_INPUT)
+        data = read(path, MOST_OF_INPUT)
     except Unreadable as error:
         if "more than" in error.why:
             return [Fault(source, error.why, "input: too large")], False, []

@@ -12,7 +12,7 @@ from typing import NamedTuple
 
 from wdp.office.faults import Fault, counted, nearest, quoted
 from wdp.office.judge import Explained, Finding, Key
-from wdp.texts.parts import Part, names_in, parts_of
+from wdp.texts.parts import MOST_OF_INPUT, Part, names_in, parts_of
 from wdp.texts.tables import Row
 
 MONTH = "(?:jan|feb|mar|apr|may|jun|jul|aug|sep|oct|nov|dec)[a-z]*"
@@ -32,7 +32,6 @@ HINTS = (
 )  # fmt: skip
 NUMBERS = ("NumberText", "AmountText", "QuantityText")
 SHOWN = 100  # faults of one file that are printed one by one
-MOST_OF_AN_INPUT = 128 * 1024 * 1024  # bytes
 # of the faults that the program finds without a cause
 CAUSES = {
     "TooLarge": "it has more than 4,194,304 bytes",
@@ -129,7 +128,7 @@ def of_parts(finding: Finding, data: bytes, source: str) -> Fault:
     words = finding.words or refusal.removeprefix("input: ")
     kind = re.search("wrong number of (rules|groups)", refusal)
     if refusal == "input: too large":
-        words = f"it has more than {MOST_OF_AN_INPUT:,} bytes"
+        words = f"it has more than {MOST_OF_INPUT:,} bytes"
     elif finding.refused.number:
         part = next(islice(parts, finding.refused.number - 1, None))
         words = f"{quoted('%' + part.kind)} is no head of a part: %rules, %form or %groups"

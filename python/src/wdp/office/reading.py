@@ -13,14 +13,14 @@ from pathlib import PurePath
 from wdp.files import Unreadable, at, read
 from wdp.office.faults import Fault, counted, nearest, quoted
 from wdp.office.judge import Finding, explained
-from wdp.office.places import MOST_OF_AN_INPUT, Source, faults_of, first_of, hint, of_parts
+from wdp.office.places import Source, faults_of, first_of, hint, of_parts
 from wdp.office.sheets import AS_HEADS, MOST_OF_A_FILE, OF_FORMS, File, Pairs, lines_of
 from wdp.office.sheets import read_pairs, table_of
 from wdp.office.versions import Undecided, last_of
 from wdp.office.workbook import NOT_STORED, workbook_of
 from wdp.texts.accepted import Rules, rules_of
 from wdp.texts.answers import WON
-from wdp.texts.parts import group_rows
+from wdp.texts.parts import MOST_OF_INPUT, group_rows
 from wdp.texts.tables import Row, decoded, encoded
 
 WORKBOOK = ".xlsx"
@@ -129,7 +129,7 @@ class Auction:
                 self.fault(path, OTHER_WORKBOOK.format(ending) if is_book else NO_FORM)
         # all together have at most what an input may have, as UTF-16
         sizes = [os.path.getsize(path) for path in paths if os.path.isfile(path)]
-        size, most = sum(min(each, MOST_OF_A_FILE) for each in sizes), 2 * MOST_OF_AN_INPUT
+        size, most = sum(min(each, MOST_OF_A_FILE) for each in sizes), 2 * MOST_OF_INPUT
         if size > most:
             raise Unreadable(folder, f"its files have {size:,} bytes together, more than {most:,}")
         return paths
@@ -192,7 +192,7 @@ class Auction:
         """Takes the groups of a file, or makes them by a rule: `each`, or `winners FILE`."""
         path, names = words[-1], self.rules.bidders
         if words[0] == "winners":
-            file = self.groups_file = File(path, read(path, MOST_OF_AN_INPUT))
+            file = self.groups_file = File(path, read(path, MOST_OF_INPUT))
             file.changes = ["each winner alone"]
             found = FIRST_GROUP.match(decoded(file.data))
             if not found:

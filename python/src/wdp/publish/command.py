@@ -21,7 +21,6 @@ from wdp.files import put, read, tell, write_folder
 from wdp.office import choices
 from wdp.office.faults import quoted
 from wdp.office.judge import explained
-from wdp.office.places import MOST_OF_AN_INPUT
 from wdp.office.sheets import Pairs, read_pairs
 from wdp.program import Limits, answer, found_program
 from wdp.publish.results import Results, figures_of
@@ -29,7 +28,7 @@ from wdp.results import Report, Tie
 from wdp.texts import accepted
 from wdp.texts.accepted import Accepted, Rules
 from wdp.texts.answers import Asked, read_report
-from wdp.texts.parts import end_of_groups, groups_in, parts_of, with_groups
+from wdp.texts.parts import MOST_OF_INPUT, end_of_groups, groups_in, parts_of, with_groups
 from wdp.texts.refusals import Refused, Unclear, WrongWords
 from wdp.texts.tables import digest_of
 
@@ -264,7 +263,7 @@ def publish(results: Results, folder: str) -> int:
 def run(given: argparse.Namespace) -> int:
     if given.output is None and not given.text:
         raise WrongWords("one of these words is needed: --output DIR, --text")
-    data, report = read(given.input, MOST_OF_AN_INPUT), read(given.report, MOST_OF_AN_INPUT)
+    data, report = read(given.input, MOST_OF_INPUT), read(given.report, MOST_OF_INPUT)
     audit = read(given.audit, MOST_OF_AN_AUDIT) if given.audit else None
     sources = given.input, given.report, given.audit or ""
     about = given.drawn, sources, given.title, given.currency, given.names

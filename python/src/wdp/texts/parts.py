@@ -7,6 +7,7 @@ from typing import NamedTuple
 from wdp.texts.tables import BYTE_ORDER_MARK, Records, Row, decoded, lines
 
 HEAD = re.compile(rb"^%([^\n]*?)\r?(?:\n|\Z)", re.MULTILINE)
+MOST_OF_INPUT = 128 * 1024 * 1024  # bytes that the program reads in all
 LINE_END = re.compile(rb"\r\n|\r|\n")  # as records count lines
 
 
