@@ -3,13 +3,18 @@
 This is the definition alone, in Python's whole numbers: the judge of tests. docs/REFERENCE.md has the grammar and the order of
 faults.
 """
+import re
 from collections import namedtuple
+from fractions import Fraction
 
-from wdp.texts.solution import FIELD, exact_value
+from wdp.texts.solution import FIELD
 from wdp.texts.tables import lines
 from wdp.texts.zero_one import AT_LEAST, AT_MOST
 
 WIDEST = 2**126
+# a number: an optional sign, digits with an optional point, an optional exponent
+TOKEN = re.compile(r"[+-]?(?=\.?[0-9])([0-9]*)\.?([0-9]*)(?:[eE][+-]?([0-9]+))?")
+MOST_DIGITS, MOST_EXPONENT = 30, 60
 
 
 # the first fault of a text, by its line from 1
@@ -103,6 +108,17 @@ def closed(splits):
     if splits:
         splits[-1] = splits[-1]._replace(is_high=True)
     return bool(splits)
+
+
+def exact_value(token):
+    parts = TOKEN.fullmatch(token)
+    if not parts:
+        raise ValueError("NumberText")
+    whole, fraction, exponent = parts.groups("0")
+    is_long = len(whole + fraction) > MOST_DIGITS or len(exponent) > 3
+    if is_long or int(exponent) > MOST_EXPONENT:
+        raise ValueError("NumberRange")
+    return Fraction(token)
 
 
 def whole_number(word, least=-(10**18)):

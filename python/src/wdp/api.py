@@ -318,7 +318,7 @@ def solution_texts(solutions: Iterable[Any]) -> list[Text]:
 
 def listed(given: Iterable[Any], what: str) -> list[Any]:
     """A list of texts; WrongWords if it is one text or no list."""
-    if records.is_text(given) or not records.is_list(given):
+    if not records.is_list(given):
         raise WrongWords(f"{what}: a list is asked for")
     return list(given)
 

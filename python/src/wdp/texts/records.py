@@ -3,7 +3,7 @@
 Nothing is judged here that the program judges: records are written, and it says what is wrong with them.
 """
 import operator
-from collections.abc import Iterable, Mapping, Sequence
+from collections.abc import Iterable, Mapping, Sequence, Set
 from contextlib import suppress
 from dataclasses import dataclass
 from typing import Any, NamedTuple, TypeGuard
@@ -13,6 +13,7 @@ from wdp.texts.refusals import Refused, WrongWords, escaped, shortened
 from wdp.texts.tables import BYTE_ORDER_MARK, Records, written
 
 Text = str | bytes
+TEXTS = str, bytes, bytearray
 
 # the fields of each kind of record of the rules, by their names in records with names
 FIELDS: dict[str, tuple[str, ...]] = {
@@ -23,7 +24,6 @@ FIELDS: dict[str, tuple[str, ...]] = {
     "member": ("pool", "category", "weight"),
 }
 MOST_EXACT = 2**53  # floating point has each whole number up to this one
-TOO_LARGE = 10**40  # no number of the formats has so many digits
 
 
 class Where(NamedTuple):
@@ -36,11 +36,10 @@ class Where(NamedTuple):
     column: str | None = None
 
     def wrong(self, why: str, column: str | None = None) -> WrongWords:
-        at = "" if self.column is None else f", {self.column}"
-        part = None if self.number is None else "form"
+        at = f", {self.column}" if self.column else ""
+        part = "form" if self.number else None
         refused = WrongWords(f"{self.text}{at}: {why}", part, self.number)
-        refused.bidder, refused.row = self.bidder, self.row
-        refused.column = self.column or column
+        refused.bidder, refused.row, refused.column = self.bidder, self.row, self.column or column
         return refused
 
 
@@ -96,12 +95,12 @@ def of_type(value: object) -> str:
 
 def is_text(given: object) -> TypeGuard[Text]:
     """Whether this is a text and no records."""
-    return isinstance(given, (str, bytes, bytearray))
+    return isinstance(given, TEXTS)
 
 
 def is_list(given: object) -> bool:
-    """Whether this is an iterable of things in an order."""
-    return isinstance(given, Iterable) and not isinstance(given, (Mapping, set, frozenset))
+    """Whether this is an iterable of things in an order, and no text."""
+    return isinstance(given, Iterable) and not isinstance(given, (*TEXTS, Mapping, Set))
 
 
 def field(value: Any, where: Where) -> str:
@@ -115,34 +114,16 @@ def field(value: Any, where: Where) -> str:
         if "\n%" in value:
             raise where.wrong("a line begins with %, as the head of a part does")
         return value
-    why = "is no whole number"
-    if is_blank(value):
-        return ""
-    if not type(value).__name__.startswith("bool"):  # numpy's too
-        with suppress(TypeError, ValueError, ArithmeticError):
-            if hasattr(type(value), "__index__"):
-                exact = operator.index(value)
-                why = "has more than 18 digits"
-                return digits(exact)
-            number = float(value)
-            if number.is_integer() and number == value and abs(number) < MOST_EXACT:
-                return str(int(number))
+    why, is_bool = "is no whole number", type(value).__name__.startswith("bool")  # numpy's too
+    with suppress(TypeError, ValueError, ArithmeticError):
+        if value is None or type(value).__name__ == "NAType" or value != value:
+            return ""  # (a blank cell, as pandas has them too)
+        if hasattr(type(value), "__index__") and not is_bool:
+            value, why = operator.index(value), "has more than 18 digits"
+            return str(value)  # (ValueError if these are too many to be printed)
+        if abs(value) < MOST_EXACT and int(value) == value and not is_bool:
+            return str(int(value))
     raise where.wrong(f"{shown(value)} {why}")
-
-
-def digits(number: int) -> str:
-    """A whole number in digits; ValueError if it has more than any field may have."""
-    if abs(number) >= TOO_LARGE:
-        raise ValueError
-    return str(number)
-
-
-def is_blank(value: Any) -> bool:
-    """Whether this means an empty cell: None, not a number, or what pandas has for it."""
-    try:
-        return value is None or bool(value != value)
-    except (TypeError, ValueError, ArithmeticError):
-        return type(value).__name__ == "NAType"
 
 
 def shown(value: Any) -> str:
@@ -152,42 +133,31 @@ def shown(value: Any) -> str:
     return escaped(shortened(text, 60))
 
 
-def whole(number: int, what: str) -> int:
-    """A whole number of some digits, whatever its type; else WrongWords."""
+def whole(number: int, what: str) -> str:
+    """A whole number in digits, whatever its type; WrongWords if it is none."""
     try:
-        return int(digits(operator.index(number)))
+        return str(operator.index(number))
     except (TypeError, ValueError):
         raise WrongWords(f"{what}: {shown(number)} is no whole number of some digits") from None
 
 
-def is_frame(given: object) -> bool:
-    """Whether this is a data frame, for which pandas isn't imported: who has made one has imported it."""
-    return hasattr(given, "iloc") and hasattr(given, "columns")
-
-
-def records_in(given: Any, what: str) -> list[Any]:
-    """A list of records, or the rows of a data frame by the names of its columns."""
-    if is_frame(given):
-        if len(set(map(str, given.columns))) < len(given.columns):
-            raise WrongWords(f"{what}: two columns of the data frame have the same name")
+def records_in(given: Any, where: Where, columns: Sequence[str] = ()) -> list[Any]:
+    """A list of records, or the rows of a data frame by the names of its columns, which these have to be among."""
+    if hasattr(given, "iloc") and hasattr(given, "columns"):  # (pandas isn't imported for that)
+        names = [str(name) for name in given.columns]
+        if len(set(names)) < len(names):
+            raise where.wrong("two columns of the data frame have the same name")
+        for name in columns:
+            if name not in names:
+                raise where._replace(column=name).wrong("the data frame has no such column")
         return list(given.rename(columns=str).to_dict("records"))
     if not is_list(given):
-        raise WrongWords(f"{what}: a list of records is asked for, and this is {of_type(given)}")
+        raise where.wrong(f"a list of records is asked for, and this is {of_type(given)}")
     return list(given)
 
 
-def bids_in(given: Any, where: Where, names: Sequence[str]) -> list[Any]:
-    """A list of bids, or the rows of a data frame, which must have a column for each category."""
-    bids = records_in(given, where.text)
-    if is_frame(given):
-        for name in ("amount", *names):
-            if name not in map(str, given.columns):
-                raise where._replace(column=name).wrong("the data frame has no such column")
-    return bids
-
-
 def plain_fields(record: Any, where: Where) -> list[str]:
-    if is_text(record) or not isinstance(record, Iterable):
+    if not is_list(record):
         raise where.wrong(f"a tuple, a list or a dict is asked for, and this is {of_type(record)}")
     fields = [field(value, where) for value in record]
     if not fields:
@@ -201,7 +171,7 @@ def rules_text(rules: Any) -> Text:
     """
     if is_text(rules):
         return rules
-    given = enumerate(records_in(rules, "rules"), 1)
+    given = enumerate(records_in(rules, Where("rules")), 1)
     records = [rules_fields(record, Where(f"rules, record {number}")) for number, record in given]
     width = 5 if records and records[0][1:2] == ["1"] else 6
     return "".join(written(fields + [""] * (width - len(fields))) for fields in records)
@@ -215,11 +185,10 @@ def rules_fields(record: Any, where: Where) -> list[str]:
     if not isinstance(kind, str) or kind not in FIELDS:
         raise where.wrong(f"'record' is to be {', '.join(FIELDS)}, and is {shown(kind)}")
     for name, value in record.items():
-        if name not in ("record", *FIELDS[kind]) and not is_blank(value) and value != "":
+        if name not in ("record", *FIELDS[kind]) and field(value, where):
             raise where.wrong(f"a record {kind} has no field {shown(name)}")
-    named = ((record.get(name), where._replace(column=name)) for name in FIELDS[kind])
-    fields = [kind, *(field(*each) for each in named)]
-    return fields[:-1] if kind == "category" and not fields[-1] else fields
+    fields = [field(record.get(name), where._replace(column=name)) for name in FIELDS[kind]]
+    return [kind, *(fields[:-1] if kind == "category" and not fields[-1] else fields)]
 
 
 def forms_of(forms: Any, rules: Text, missing_as_zero: bool = False) -> list[Form]:
@@ -231,7 +200,7 @@ def forms_of(forms: Any, rules: Text, missing_as_zero: bool = False) -> list[For
     # (a form repeats the categories' names, so that the program refuses it if they were read wrongly)
     text = encoded(rules, "rules").decode("utf-8", "replace").removeprefix(BYTE_ORDER_MARK)
     names = names_in(Records(text), "category")
-    listed = bids_in(forms, Where("forms"), names)
+    listed = records_in(forms, Where("forms"), ("amount", *names))
     if listed and all(isinstance(row, Mapping) and "bids" not in row for row in listed):
         listed = list(by_bidder(listed).items())
     given = enumerate(listed, 1)
@@ -260,7 +229,7 @@ def form_of(form: Any, where: Where, names: Sequence[str], missing_as_zero: bool
     bidder, bids = pair
     where = where._replace(bidder=bidder)
     if not isinstance(bids, Placed):
-        bids = dict(enumerate(bids_in(bids, where, names)))
+        bids = dict(enumerate(records_in(bids, where, ("amount", *names))))
     lines = [[bidder, *names]]
     for number, (place, bid) in enumerate(bids.items(), 1):
         at = where._replace(text=f"{where.text}, bid {number}", row=place)
@@ -278,7 +247,7 @@ def bid_fields(bid: Any, names: Sequence[str], where: Where, missing_as_zero: bo
         if name not in columns:
             raise where.wrong(f"{shown(name)} is no category of the rules")
     for name in columns:
-        if name not in bid and not (missing_as_zero and "amount" in bid):
+        if name not in bid and (name == "amount" or not missing_as_zero):
             hint = "" if name == "amount" else "; missing_as_zero=True has it count as 0"
             raise where.wrong(f"there is no {shown(name)}{hint}", name)
     return [field(bid.get(name, 0), where._replace(column=name)) for name in columns]
@@ -293,7 +262,7 @@ def groups_text(groups: Any) -> Text:
     """
     if groups is None or is_text(groups):
         return "-\n" if groups is None else groups
-    listed = enumerate(records_in(groups, "groups"), 1)
+    listed = enumerate(records_in(groups, Where("groups")), 1)
     return "".join(group_line(group, f"groups, line {number}") for number, group in listed)
 
 
@@ -307,7 +276,7 @@ def group_line(group: Any, where: str) -> str:
         names = list(group)
         if not all(isinstance(name, str) and name.strip("-") and "+" not in name for name in names):
             raise WrongWords(f"{where}: names of bidders are asked for")
-        line = "+".join(sorted(names) if isinstance(group, (set, frozenset)) else names) or "-"
+        line = "+".join(sorted(names) if isinstance(group, Set) else names) or "-"
     if "\r" in line or "\n" in line:
         raise WrongWords(f"{where}: a name has a line break")
     return line + "\n"
@@ -326,7 +295,7 @@ def solution_text(solution: Any, where: str = "solution") -> Text:
     lines = []
     for name, value in solution.items():
         try:
-            line = f"{name} {digits(value) if isinstance(value, int) else value}"
+            line = f"{name} {value}"
         except ValueError:
             raise WrongWords(f"{where}: the value of {shown(name)} is too large") from None
         if not isinstance(name, str) or line.split()[:-1] != [name] or line.startswith("#"):

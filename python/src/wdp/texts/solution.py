@@ -10,21 +10,8 @@ from wdp.texts.zero_one import ZeroOne
 NEAR = Fraction(1, 100000)
 LONGEST = 40  # signs of a word that a message shows
 FIELD = re.compile(r"[^ \t]+")  # the longest run of signs that are neither space nor tab
-# a number: an optional sign, digits with an optional point, an optional exponent
-TOKEN = re.compile(r"[+-]?(?=\.?[0-9])([0-9]*)\.?([0-9]*)(?:[eE][+-]?([0-9]+))?")
-MOST_DIGITS, MOST_EXPONENT = 30, 60
-
-
-def exact_value(token: str) -> Fraction:
-    """The value of a number; ValueError is the fault that the program finds in the token, `NumberText` or `NumberRange`."""
-    parts = TOKEN.fullmatch(token)
-    if not parts:
-        raise ValueError("NumberText")
-    whole, fraction, exponent = parts.groups("0")
-    is_long = len(whole + fraction) > MOST_DIGITS or len(exponent) > 3
-    if is_long or int(exponent) > MOST_EXPONENT:
-        raise ValueError("NumberRange")
-    return Fraction(token)
+# a number: digits with an optional sign, point, and exponent that isn't far from 0
+NUMBER = re.compile(r"[+-]?(?=\.?[0-9])[0-9]{0,30}\.?[0-9]{0,30}(?:[eE][+-]?0?[0-9]{1,2})?")
 
 
 def read_solution(text: bytes, program: ZeroOne, source: str) -> set[int]:
@@ -54,10 +41,9 @@ def entry_of(words: list[str], program: ZeroOne) -> tuple[int, bool]:
     place = program.column_places.get(words[0])
     if place is None:
         raise ValueError(f"the column {name} isn't known")
-    try:
-        value = exact_value(words[1])
-    except ValueError:
-        raise ValueError(f"the value {token} of {name} is no number") from None
+    if not NUMBER.fullmatch(words[1]):
+        raise ValueError(f"the value {token} of {name} is no number")
+    value = Fraction(words[1])
     is_one = abs(value - 1) <= NEAR
     if not is_one and abs(value) > NEAR:
         raise ValueError(f"the value {token} of {name} is neither 0 nor 1")
