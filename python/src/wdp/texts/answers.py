@@ -18,7 +18,7 @@ PROGRAM = re.compile(rf"^\* program {HEAD}", re.MULTILINE)
 ALLOCATION = re.compile(WON)
 GROUP = re.compile(rf"group {HEAD}{WON}cost (0|-?[1-9][0-9]{{0,29}})\n")
 PRICES = re.compile(rf"prices\n((?:{NAME} (?:0|[1-9][0-9]{{0,12}})\n)*)sum {TOTAL}(least\n)?")
-CLAIM = re.compile("(unique|tie)\n")
+CLAIM = re.compile(rf"unique\n|tie\n{WON}")
 COUNTS = re.compile(rf"rows {SIZE} columns {SIZE} entries {SIZE}\n")
 END = re.compile(r"\Z")
 
@@ -63,25 +63,17 @@ class Asked:
         return tuple(winners)
 
 
-class Answer:
-    """An answer, in ASCII, of which one piece after the other is taken."""
-
-    def __init__(self, output: bytes) -> None:
-        self.at = 0
-        try:
-            self.text = output.decode("ascii")
-        except UnicodeDecodeError as error:
-            raise unclear(f"byte {error.start + 1} of it isn't ASCII") from None
-
-    def take(self, form: re.Pattern[str]) -> re.Match[str]:
-        """The next lines, which must have this form."""
-        found = form.match(self.text, self.at)
-        if found is None:
-            number = self.text.count("\n", 0, self.at) + 1
-            line = self.text[self.at :].split("\n")[0]
+def pieces(output: bytes, *forms: re.Pattern[str]) -> list[re.Match[str]]:
+    """The pieces of an answer, which must have these forms one after the other, and nothing more."""
+    text, at, found = output.decode("ascii", "replace"), 0, list[re.Match[str]]()
+    for form in (*forms, END):
+        piece = form.match(text, at)
+        if piece is None:
+            number, line = text.count("\n", 0, at) + 1, text[at:].split("\n")[0]
             raise unclear(f"from line {number} on, '{line}'")
-        self.at = found.end()
-        return found
+        at = piece.end()
+        found.append(piece)
+    return found
 
 
 def unclear(why: str) -> Unclear:
@@ -101,53 +93,46 @@ def names_of_head(number: str, names: str, wanted: int, asked: Asked) -> tuple[s
 
 
 def read_programs(output: bytes, asked: Asked) -> list[Program]:
-    before, *pieces = PROGRAM.split(Answer(output).text)
-    found = list(zip(pieces[::3], pieces[1::3], pieces[2::3]))
+    before, *parts = PROGRAM.split(output.decode("ascii", "replace"))
+    found = list(zip(parts[::3], parts[1::3], parts[2::3]))
     if len(found) != len(asked.groups) or before:
         raise unclear(f"it has {len(found)} programs, for {len(asked.groups)} groups")
     programs = []
     for group, (number, names, text) in enumerate(found, 1):
         programs.append(Program(group, names_of_head(number, names, group, asked), text))
-        if not text.startswith("NAME wdp\nROWS\n") or not text.endswith("\nENDATA\n"):
+        is_whole = text.startswith("NAME wdp\nROWS\n") and text.endswith("\nENDATA\n")
+        if not is_whole or not text.isascii():
             raise unclear(f"program {group} isn't complete")
     return programs
 
 
 def read_map(output: bytes, asked: Asked) -> Allocation:
-    answer = Answer(output)
-    won, total = answer.take(ALLOCATION).groups()
-    answer.take(END)
+    won, total = pieces(output, ALLOCATION)[0].groups()
     return Allocation(asked.winners(won), int(total))
 
 
 def read_report(output: bytes, asked: Asked, is_certified: bool) -> Report:
-    answer, groups = Answer(output), []
+    more = [PRICES] * asked.is_priced + [CLAIM] * asked.is_claimed
+    found, groups = iter(pieces(output, *[GROUP] * len(asked.groups), *more)), []
     for group in range(1, len(asked.groups) + 1):
-        number, left_out, won, total, cost = answer.take(GROUP).groups()
+        number, left_out, won, total, cost = next(found).groups()
         names = names_of_head(number, left_out, group, asked)
         groups.append(Group(asked.winners(won), int(total), group, names, int(cost)))
-    prices = read_prices(answer, groups[0].winners) if asked.is_priced else None
+    prices = prices_of(next(found), groups[0].winners) if asked.is_priced else None
     uniqueness: str | Tie = "unasked"
-    if asked.is_claimed and answer.take(CLAIM)[1] == "unique":
-        uniqueness = "only"
-    elif asked.is_claimed:
-        won, total = answer.take(ALLOCATION).groups()
-        uniqueness = Tie(asked.winners(won), int(total))
-    answer.take(END)
+    if asked.is_claimed:
+        won, total = next(found).groups()
+        uniqueness = Tie(asked.winners(won), int(total)) if total else "only"
     return Report(tuple(groups), is_certified, uniqueness, prices)
 
 
-def read_prices(answer: Answer, winners: Sequence[Winner]) -> Prices:
+def prices_of(found: re.Match[str], winners: Sequence[Winner]) -> Prices:
     """What follows a report if prices are given: one for each winner of group 1."""
-    listed, total, least = answer.take(PRICES).groups()
-    prices = [line.split() for line in listed.splitlines()]
+    prices = [line.split() for line in found[1].splitlines()]
     if [name for name, _ in prices] != [winner.bidder for winner in winners]:
         raise unclear("the prices aren't those of the winners of group 1, in their order")
-    return Prices({name: int(price) for name, price in prices}, int(total), least is not None)
+    return Prices({name: int(price) for name, price in prices}, int(found[2]), bool(found[3]))
 
 
 def read_counts(output: bytes) -> Counts:
-    answer = Answer(output)
-    counts = Counts(*map(int, answer.take(COUNTS).groups()))
-    answer.take(END)
-    return counts
+    return Counts(*map(int, pieces(output, COUNTS)[0].groups()))

@@ -13,13 +13,13 @@ WITH_KIND = re.compile(
     r"(?:, (?:earlier bid|column) (?P<field>[0-9]{1,18}))?"
 )
 
-# the refusals in words
+# a refusal in words, which may count a part or a group; of a part, or else of what is written
 IN_WORDS = re.compile(
-    r"wdp: (?:input: (?:read failed|too large|bytes before the first part|part ([0-9]{1,9}) not known)"
-    r"|input: wrong number of (?:rules|groups|solutions|certificates|unique and tie|prices|covers|weights)"
-    r"|groups: (?:no group ([0-9]{1,9})|group (1) is not empty)"
-    r"|tie: (?:total below that of group 1|same winners as group 1)"
-    r"|desk: wrong answer|write failed after [0-9]{1,18} bytes)"
+    r"wdp: (?:(?P<part>input|groups|tie|desk): )?"
+    r"(?:read failed|too large|bytes before the first part|wrong answer|write failed after [0-9]{1,18} bytes"
+    r"|(?:no group|group|part) (?P<number>[0-9]{1,9})(?: is not empty| not known)?"
+    r"|wrong number of (?:rules|groups|solutions|certificates|unique and tie|prices|covers|weights)"
+    r"|total below that of group 1|same winners as group 1)"
 )
 
 
@@ -35,10 +35,7 @@ def shortened(text: str, most: int) -> str:
 
 def one_line(text: str) -> str:
     """The text with each sign that isn't printable as its escape: it stays one line, and steers no terminal."""
-    if text.isprintable():
-        return text
-    escapes = (sign.encode("unicode_escape").decode() for sign in text)
-    return "".join(sign if sign.isprintable() else escape for sign, escape in zip(text, escapes))
+    return "".join(x if x.isprintable() else x.encode("unicode_escape").decode() for x in text)
 
 
 class Refused(ValueError):
@@ -68,23 +65,17 @@ class Refused(ValueError):
     def __init__(self, text: str, part: str | None = None, number: int | None = None) -> None:
         self.text: str = escaped(text)
         super().__init__(self.text)
-        found = WITH_KIND.fullmatch(self.text)
+        found = WITH_KIND.fullmatch(self.text) or IN_WORDS.fullmatch(self.text)
         said = found.groupdict() if found else {}
         whole = {name: int(value) for name, value in said.items() if value and value.isdecimal()}
         self.part, self.number = part, number
-        in_words = IN_WORDS.fullmatch(self.text)
         if found:
-            self.part, self.number = said["part"].split()[0], whole.get("number")
-        elif in_words:
-            words = self.text.removeprefix("wdp: ").split(":")
-            self.part = words[0] if words[1:] else "output"
-            self.number = int(in_words[in_words.lastindex]) if in_words.lastindex else None
+            self.part, self.number = (said["part"] or "output").split()[0], whole.get("number")
         self.kind: str | None = said.get("kind")
         self.kind_number: int | None = whole.get("kind_number")
         self.record: int | None = whole.get("record")
         self.line: int | None = whole.get("line")
-        place = self.line if self.record is None else self.record
-        self.at: int | str | None = said.get("name") if place is None else place
+        self.at: int | str | None = whole.get("record", whole.get("line", said.get("name")))
         self.field: int | None = whole.get("field")
         self.bidder: str | None = said.get("winner")
         self.row: int | None = None
