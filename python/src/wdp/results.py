@@ -2,7 +2,8 @@
 from __future__ import annotations
 
 from dataclasses import dataclass, field
-from collections.abc import Iterator, Mapping, Sequence
+from collections.abc import Mapping, Sequence
+from operator import attrgetter
 from typing import TYPE_CHECKING
 
 from wdp.texts.refusals import need
@@ -43,12 +44,11 @@ class Table:
 
     def _repr_html_(self) -> str:
         # (numbers, and names that the program printed, have no sign that HTML reads)
-        columns, caption = self._columns(), self._caption
-        rows = [columns, *zip(*columns.values())]
-        cells = (("td" if at else "th", row) for at, row in enumerate(rows))
-        lines = ["".join(f"<{kind}>{cell}</{kind}>" for cell in row) for kind, row in cells]
-        head = f"<caption>{caption}</caption>" if caption else ""
-        return f"<table>{head}{''.join(f'<tr>{line}</tr>' for line in lines)}</table>"
+        columns = self._columns()
+        rows = ["".join(f"<th>{name}</th>" for name in columns)]
+        rows += ["".join(f"<td>{cell}</td>" for cell in row) for row in zip(*columns.values())]
+        lines = "".join(f"<tr>{row}</tr>" for row in rows)
+        return f"<table><caption>{self._caption}</caption>{lines}</table>"
 
 
 @dataclass(frozen=True)
@@ -94,7 +94,7 @@ class Prices:
 
 
 @dataclass(frozen=True)
-class Report(Table):
+class Report(Table, Sequence[Group]):
     """The outcome of each group: by its place, or one after the other. `is_certified` is whether certificates showed that
     each total is the greatest one: without them it is the solver's word.
 
@@ -109,10 +109,7 @@ class Report(Table):
     def __len__(self) -> int:
         return len(self.groups)
 
-    def __iter__(self) -> Iterator[Group]:
-        return iter(self.groups)
-
-    def __getitem__(self, place: int) -> Group:
+    def __getitem__(self, place: int) -> Group:  # type: ignore[override]
         return self.groups[place]
 
     @property
@@ -167,16 +164,10 @@ class Matrix:
         entries = [(n, row, place) for place, each in enumerate(columns) for row, n in each.entries]
         numbers, *places = zip(*entries) if entries else ((), (), ())
         shape = (len(rows), len(columns))
-        return cls(
-            tuple(column.name for column in columns),
-            tuple(column.cost for column in columns),
-            tuple(column.lower for column in columns),
-            tuple(column.upper for column in columns),
-            tuple(row.name for row in rows),
-            tuple(row.kind for row in rows),
-            tuple(row.right_side for row in rows),
-            scipy.sparse.csr_matrix((numbers, places), shape=shape, dtype="int64"),
-        )
+        fields = [tuple(map(attrgetter(it), columns)) for it in ("name", "cost", "lower", "upper")]
+        fields += [tuple(map(attrgetter(it), rows)) for it in ("name", "kind", "right_side")]
+        fields.append(scipy.sparse.csr_matrix((numbers, places), shape=shape, dtype="int64"))
+        return cls(*fields)
 
 
 @dataclass(frozen=True)
@@ -189,7 +180,7 @@ class Counts:
 
 
 @dataclass(frozen=True)
-class Solutions:
+class Solutions(Sequence[str]):
     """A solver's answer to the program of each group, in the order of the groups, as solutions in docs/REFERENCE.md."""
 
     texts: tuple[str, ...]
@@ -198,10 +189,7 @@ class Solutions:
     def __len__(self) -> int:
         return len(self.texts)
 
-    def __iter__(self) -> Iterator[str]:
-        return iter(self.texts)
-
-    def __getitem__(self, place: int) -> str:
+    def __getitem__(self, place: int) -> str:  # type: ignore[override]
         return self.texts[place]
 
 

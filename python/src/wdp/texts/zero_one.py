@@ -96,7 +96,12 @@ class Reader:
             case "COLUMNS", [_, "'MARKER'", *_]:
                 pass
             case "COLUMNS", [name, *entries]:
-                self.take_entries(name, entries)
+                column = self.columns.get(name) or self.columns.setdefault(name, Column(name))
+                for row, number in self.numbers(entries):
+                    if row == OBJECTIVE:
+                        column.cost = number
+                    elif row >= 0 and number:
+                        column.entries.append((row, number))
             case "RHS", _:  # an odd number of fields begins with the name of a set
                 for row, number in self.numbers(words[len(words) % 2 :]):
                     if row >= 0:
@@ -108,14 +113,6 @@ class Reader:
                     self.columns[name].lower = whole_number(number)
                 if kind != "LO":
                     self.columns[name].upper = whole_number(number)
-
-    def take_entries(self, name: str, entries: list[str]) -> None:
-        column = self.columns.get(name) or self.columns.setdefault(name, Column(name))
-        for row, number in self.numbers(entries):
-            if row == OBJECTIVE:
-                column.cost = number
-            elif row >= 0 and number:
-                column.entries.append((row, number))
 
     def numbers(self, words: list[str]) -> Iterator[tuple[int, int]]:
         """The places of the rows that words name, each with the number that follows."""
