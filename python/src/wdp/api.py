@@ -3,6 +3,7 @@ from __future__ import annotations
 
 import os
 from collections.abc import Iterable
+from contextlib import nullcontext
 from numbers import Real
 from typing import Any
 
@@ -18,7 +19,6 @@ from wdp.texts.refusals import NotFound, NotSolved, Refused, WrongWords
 
 UNENDED = "the last line has no end, as in a file that was cut off; say allow_unended=True if it is complete"
 
-Claims = tuple[str | None, str | None]  # what is proved of other winners: `unique`, or `tie`
 Found = certify.Certified
 
 
@@ -99,10 +99,6 @@ class Auction:
             program=program,
             time_limit=time_limit,
         )
-
-    def __repr__(self) -> str:
-        groups = len(answers.Asked(self._given).groups)
-        return f"<wdp.Auction of {groups} groups, {len(self._given)} bytes>"
 
     def input(
         self,
@@ -197,23 +193,23 @@ class Auction:
             begun = [solve.nothing(program) for program in programs]
         else:
             begun = [records.encoded(text, "solution") for text in solution_texts(solutions)]
-        if len(begun) != len(programs):
-            raise WrongWords(f"solutions: {len(begun)} are given, for {len(programs)} groups")
+            self.report(begun)
         found = [certify.certified(mps, text, seconds) for mps, text in zip(programs, begun)]
-        claims: dict[str, str] = {}
+        claims: dict[str, str | None] = {}
         if unique and found:
             only = certify.only(programs[0], found[0].solution, seconds)
             claims[only.claim] = only.text.decode()
-        return self._certified(found, "certify", (claims.get("unique"), claims.get("tie")))
+        return self._certified(found, "certify", b"", claims)
 
     def _certified(
-        self, found: list[Found], solver: str, claims: Claims, parts: bytes = b""
+        self, found: list[Found], solver: str, parts: bytes, claims: dict[str, str | None]
     ) -> Certified:
-        """What `wdp verify` says of solutions with what shows it."""
+        """What `wdp verify` says of solutions with what shows it; of other winners the claims are `unique`, or `tie`."""
         made = Solutions(tuple(each.solution.decode() for each in found), solver)
         shown = tuple(each.certificate.decode() for each in found)
-        audit = parts + self.input(made, shown, *claims)
-        return Certified(self._report("verify", audit, 1), made, shown, *claims, audit)
+        audit = parts + self.input(made, shown, **claims)
+        report, both = self._report("verify", audit, 1), (claims.get("unique"), claims.get("tie"))
+        return Certified(report, made, shown, *both, audit)
 
     def prices(
         self, certified: Certified, solver: str | None = None, time_limit: float | None = None
@@ -243,8 +239,9 @@ class Auction:
         with_more([winner for winner in winners if winner not in listed])
         points = [each.solution for each in found]
         award = pricing.Award(self._given, programs[0].text.encode(), points, listed)
-        more, parts = award.priced(name, seconds)
-        return with_more(more)._certified(found, name, (certified.unique, certified.tie), parts)
+        more, parts = award.priced(name, seconds, nullcontext, None)
+        claims = {"unique": certified.unique, "tie": certified.tie}
+        return with_more(more)._certified(found, name, parts, claims)
 
     def report(self, solutions: Iterable[Any], workers: int = 1) -> Report:
         """Winners, total and opportunity cost of each group in pounds, from a solution for each: texts, or dicts of columns
@@ -295,8 +292,7 @@ class Auction:
 
 def checked_solver(solver: str | None) -> str:
     """A solver's name or command; WrongWords if it is neither."""
-    is_word = isinstance(solver, str) and solver and solver.isprintable()
-    if solver is not None and not is_word:
+    if solver is not None and not (isinstance(solver, str) and solver and solver.isprintable()):
         raise WrongWords("a solver is cbc, highs, or a command with {mps} in it, on one line")
     return solve.checked_solver(solver)
 
@@ -311,7 +307,6 @@ def point_of(program: Program, solver: str, seconds: float | None) -> str:
 
 
 def solution_texts(solutions: Iterable[Any]) -> list[Text]:
-    """Solutions as texts."""
     given = enumerate(listed(solutions, "solutions"), 1)
     return [records.solution_text(each, f"solution {number}") for number, each in given]
 
@@ -327,8 +322,7 @@ def seconds_of(time_limit: float | None) -> float | None:
     """A time limit in seconds, or None; WrongWords if it is no number above 0."""
     if time_limit is None:
         return None
-    is_number = isinstance(time_limit, Real) and not isinstance(time_limit, bool)
-    if not is_number or not 0 < time_limit < 1e8:
+    if not isinstance(time_limit, Real) or not 0 < time_limit < 1e8:
         shown = records.shown(time_limit)
         raise WrongWords(f"time_limit: {shown} is no number of seconds above 0")
     return float(time_limit)

@@ -9,8 +9,8 @@ whole numbers decide, and `wdp verify` is the judge of what comes of it.
 import argparse
 import math
 import re
-from collections.abc import Callable, Iterable, Sequence
-from contextlib import AbstractContextManager, nullcontext
+from collections.abc import Callable, Sequence
+from contextlib import AbstractContextManager
 from fractions import Fraction
 from operator import mul
 from pathlib import Path
@@ -70,9 +70,6 @@ class Award:
         for solution, names in zip(solutions, listed):
             self.learn(solution, names)
 
-    def named(self, group: Group) -> str:
-        return "+".join(self.names[at] for at in sorted(group))
-
     def learn(self, solution: bytes, names: str = "") -> None:
         """Takes from an allocation what the winners cost at least whom it leaves out, and what these bidders do."""
         ones = read_solution(solution, self.program, "a solution")
@@ -80,13 +77,13 @@ class Award:
         left_out = frozenset(at for at in range(len(self.names)) if at not in won)
         asked = frozenset(at for at, name in enumerate(self.names) if name in names.split("+"))
         for group in filter(None, (left_out, asked)):
-            cost = -self.program.objective(ones) - self.total + sum_of(self.amounts, group)
+            bid = sum(self.amounts[at] for at in group)
+            cost = bid - self.total - self.program.objective(ones)
             self.costs[group] = max(cost, self.costs.get(group, cost))
 
     def covers(self, prices: Prices) -> bool:
-        """Whether prices are within their bounds, and cover the groups that are known."""
-        is_within = all(r <= p <= a for r, p, a in zip(self.reserves, prices, self.amounts))
-        return is_within and all(sum_of(prices, group) >= n for group, n in self.costs.items())
+        """Whether prices are between reserves and amounts, and cover the groups that are known."""
+        return all(sum(map(mul, signs, prices)) >= need for signs, need in self.bounds())
 
     def far(self, prices: Prices) -> int:
         """How far prices are from the costs alone, in squares."""
@@ -139,7 +136,8 @@ class Award:
         found = linprog(np.ones(len(self.names)), -np.array(signs, float), -right)
         prices = [round(x * unit) for x in found.x]
         for _ in range(TRIES):
-            before, prices = prices, Moves(self, prices, np.zeros(len(signs))).least()
+            moves = Moves(self, prices, np.zeros(len(signs)))
+            before, prices = prices, moves.found(moves.each)
             if prices == before:
                 break
         if not self.covers(prices):
@@ -223,11 +221,7 @@ class Award:
                 return prices, cover.certificate
 
     def priced(
-        self,
-        solver: str,
-        seconds: float | None = None,
-        at_once: AtOnce = nullcontext,
-        log: Path | None = None,
+        self, solver: str, seconds: float | None, at_once: AtOnce, log: Path | None
     ) -> tuple[list[str], bytes]:
         """The groups to be added to those that are listed, and the parts of an audit; without `%weights` it isn't shown that the
         sum is the least. Within `at_once` nothing is begun that would have to be put away."""
@@ -236,7 +230,8 @@ class Award:
             weights = self.weights(sum(prices))
         text = "%prices\n" + "".join(f"{n} {p}\n" for n, p in zip(self.names, prices))
         text += "%cover\n" + cover.decode()
-        shown = [self.named(group) for group in weights.groups] if weights else []
+        of_groups = [sorted(group) for group in weights.groups] if weights else []
+        shown = ["+".join(self.names[at] for at in group) for group in of_groups]
         listed = list(dict.fromkeys([*self.listed, *shown]))
         if not weights or len(listed) > MOST_GROUPS:
             return [], text.encode()
@@ -275,10 +270,6 @@ class Moves:
         self.low, self.high = -WINDOW * self.each, 1 + (WINDOW - 1) * self.each
         self.high[len(self.high) - len(near) :] = np.inf
 
-    def least(self) -> Prices:
-        """Those of the least sum."""
-        return self.found(self.each)
-
     def nearest(self, total: int, first: int) -> Prices:
         """Of this sum the nearest to the costs alone; or as near as now, the same before the place `first`, and the least there."""
         more = total - sum(self.prices)
@@ -305,10 +296,6 @@ class Moves:
         )
         moves = [0] * len(self.prices) if found.x is None else found.x
         return [price + round(move) for price, move in zip(self.prices, moves)]
-
-
-def sum_of(prices: Prices, group: Iterable[int]) -> int:
-    return sum(prices[at] for at in group)
 
 
 def winners_in(data: bytes, solution: bytes) -> list[str]:

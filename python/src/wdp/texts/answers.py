@@ -2,7 +2,7 @@
 import re
 from collections.abc import Sequence
 from contextlib import suppress
-from itertools import islice
+from functools import cached_property
 
 from wdp.texts.refusals import Unclear, escaped
 from wdp.results import Allocation, Counts, Group, Prices, Program, Report, Tie, Winner
@@ -43,22 +43,23 @@ class Asked:
         self.most_of_programs = count * (MOST_OF_GROUP + MOST_OF_BYTE * len(given))
         rules = (row for part in parts if part.kind == "rules" for row in part.rows())
         self._categories = names_in(rules, "category")
-        forms = [part for part in parts if part.kind == "form"]
-        heads = [(row.values[0], part) for part in forms for row in islice(part.rows(), 1)]
-        self._forms = dict(heads)  # of a bidder's the last one
-        self._bids: dict[str, list[Bid]] = {}
+        self._forms = [part for part in parts if part.kind == "form"]
+
+    @cached_property
+    def _bids(self) -> dict[str, list[Bid]]:
+        """The bids of each bidder's last form; none if no proved program takes these forms."""
+        with suppress(ValueError):
+            return dict(form_of(form.rows()) for form in self._forms)
+        return {}
 
     def winners(self, won: str) -> tuple[Winner, ...]:
         """The winners in these lines, each with the lots of its bid, none if the input has no such bid."""
         winners = []
         for line in won.splitlines():
             bidder, bid, amount = line.split()
-            if bidder not in self._bids:
-                self._bids[bidder] = []
-                with suppress(KeyError, ValueError):  # no proved program takes such a form
-                    self._bids[bidder] = form_of(self._forms[bidder].rows())[1]
-            lots = next((each.lots for each in self._bids[bidder][int(bid) - 1 : int(bid)]), ())
-            named = {name: count for name, count in zip(self._categories, lots) if count}
+            bids = self._bids.get(bidder, [])[int(bid) - 1 : int(bid)]
+            lots = zip(self._categories, bids[0].lots if bids else ())
+            named = {name: count for name, count in lots if count}
             winners.append(Winner(bidder, int(bid), int(amount), named))
         return tuple(winners)
 

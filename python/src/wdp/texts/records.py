@@ -6,14 +6,13 @@ import operator
 from collections.abc import Iterable, Mapping, Sequence, Set
 from contextlib import suppress
 from dataclasses import dataclass
-from typing import Any, NamedTuple, TypeGuard
+from typing import Any, NamedTuple
 
 from wdp.texts.parts import HEAD, names_in
 from wdp.texts.refusals import Refused, WrongWords, escaped, shortened
 from wdp.texts.tables import BYTE_ORDER_MARK, Records, written
 
 Text = str | bytes
-TEXTS = str, bytes, bytearray
 
 # the fields of each kind of record of the rules, by their names in records with names
 FIELDS: dict[str, tuple[str, ...]] = {
@@ -79,8 +78,8 @@ def ended(data: bytes) -> bytes:
 
 def encoded(text: Text, name: str) -> bytes:
     """The bytes of a text, in UTF-8; WrongWords if it isn't a text."""
-    if isinstance(text, (bytes, bytearray)):
-        return bytes(text)
+    if isinstance(text, bytes):
+        return text
     try:
         return text.encode()
     except AttributeError:
@@ -93,14 +92,9 @@ def of_type(value: object) -> str:
     return f"of type {type(value).__name__}"
 
 
-def is_text(given: object) -> TypeGuard[Text]:
-    """Whether this is a text and no records."""
-    return isinstance(given, TEXTS)
-
-
 def is_list(given: object) -> bool:
     """Whether this is an iterable of things in an order, and no text."""
-    return isinstance(given, Iterable) and not isinstance(given, (*TEXTS, Mapping, Set))
+    return isinstance(given, Iterable) and not isinstance(given, (str, bytes, Mapping, Set))
 
 
 def field(value: Any, where: Where) -> str:
@@ -169,7 +163,7 @@ def rules_text(rules: Any) -> Text:
     """The text of the rules: a text unchanged, or one made of records: tuples such as `("category", "A", 2, 10, 1)`, which may
     lack fields at their ends that nothing reads, or dicts such as `{"record": "rules", "version": 1, "step": 1}`.
     """
-    if is_text(rules):
+    if isinstance(rules, (str, bytes)):
         return rules
     given = enumerate(records_in(rules, Where("rules")), 1)
     records = [rules_fields(record, Where(f"rules, record {number}")) for number, record in given]
@@ -178,7 +172,6 @@ def rules_text(rules: Any) -> Text:
 
 
 def rules_fields(record: Any, where: Where) -> list[str]:
-    """The fields of a record of the rules, as far as they are given."""
     if not isinstance(record, Mapping):
         return plain_fields(record, where)
     kind = record.get("record")
@@ -195,7 +188,7 @@ def forms_of(forms: Any, rules: Text, missing_as_zero: bool = False) -> list[For
     """The forms: texts unchanged, pairs of a bidder's name and its bids, or the rows of one table of all bids. A bid is a tuple
     as `(30, 1, 0)`, the amount in whole pounds and a quantity for each category, or a dict as `{"amount": 30, "A": 1}`, in a
     table with `bidder`. With `missing_as_zero` a category that a dict lacks counts as 0."""
-    if is_text(forms):
+    if isinstance(forms, (str, bytes)):
         raise WrongWords("forms: a list of forms is asked for, and this is one text")
     # (a form repeats the categories' names, so that the program refuses it if they were read wrongly)
     text = encoded(rules, "rules").decode("utf-8", "replace").removeprefix(BYTE_ORDER_MARK)
@@ -220,8 +213,7 @@ def by_bidder(rows: Sequence[Mapping[str, Any]]) -> dict[str, Placed]:
 
 
 def form_of(form: Any, where: Where, names: Sequence[str], missing_as_zero: bool) -> Form:
-    """A form: its text, or a pair of a bidder's name and its bids."""
-    if is_text(form):
+    if isinstance(form, (str, bytes)):
         return Form(form)
     pair = (form.get("bidder"), form.get("bids")) if isinstance(form, Mapping) else form
     if not isinstance(pair, (tuple, list)) or len(pair) != 2 or not isinstance(pair[0], str):
@@ -260,7 +252,7 @@ def groups_text(groups: Any) -> Text:
     >>> groups_text([(), "Beta", ("Beta", "Gamma")])
     '-\\nBeta\\nBeta+Gamma\\n'
     """
-    if groups is None or is_text(groups):
+    if groups is None or isinstance(groups, (str, bytes)):
         return "-\n" if groups is None else groups
     listed = enumerate(records_in(groups, Where("groups")), 1)
     return "".join(group_line(group, f"groups, line {number}") for number, group in listed)
@@ -270,7 +262,7 @@ def group_line(group: Any, where: str) -> str:
     group = group.get("group") if isinstance(group, Mapping) else group
     if isinstance(group, str):
         line = group
-    elif is_text(group) or not isinstance(group, Iterable):
+    elif not isinstance(group, Iterable):
         raise WrongWords(f"{where}: a line or names of bidders are asked for")
     else:
         names = list(group)
@@ -288,7 +280,7 @@ def solution_text(solution: Any, where: str = "solution") -> Text:
     >>> solution_text({"X1_1": 1})
     'X1_1 1\\n'
     """
-    if is_text(solution):
+    if isinstance(solution, (str, bytes)):
         return solution
     if not isinstance(solution, Mapping):
         raise WrongWords(f"{where}: a text, or a dict of columns and values, is asked for")

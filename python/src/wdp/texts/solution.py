@@ -21,33 +21,31 @@ def read_solution(text: bytes, program: ZeroOne, source: str) -> set[int]:
         words = FIELD.findall(line)
         if words and not line.startswith("#"):
             try:
-                place, is_one = entry_of(words, program)
-                if place in values:
-                    raise ValueError(f"the column {shortened(words[0], LONGEST)} is there twice")
+                take(words, program, values)
             except ValueError as fault:
                 raise Refused(f"{source}: line {number}: {fault}") from None
-            values[place] = is_one
     ones = {place for place, is_one in values.items() if is_one}
     if broken := program.fault_of(ones):
         raise Refused(f"{source}: {broken}")
     return ones
 
 
-def entry_of(words: list[str], program: ZeroOne) -> tuple[int, bool]:
-    """The place of a line's column, and whether it is at 1; ValueError says what is wrong with the line."""
+def take(words: list[str], program: ZeroOne, values: dict[int, bool]) -> None:
+    """Takes a line: whether its column is at 1, by the column's place. ValueError says what is wrong with it."""
     if len(words) != 2:
         raise ValueError("not a name and a value")
     name, token = (shortened(word, LONGEST) for word in words)
     place = program.column_places.get(words[0])
     if place is None:
         raise ValueError(f"the column {name} isn't known")
+    if place in values:
+        raise ValueError(f"the column {name} is there twice")
     if not NUMBER.fullmatch(words[1]):
         raise ValueError(f"the value {token} of {name} is no number")
     value = Fraction(words[1])
-    is_one = abs(value - 1) <= NEAR
-    if not is_one and abs(value) > NEAR:
+    values[place] = abs(value - 1) <= NEAR
+    if not values[place] and abs(value) > NEAR:
         raise ValueError(f"the value {token} of {name} is neither 0 nor 1")
-    return place, is_one
 
 
 def solution_text(ones: Iterable[int], program: ZeroOne) -> bytes:
