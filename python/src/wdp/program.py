@@ -43,7 +43,7 @@ def found_program(program: Path | None = None) -> str:
         asked = usual if program is None else os.fsdecode(program)
     except TypeError:
         raise WrongWords(f"program: a path is asked for, not a {type(program).__name__}") from None
-    found = shutil.which(asked) if asked and "\0" not in asked else None
+    found = shutil.which(asked)
     if found is None:
         raise NotFound(f"the program isn't found: {asked}; {INSTALL}")
     return os.path.abspath(found)

@@ -12,22 +12,13 @@ LINE_END = re.compile(rb"\r\n|\r|\n")  # as records count lines
 
 
 class Part(NamedTuple):
-    """A part: what its head line, number `line`, has after `%`; where that line and the text begin, and where the text ends."""
+    """A part: what its head line, number `line`, has after `%`; that line, the text below it, and where that ends."""
 
     kind: str
-    data: bytes
-    start: int
-    begin: int
+    head: bytes
+    text: bytes
     end: int
     line: int
-
-    @property
-    def head(self) -> bytes:
-        return self.data[self.start : self.begin]
-
-    @property
-    def text(self) -> bytes:
-        return self.data[self.begin : self.end]
 
     def rows(self) -> Iterable[Row]:
         """The records of rules or a form, or the lines of groups, as the program counts them."""
@@ -38,13 +29,13 @@ class Part(NamedTuple):
 
 
 def parts_of(data: bytes) -> Iterator[Part]:
-    line = counted = 0
+    line, counted = 1, 0
     for head, following in pairwise(chain(HEAD.finditer(data), [None])):
         assert head  # None is the last one
         line += len(LINE_END.findall(data, counted, head.start()))
         counted = head.start()
         end = following.start() if following else len(data)
-        yield Part(decoded(head[1]), data, head.start(), head.end(), end, line + 1)
+        yield Part(decoded(head[1]), head[0], data[head.end() : end], end, line)
 
 
 def names_in(rules: Iterable[Row], kind: str) -> list[str]:

@@ -3,6 +3,7 @@
 Nothing is judged here that the program judges: records are written, and it says what is wrong with them.
 """
 import operator
+from collections import defaultdict
 from collections.abc import Iterable, Mapping, Sequence, Set
 from contextlib import suppress
 from dataclasses import dataclass
@@ -50,10 +51,6 @@ class Form:
     bidder: str | None = None
     rows: Sequence[int] = ()
     columns: Sequence[str] = ()
-
-
-class Placed(dict[int, Any]):
-    """Bids by their places in a table."""
 
 
 def part(head: str, text: Text, number: int | None = None) -> bytes:
@@ -200,15 +197,15 @@ def forms_of(forms: Any, rules: Text, missing_as_zero: bool = False) -> list[For
     return [form_of(form, Where(f"form {n}", n), names, missing_as_zero) for n, form in given]
 
 
-def by_bidder(rows: Sequence[Mapping[str, Any]]) -> dict[str, Placed]:
-    """The rows of a table of bids for each bidder, in the order of the bidders' first bids."""
-    forms: dict[str, Placed] = {}
+def by_bidder(rows: Sequence[Mapping[str, Any]]) -> dict[str, dict[int, Any]]:
+    """The bids of each bidder by their places in a table, in the order of the bidders' first bids."""
+    forms: defaultdict[str, dict[int, Any]] = defaultdict(dict)
     for place, row in enumerate(rows):
         where = Where(f"forms, row {place + 1}", row=place)
         if "bidder" not in row:
             raise where.wrong("there is no 'bidder'")
         bid = {name: value for name, value in row.items() if name != "bidder"}
-        forms.setdefault(field(row["bidder"], where), Placed())[place] = bid
+        forms[field(row["bidder"], where)][place] = bid
     return forms
 
 
@@ -220,7 +217,7 @@ def form_of(form: Any, where: Where, names: Sequence[str], missing_as_zero: bool
         raise where.wrong("a text, or a pair of a bidder's name and its bids, is asked for")
     bidder, bids = pair
     where = where._replace(bidder=bidder)
-    if not isinstance(bids, Placed):
+    if not isinstance(bids, Mapping):  # by their places, as those of a table
         bids = dict(enumerate(records_in(bids, where, ("amount", *names))))
     lines = [[bidder, *names]]
     for number, (place, bid) in enumerate(bids.items(), 1):
