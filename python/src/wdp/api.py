@@ -86,11 +86,10 @@ class Auction:
         program: Path | None = None,
         time_limit: float | None = None,
     ) -> Auction:
-        """The auction of a file of rules, a file for each form, and a file of groups; nobody is left out without one.
-
-        Of several forms of a bidder the last one counts. Raises NotFound if a file isn't there, and Refused if it can't be
-        read, or if its last line has no end, as in a file that was cut off: `allow_unended` says that such files are
-        complete. Raises what Auction(..) does."""
+        """The auction of a file of rules, a file for each form, and a file of groups; nobody is left out without one. Of several
+        forms of a bidder the last one counts. Raises what Auction(..) does, NotFound if a file isn't there, and Refused if it
+        can't be read, or if its last line has no end, as in a file that was cut off: `allow_unended` says that such files
+        are complete."""
         paths = [forms] if isinstance(forms, (str, bytes, os.PathLike)) else listed(forms, "forms")
         return cls(
             rules=content(rules, allow_unended, "rules"),
@@ -133,13 +132,12 @@ class Auction:
             return
         form = self._forms[refused.number - 1]
         refused.bidder = form.bidder
-        if refused.record is not None and 2 <= refused.record <= len(form.rows) + 1:
-            refused.row = form.rows[refused.record - 2]
+        # (the first record is the form's header, and fields are counted from 1)
+        refused.row = dict(enumerate(form.rows, 2)).get(refused.record or 0)
         if form.columns:
             found = explained(self._program, self._given).findings
-            fields = [each.field for each in found if each.refused.text == refused.text]
-            if fields and fields[0] is not None and fields[0] <= len(form.columns):
-                refused.column = form.columns[fields[0] - 1]
+            fields = (each.field or 0 for each in found if each.refused.text == refused.text)
+            refused.column = dict(enumerate(form.columns, 1)).get(next(fields, 0))
 
     def _report(self, command: str, given: bytes, workers: int) -> Report:
         words = [command, f"--workers={records.whole(workers, 'workers')}"]
@@ -153,10 +151,8 @@ class Auction:
         return explained(self._program, self._given, bids)
 
     def compile(self, workers: int = 1) -> list[Program]:
-        """The program of each group, in the order of the groups, written by 1 to 64 `workers`.
-
-        Raises Refused if the rules, a form or a group has a fault, and WrongWords for other numbers of workers.
-        """
+        """The program of each group, in the order of the groups, written by 1 to 64 `workers`. Raises Refused if the rules, a form
+        or a group has a fault, and WrongWords for other numbers of workers."""
         words = ["compile", f"--workers={records.whole(workers, 'workers')}"]
         asked = answers.Asked(self._given)
         output = self._answer(words, self._given, asked.most_of_programs)
@@ -167,10 +163,8 @@ class Auction:
     ) -> Solutions:
         """A point of each program: from `cbc`, from `highs` as scipy has it, or from a command as docs/OFFICE.md describes;
         by default from cbc if it is installed. That it is the best one is the solver's word. `time_limit` is in seconds, for
-        each program; a solver that runs as a program gets them rounded up.
-
-        Raises NotFound if the solver isn't there, NotSolved if it gives no point, and WrongWords if it isn't known.
-        """
+        each program; a solver that runs as a program gets them rounded up. Raises NotFound if the solver isn't there,
+        NotSolved if it gives no point, and WrongWords if it isn't known."""
         name, seconds = checked_solver(solver), seconds_of(time_limit)
         points = (point_of(program, name, seconds) for program in self.compile(workers))
         return Solutions(tuple(points), name)
@@ -183,10 +177,8 @@ class Auction:
     ) -> Certified:
         """Certifies each group's solution, and verifies that: a better solution replaces one that isn't optimal. Without
         solutions the search begins from nothing, which may take long. With `unique` it is also proved that nobody else can
-        win with group 1's total, or shown who can. `time_limit` is in seconds, for each search.
-
-        Raises Refused if `report` does or a limit is reached, and Missing without numpy, scipy and swiglpk.
-        """
+        win with group 1's total, or shown who can. `time_limit` is in seconds, for each search. Raises Refused if `report`
+        does or a limit is reached, and Missing without numpy, scipy and swiglpk."""
         programs = [program.text.encode() for program in self.compile()]
         seconds = seconds_of(time_limit)
         if solutions is None:
@@ -216,9 +208,8 @@ class Auction:
     ) -> Certified:
         """What is certified, with prices: whole ones of the least sum that cover every group of bidders, and of these the nearest
         to what each winner costs alone. Its report has them, and after the groups of the auction those that show them: each
-        winner alone, and what binds the sum. `time_limit` is in seconds, for each solver's run and each certificate.
-
-        Raises what `solve` and `certify` do."""
+        winner alone, and what binds the sum. `time_limit` is in seconds, for each solver's run and each certificate. Raises what
+        `solve` and `certify` do."""
         name, seconds = checked_solver(solver), seconds_of(time_limit)
         given = zip(certified.solutions, certified.certificates)
         found = [Found(text.encode(), shown.encode(), 0) for text, shown in given]
@@ -245,10 +236,8 @@ class Auction:
 
     def report(self, solutions: Iterable[Any], workers: int = 1) -> Report:
         """Winners, total and opportunity cost of each group in pounds, from a solution for each: texts, or dicts of columns
-        and values. That the solutions are feasible is tested exactly; that they are the best ones isn't.
-
-        Raises Refused if one isn't a solution of its group's program, or there isn't one for each group.
-        """
+        and values. That the solutions are feasible is tested exactly; that they are the best ones isn't. Raises Refused if one
+        isn't a solution of its group's program, or there isn't one for each group."""
         return self._report("report", self.input(solutions), workers)
 
     def verify(
@@ -267,18 +256,14 @@ class Auction:
         certificate that the solution of group 1 is the only optimal one, or `tie`, another solution with the same total, the
         report's `uniqueness` is what that shows. With `prices`, a line `NAME PRICE` for each winner of group 1, and `cover`, a
         certificate that they cover every group, perhaps with `weights` that show their sum to be the least one, the report has
-        `prices`; docs/REFERENCE.md has these texts.
-
-        Raises Refused if `report` does, if a certificate doesn't show its bound, and if a claim doesn't hold.
-        """
+        `prices`; docs/REFERENCE.md has these texts. Raises Refused if `report` does, if a certificate doesn't show its bound,
+        and if a claim doesn't hold."""
         given = self.input(solutions, certificates, unique, tie, prices, cover, weights)
         return self._report("verify", given, workers)
 
     def map(self, solution: Any, group: int = 1) -> Allocation:
-        """Winners and total in pounds of a solution of one group, by the group's number from 1.
-
-        Raises Refused if it isn't a solution or there is no such group, and WrongWords for numbers that no group has.
-        """
+        """Winners and total in pounds of a solution of one group, by the group's number from 1. Raises Refused if it isn't a
+        solution or there is no such group, and WrongWords for numbers that no group has."""
         words = ["map", f"--group={records.whole(group, 'group')}"]
         output = self._answer(words, self.input([solution]))
         return answers.read_map(output, answers.Asked(self._given))
@@ -307,6 +292,7 @@ def point_of(program: Program, solver: str, seconds: float | None) -> str:
 
 
 def solution_texts(solutions: Iterable[Any]) -> list[Text]:
+    """Solutions as texts, those that are dicts written."""
     given = enumerate(listed(solutions, "solutions"), 1)
     return [records.solution_text(each, f"solution {number}") for number, each in given]
 

@@ -182,12 +182,8 @@ class Award:
             # weights know no amounts: prices above them are of no use once these groups are known
             price = [-n * unit for n in found.ineqlin.marginals]
             over = [at for at in winners if price[at] > self.amounts[at] + 0.5]
-            less = {
-                g - {at}: self.costs[g] - self.amounts[at]
-                for g, y in zip(groups, exact)
-                for at in over
-                if y and at in g
-            }
+            pairs = [(g, at) for g, y in zip(groups, exact) if y for at in over if at in g]
+            less = {g - {at}: self.costs[g] - self.amounts[at] for g, at in pairs}
             news = {g: n for g, n in less.items() if g and n > self.costs.get(g, -1)}
             if not news:
                 return None
@@ -259,9 +255,8 @@ class Moves:
         self.needs = np.array([needs[at] for at in near], float)
         many, none = np.kron(np.eye(count), np.ones(WINDOW)), np.zeros((count, len(near)))
         more = np.zeros((len(near), 2 * count * WINDOW))
-        self.links = np.block(
-            [[np.eye(count), -many, many, none], [signs, more, -np.eye(len(near))]]
-        )
+        of_prices, of_bounds = [np.eye(count), -many, many, none], [signs, more, -np.eye(len(near))]
+        self.links = np.block([of_prices, of_bounds])
         gaps = np.array([2.0 * (price - cost) for price, cost in zip(prices, award.alone())])
         rest, self.pull = gaps - signs.T @ pull[near], np.minimum(pull[near], STRONGEST)
         pounds = np.tile(np.arange(1.0, 2 * WINDOW, 2), 2 * count)
@@ -286,14 +281,10 @@ class Moves:
         from scipy.optimize import Bounds, LinearConstraint, milp
 
         sides = np.append(np.zeros(len(self.prices)), self.needs)
-        limits = [LinearConstraint(row[None, :], low, high) for row, low, high in rows]
-        found = milp(
-            goal,
-            integrality=self.each,
-            bounds=Bounds(self.low, self.high),
-            constraints=[LinearConstraint(self.links, sides, sides), *limits],
-            options={"mip_rel_gap": 0, "node_limit": MOST_NODES},
-        )
+        within, limits = Bounds(self.low, self.high), [LinearConstraint(self.links, sides, sides)]
+        limits += [LinearConstraint(row[None, :], low, high) for row, low, high in rows]
+        how = {"mip_rel_gap": 0, "node_limit": MOST_NODES}
+        found = milp(goal, integrality=self.each, bounds=within, constraints=limits, options=how)
         moves = [0] * len(self.prices) if found.x is None else found.x
         return [price + round(move) for price, move in zip(self.prices, moves)]
 

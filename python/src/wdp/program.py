@@ -32,10 +32,8 @@ def tree_of_package() -> str | None:
 
 def found_program(program: Path | None = None) -> str:
     """The path of the program: the one that is given, else $WDP, else ./wdp of the package's tree, else the one that was
-    installed with the package, else `wdp` on the PATH.
-
-    Raises NotFound if the one that is named isn't there; no other one is then taken, and WrongWords if it is no path.
-    """
+    installed with the package, else `wdp` on the PATH. Raises NotFound if the one that is named isn't there; no other one is
+    then taken, and WrongWords if it is no path."""
     tree, prefix = tree_of_package(), PACKAGE.rpartition(os.sep + "lib" + os.sep)[0]
     beside = os.path.join(tree, "wdp") if tree else os.path.join(prefix, "bin", "wdp")
     usual = os.environ.get("WDP") or (beside if os.path.isfile(beside) else "wdp")

@@ -85,7 +85,6 @@ class Reader:
     columns: dict[str, Column] = field(default_factory=dict)
 
     def take(self, section: str, words: list[str]) -> None:
-        """Takes a line of data."""
         match section, words:
             case "ROWS", ["N", name]:
                 is_first = OBJECTIVE not in self.row_places.values()
