@@ -24,8 +24,7 @@ from tied_auctions import BIDDERS, bid_of
 from trials.judging import KINDS, done, refused, row, seen
 from wdp.certify.layout import Layout
 from wdp.certify.search import Beaten, OnlySearch, Search
-from wdp.texts.solution import read_solution, solution_text
-from wdp.texts.zero_one import ZeroOne, read_program
+from wdp.texts.zero_one import ZeroOne, read_program, read_solution, solution_text
 
 # so many auctions are tried in one test
 COUNT = 25

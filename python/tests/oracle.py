@@ -7,9 +7,8 @@ import re
 from collections import namedtuple
 from fractions import Fraction
 
-from wdp.texts.solution import FIELD
 from wdp.texts.tables import lines
-from wdp.texts.zero_one import AT_LEAST, AT_MOST
+from wdp.texts.zero_one import AT_LEAST, AT_MOST, FIELD
 
 WIDEST = 2**126
 # a number: an optional sign, digits with an optional point, an optional exponent

@@ -18,8 +18,8 @@ from wdp import solve
 from wdp.certify.layout import Layout
 from wdp.certify.search import Beaten, LimitReached, OnlySearch, Search
 from wdp.texts.refusals import NotSolved, Refused
-from wdp.texts.solution import read_solution
-from wdp.texts.zero_one import AT_LEAST, AT_MOST, EQUAL, Column, Row, ZeroOne, read_program
+from wdp.texts.zero_one import AT_LEAST, AT_MOST, EQUAL, Column, Row, ZeroOne
+from wdp.texts.zero_one import read_program, read_solution
 
 
 def auction(supply, bids):

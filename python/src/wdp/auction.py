@@ -27,8 +27,7 @@ from wdp.publish import command as publishing
 from wdp.texts import accepted, answers
 from wdp.texts.parts import MOST_OF_INPUT, groups_in, parts_of, with_groups
 from wdp.texts.refusals import NotSolved, Refused, WrongWords, need
-from wdp.texts.solution import read_solution, solution_text
-from wdp.texts.zero_one import read_program
+from wdp.texts.zero_one import read_program, read_solution, solution_text
 
 NAMES = "programs/names.txt"  # the names that each group leaves out; there once all programs are
 REPORT, AUDIT, UNIQUE, PRICES = "report.txt", "audit.txt", "unique.txt", "prices.txt"

@@ -19,8 +19,7 @@ from typing import Any, NamedTuple
 from wdp import certify, solve
 from wdp.texts import accepted
 from wdp.texts.refusals import NotSolved, Refused
-from wdp.texts.solution import read_solution
-from wdp.texts.zero_one import read_program
+from wdp.texts.zero_one import read_program, read_solution
 
 COST = re.compile(rb"(?m)^( X([0-9]+)_[0-9]+ OBJ )(-?[0-9]+)$")
 BID = re.compile(r"X([0-9]+)_([0-9]+)")

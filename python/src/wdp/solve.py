@@ -19,8 +19,8 @@ from wdp.office.choices import checked
 from wdp.program import Limits, answer, found_program, ran, signal_named
 from wdp.results import Matrix
 from wdp.texts.refusals import NotFound, NotSolved, Refused, WrongWords, need
-from wdp.texts.solution import read_solution, solution_text
-from wdp.texts.zero_one import AT_LEAST, AT_MOST, ZeroOne, read_program
+from wdp.texts.zero_one import AT_LEAST, AT_MOST, ZeroOne
+from wdp.texts.zero_one import read_program, read_solution, solution_text
 
 FAILED, NO_POINT, TIME_OUT, KILLED = 1, 3, 4, 5  # the statuses of `wdp-office solve`
 MOST_OF_ANSWER = 32 * 1024 * 1024  # bytes of any file that a solver writes

@@ -7,8 +7,7 @@ from typing import NamedTuple
 from wdp import files
 from wdp.solve import MOST_OF_ANSWER, SECONDS, nothing, read_checked
 from wdp.texts.refusals import need
-from wdp.texts.solution import read_solution, solution_text
-from wdp.texts.zero_one import read_program
+from wdp.texts.zero_one import read_program, read_solution, solution_text
 
 LIBRARIES = "numpy", "scipy", "swiglpk"
 NOT_OPTIMAL, TIED = 3, 5

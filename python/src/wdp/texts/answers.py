@@ -37,7 +37,7 @@ class Asked:
         parts = list(parts_of(given))
         kinds = {part.kind for part in parts}
         self.is_claimed, self.is_priced = bool({"unique", "tie"} & kinds), "prices" in kinds
-        self.groups = [frozenset(names_of(line)) for line in groups_in(given)]
+        self.groups = [set(line.split("+")) - {"-"} for line in groups_in(given)]
         count = len(self.groups) + 2
         self.most_of_report = count * MOST_OF_GROUP
         self.most_of_programs = count * (MOST_OF_GROUP + MOST_OF_BYTE * len(given))
@@ -81,14 +81,10 @@ def unclear(why: str) -> Unclear:
     return Unclear("the program's answer isn't as docs/REFERENCE.md says: " + escaped(why))
 
 
-def names_of(text: str) -> tuple[str, ...]:
-    return () if text == "-" else tuple(text.split("+"))
-
-
 def names_of_head(number: str, names: str, wanted: int, asked: Asked) -> tuple[str, ...]:
     """The names of a group's heading, which has to be that of the wanted group of the input."""
-    found = names_of(names)
-    if int(number) != wanted or frozenset(found) != asked.groups[wanted - 1]:
+    found = () if names == "-" else tuple(names.split("+"))
+    if int(number) != wanted or set(found) != asked.groups[wanted - 1]:
         raise unclear(f"in place of group {wanted} there is: {number} {names}")
     return found
 
