@@ -308,7 +308,7 @@ def seconds_of(time_limit: float | None) -> float | None:
     """A time limit in seconds, or None; WrongWords if it is no number above 0."""
     if time_limit is None:
         return None
-    if not isinstance(time_limit, Real) or not 0 < time_limit < 1e8:
+    if isinstance(time_limit, bool) or not isinstance(time_limit, Real) or not 0 < time_limit < 1e8:
         shown = records.shown(time_limit)
         raise WrongWords(f"time_limit: {shown} is no number of seconds above 0")
     return float(time_limit)

@@ -74,8 +74,7 @@ class Tie(Allocation):
 @dataclass(frozen=True)
 class Group(Allocation):
     """The outcome of a group: its number from 1, the names of the bidders that are left out, winners, total and opportunity
-    cost in pounds. The cost is how much more the others, and the value of unsold lots, would bring without the group.
-    """
+    cost in pounds: how much more the others and the value of unsold lots would bring without it."""
 
     number: int
     names: tuple[str, ...]
@@ -142,8 +141,7 @@ class Program:
 @dataclass(frozen=True, eq=False)
 class Matrix:
     """A 0-1 program to be minimised: costs in pounds, minus the nets of the bids, and bounds of the columns; of the rows senses
-    (`L`: at most) and right sides in lots, loads or bids; and the entries, a row of the matrix for each.
-    """
+    (`L`: at most), right sides in lots, loads or bids, and entries, a row of the matrix each."""
 
     columns: tuple[str, ...]
     costs: tuple[int, ...]
@@ -195,9 +193,8 @@ class Solutions(Sequence[str]):
 
 @dataclass(frozen=True)
 class Certified:
-    """A certified outcome: the report, the solutions that are optimal, and the certificate of each; what is proved of other
-    winners of group 1, if that was asked for; and the audit, an input of which `wdp verify` prints the report anywhere.
-    """
+    """A certified outcome: the report, the solutions that are optimal, and the certificate of each; what is proved of other winners
+    of group 1, if asked; and the audit, an input of which `wdp verify` prints the report."""
 
     report: Report
     solutions: Solutions

@@ -157,9 +157,8 @@ def plain_fields(record: Any, where: Where) -> list[str]:
 
 
 def rules_text(rules: Any) -> Text:
-    """The text of the rules: a text unchanged, or one made of records: tuples such as `("category", "A", 2, 10, 1)`, which may
-    lack fields at their ends that nothing reads, or dicts such as `{"record": "rules", "version": 1, "step": 1}`.
-    """
+    """The text of the rules: a text unchanged, or one made of records: tuples such as `("category", "A", 2, 10, 1)`, which may lack
+    fields at their ends that nothing reads, or dicts as `{"record": "bidder", "name": "Alpha"}`."""
     if isinstance(rules, (str, bytes)):
         return rules
     given = enumerate(records_in(rules, Where("rules")), 1)

@@ -13,7 +13,7 @@ WITH_KIND = re.compile(
     r"(?:, (?:earlier bid|column) (?P<field>[0-9]{1,18}))?"
 )
 
-# a refusal in words, which may count a part or a group; of a part, or else of what is written
+# a refusal in words: of a part, perhaps with a number, or else of what is written
 IN_WORDS = re.compile(
     r"wdp: (?:(?P<part>input|groups|tie|desk): )?"
     r"(?:read failed|too large|bytes before the first part|wrong answer|write failed after [0-9]{1,18} bytes"
