@@ -39,19 +39,17 @@ def path(text: str) -> str:
 
 def add_words(parser: argparse.ArgumentParser) -> None:
     add = parser.add_argument
-    by = "by the number at the end of its name or by its time of change"
-    last = f"if a bidder has several files, the last one counts, {by}"
+    last = "of a bidder's files the last one counts, by the end of its name or its time of change"
     add("--last-wins", choices=("name", "time"), help=last)
     add("--any-file-name", action="store_true", help="a file's name needn't name a bidder")
     allow = partial(add, metavar="NAMES", type=names, action="extend", default=[])
     allow("--allow-missing", help="these bidders have no form; separate names by commas")
     allow("--allow-empty", help="these bidders' forms have no bid; separate names by commas")
     ends = "the forms of these bidders, `rules` or `groups` are complete without a last line end"
-    allow("--allow-unended", help=f"{ends}; separate names by commas")
+    allow("--allow-unended", help=ends)
     rows = "a file with a row `bidder,bids` for each form: how many bids it must have"
     add("--expect", metavar="COUNTS", type=path, help=rows)
-    sheet = "the sheet of each workbook, by default the first"
-    add("--sheet", metavar="NAME", type=path, help=sheet)
+    add("--sheet", metavar="NAME", type=path, help="the sheet of each workbook, else the first")
 
 
 def is_any(given: argparse.Namespace) -> bool:

@@ -9,7 +9,7 @@ Exit status: 0 nothing is wrong; 1 something is; 2 the options are wrong.
 import argparse
 from collections.abc import Sequence
 
-from wdp.texts.refusals import Refused, WrongWords
+from wdp.texts.refusals import WrongWords
 from wdp.files import Unreadable, put, read
 from wdp.office import choices
 from wdp.office.faults import Fault, all_counted, counted, printed
@@ -25,8 +25,7 @@ THEN = "the forms and groups are read once the parts and the rules are right"
 
 def add_words(parser: argparse.ArgumentParser) -> None:
     parser.add_argument("paths", metavar="INPUT | RULES FORMS_DIR [GROUPS]", nargs="+")
-    bids = "print which bids are left out of every program"
-    parser.add_argument("--bids", action="store_true", help=bids)
+    parser.add_argument("--bids", action="store_true", help="print which bids are in no program")
     choices.add_words(parser)
 
 
@@ -47,9 +46,9 @@ def of_input(given: argparse.Namespace, program: str) -> tuple[list[Fault], bool
     try:
         data = read(path, MOST_OF_INPUT)
     except Unreadable as error:
-        if "more than" in error.why:
-            return [Fault(source, error.why, "input: too large")], False, []
-        raise Refused(f"{source}: {error.why}") from None
+        if "more than" not in error.why:
+            raise
+        return [Fault(source, error.why, "input: too large")], False, []
     found = explained(program, data, given.bids)
     faults = faults_of_input(found, data, source)
     if faults or not given.bids:

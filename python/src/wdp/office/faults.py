@@ -8,7 +8,7 @@ from wdp.texts.refusals import one_line, shortened
 
 Cell = int | str | None  # of a table
 # bytes beyond ASCII as the program shows them, and a backslash that it leaves as it is
-BYTES = re.compile(r"\\\\|(?:\\x[89a-f][0-9a-f])+")
+BYTES = re.compile(r"\\\\|((?:\\x[89a-f][0-9a-f])+)")
 
 
 @dataclass(frozen=True)
@@ -41,10 +41,8 @@ def readable(words: str) -> str:
     """
 
     def character(found: re.Match[str]) -> str:
-        try:
-            return one_line(bytes.fromhex(found[0].replace("\\x", "")).decode())
-        except ValueError:
-            return found[0]
+        data = bytes.fromhex((found[1] or "").replace("\\x", ""))
+        return one_line(data.decode("utf-8", "backslashreplace")) or found[0]
 
     return BYTES.sub(character, words)
 

@@ -20,8 +20,7 @@ def add_words(parser: argparse.ArgumentParser) -> None:
     parser.add_argument("rules", metavar="RULES", help="the file of the rules")
     made = "the folder for the forms, which must be empty or new"
     parser.add_argument("--output", metavar="DIR", type=choices.path, required=True, help=made)
-    books = "write workbooks, .xlsx, in place of CSV"
-    parser.add_argument("--workbooks", action="store_true", help=books)
+    parser.add_argument("--workbooks", action="store_true", help="write .xlsx in place of CSV")
 
 
 def workbook(values: list[str]) -> bytes:

@@ -37,10 +37,8 @@ def add_words(parser: argparse.ArgumentParser) -> None:
     winners = "each winner of a report's first group, or of what `wdp map` prints, alone"
     rule = f"in place of GROUPS: {each}, or winners FILE (nobody, and {winners})"
     add("--groups", nargs="+", metavar="RULE", default=[], help=rule)
-    output = "write the input to this file, completely or not at all"
-    add("--output", metavar="FILE", type=choices.path, help=output)
-    also = "write the receipt to this file too"
-    add("--receipt", metavar="FILE", type=choices.path, help=also)
+    add("--output", metavar="FILE", type=choices.path, help="write the input to this file")
+    add("--receipt", metavar="FILE", type=choices.path, help="write the receipt to this file too")
     choices.add_words(parser)
 
 
@@ -70,9 +68,8 @@ def line_of(what: str, file: File, more: str) -> str:
 
 def of_files(auction: Auction) -> Iterator[str]:
     rules, forms = auction.rules, auction.forms
-    if auction.rules_file:
-        count = f"{counted(len(rules.bidders), 'bidder')}, {len(rules.categories)} categories"
-        yield line_of("rules", auction.rules_file, count)
+    count = f"{counted(len(rules.bidders), 'bidder')}, {len(rules.categories)} categories"
+    yield line_of("rules", auction.rules_file, count)
     for name in rules.bidders:
         if name in forms:
             yield line_of(name, forms[name], counted(forms[name].bids or 0, "bid"))

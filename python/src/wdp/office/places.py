@@ -4,11 +4,8 @@ The words are the program's: what is there, and what was wanted. What spreadshee
 template left alike have one line.
 """
 import re
-from collections import defaultdict
 from collections.abc import Iterable, Sequence
-from dataclasses import replace
 from itertools import islice
-from typing import NamedTuple
 
 from wdp.office.faults import Fault, counted, nearest, quoted
 from wdp.office.judge import Explained, Finding, Key
@@ -48,15 +45,6 @@ ZEROS = (
 )
 
 
-class Source(NamedTuple):
-    """What a part of the input was made of: a file, its rows, and the place in it where the part begins."""
-
-    file: str
-    rows: Iterable[Row]
-    bidders: Sequence[str] = ()
-    head: str = ""
-
-
 def hint(value: str) -> str:
     """Why a value is no number, after a colon; nothing if that isn't known."""
     words = next((words for pattern, words in HINTS if pattern.fullmatch(value)), "")
@@ -67,8 +55,7 @@ def words_of(finding: Finding, row: Row | None, bidders: Sequence[str]) -> str:
     kind, earlier = finding.refused.kind or "", finding.refused.field
     if earlier:
         return f"bid {earlier} has the same package"
-    named = re.sub("(?=[A-Z])", " ", kind).strip().lower()
-    words = finding.words or CAUSES.get(kind) or named
+    words = finding.words or CAUSES.get(kind) or finding.refusal
     if not row or not finding.field or finding.field > len(row.values):
         return words
     value = row.values[finding.field - 1]
@@ -91,29 +78,31 @@ def alike_words(finding: Finding, row: Row | None, width: int) -> tuple[str, str
     return None
 
 
-def faults_of(found: Sequence[Finding], source: Source) -> list[Fault]:
-    """The faults of one part in the program's order; rows with the same fault, as a template leaves them, have one."""
+def faults_of(
+    found: Sequence[Finding], file: str, rows: Iterable[Row], bidders: Sequence[str], head: str = ""
+) -> list[Fault]:
+    """The faults of one part in the program's order; rows with the same fault, as a template leaves them, have one. The part has
+    these rows of the file, in which it begins at `head`."""
     wanted = {1} | {each.refused.at for each in found if isinstance(each.refused.at, int)}
-    numbered = enumerate(islice(source.rows, max(wanted)), 1)
-    rows: dict[object, Row] = {number: row for number, row in numbered if number in wanted}
-    width = len(rows[1].values) if rows else 0
-    faults: dict[object, Fault] = {}
-    of_rows: defaultdict[tuple[str, str], set[int]] = defaultdict(set)
+    numbered = enumerate(islice(rows, max(wanted)), 1)
+    there: dict[object, Row] = {number: row for number, row in numbered if number in wanted}
+    width = len(there[1].values) if there else 0
+    groups: dict[object, list[Finding]] = {}  # those of rows that are alike are one
     for number, each in enumerate(found):
-        row = rows.get(each.refused.at)
-        alike = alike_words(each, row, width)
-        if alike and row:
-            of_rows[alike].add(row.line)
-        if alike not in faults:
-            is_whole = row is None or each.refused.kind in ("NoCategory", "NoBidder")
-            at = ":" + row.place((each.field or 1) - 1) if row and not is_whole else source.head
-            said = words_of(each, row, source.bidders)
-            faults[alike or number] = Fault(source.file + at, said, each.refusal)
-    for (one, many), lines in of_rows.items():
-        rows_of = f"{counted(len(lines), 'row')} from line {min(lines)} to line {max(lines)}"
-        said = f"the row {one}" if len(lines) == 1 else f"{rows_of} {many}"
-        faults[one, many] = replace(faults[one, many], words=said)
-    return list(faults.values())
+        alike = alike_words(each, there.get(each.refused.at), width)
+        groups.setdefault(alike or number, []).append(each)
+    faults = []
+    for words, group in groups.items():
+        first, row, at = group[0], there.get(group[0].refused.at), head
+        if row and first.refused.kind not in ("NoCategory", "NoBidder"):
+            at = ":" + row.place((first.field or 1) - 1)
+        said = words_of(first, row, bidders)
+        if isinstance(words, tuple):
+            lines = {there[each.refused.at].line for each in group}
+            many = f"{counted(len(lines), 'row')} from line {min(lines)} to line {max(lines)}"
+            said = f"the row {words[0]}" if len(lines) == 1 else f"{many} {words[1]}"
+        faults.append(Fault(file + at, said, first.refusal))
+    return faults
 
 
 def first_of(faults: list[Fault], file: str, more: int = 0) -> list[Fault]:
@@ -149,5 +138,5 @@ def faults_of_input(explained: Explained, data: bytes, source: str) -> list[Faul
     faults: list[Fault] = []
     for key, found in explained.by_part().items():
         part = parts[key]
-        faults += faults_of(found, Source(source, part.rows(), bidders, f":{part.line}"))
+        faults += faults_of(found, source, part.rows(), bidders, f":{part.line}")
     return first_of(faults, source, explained.more)

@@ -5,6 +5,7 @@ They are joined into one input, in which the program finds the faults; here is w
 import argparse
 import os
 import re
+from collections import defaultdict
 from collections.abc import Iterable, Iterator, Sequence
 from contextlib import contextmanager
 from dataclasses import dataclass, field
@@ -13,7 +14,7 @@ from pathlib import PurePath
 from wdp.files import Unreadable, at, read
 from wdp.office.faults import Fault, counted, nearest, quoted
 from wdp.office.judge import Finding, explained
-from wdp.office.places import Source, faults_of, first_of, hint, of_parts
+from wdp.office.places import faults_of, first_of, hint, of_parts
 from wdp.office.sheets import AS_HEADS, MOST_OF_A_FILE, OF_FORMS, File, Pairs, lines_of
 from wdp.office.sheets import read_pairs, table_of
 from wdp.office.versions import Undecided, last_of
@@ -57,7 +58,7 @@ class Auction:
 
     program: str
     choices: argparse.Namespace  # as choices.add_words has them
-    rules_file: File | None = None
+    rules_file: File = field(init=False)
     rules: Rules = field(default_factory=lambda: Rules(1))
     # the forms that count, in the order of the input: by their bidders' numbers, then those of unknown bidders
     counting: list[File] = field(default_factory=list)
@@ -94,8 +95,7 @@ class Auction:
         if file.rows and not file.is_ended and not is_allowed:
             self.fault(f"{file.path}:{file.rows[-1].line}", UNENDED.format(what, name[:40]))
         elif file.rows and file.is_ended and is_allowed:
-            why = f"the last {what} has its line end; --allow-unended names {name}"
-            self.fault(file.path, why)
+            self.fault(file.path, f"the last {what} has its line end; --allow-unended names {name}")
 
     def read_rules(self, path: str) -> bool:
         """Reads the rules; whether nothing is wrong with them."""
@@ -106,7 +106,7 @@ class Auction:
             self.faults += file.faults
             if not file.faults:
                 found = explained(self.program, b"%rules\n" + file.text)
-                faults = faults_of(found.findings, Source(path, file.rows))
+                faults = faults_of(found.findings, path, file.rows, [])
                 self.faults += first_of(faults, path, found.more)
                 self.check_end(file, "rules")
             if not self.faults:
@@ -158,35 +158,33 @@ class Auction:
 
     def last_form(self, forms: list[File]) -> list[File]:
         """The file of a bidder that counts, by the order that was chosen; all, with faults, if that can't be known."""
-        way, name = self.choices.last_wins, forms[0].bidder
-        if len(forms) == 1 or name not in self.rules.bidders:
+        if len(forms) < 2 or forms[0].bidder not in self.rules.bidders:
             return forms
+        way, name = self.choices.last_wins, forms[0].bidder
         try:
             last, replaced = last_of([form.path for form in forms], way)
         except Undecided as why:
             tried = f"--last-wins {way} can't tell which is later: " if way else ""
             for form in forms[1:]:
-                words = f"another form of {name} is in {forms[0].path}; {tried}{why}"
-                self.fault(form.path, words)
+                self.fault(form.path, f"another form of {name} is in {forms[0].path}; {tried}{why}")
             return forms
         self.replaced += [(forms[place], forms[last], judged) for place, judged in replaced]
         return [forms[last]]
 
     def read_forms(self, folder: str) -> None:
         bidders = self.rules.bidders
-        by_bidder: dict[str, list[File]] = {}
+        by_bidder = defaultdict[str, list[File]](list)
         paths: list[str] = []
         with self.reading(bidders):
             paths = self.form_paths(folder)
         for path in paths:
             with self.reading(named_in(path, bidders)):
                 form = self.read_form(path)
-                by_bidder.setdefault(form.bidder, []).append(form)
+                by_bidder[form.bidder].append(form)
                 # (whose first row is wrong isn't also missing)
                 self.unread += named_in(path, bidders) if form.bidder not in bidders else ()
-        counting = [form for forms in by_bidder.values() for form in self.last_form(forms)]
-        order = {name: at for at, name in enumerate(bidders)}
-        self.counting = sorted(counting, key=lambda form: order.get(form.bidder, len(bidders)))
+        for name in dict.fromkeys([*bidders, *by_bidder]):
+            self.counting += self.last_form(by_bidder[name])
 
     def read_groups(self, words: Sequence[str]) -> None:
         """Takes the groups of a file, or makes them by a rule: `each`, or `winners FILE`."""
@@ -216,10 +214,9 @@ class Auction:
         # (a quote that isn't closed makes one field of all that follows)
         beyond = form.unclosed or MOST_OF_A_FORM + 1
         said = [each for each in found if (each.refused.record or 0) < beyond]
-        source = Source(form.path, form.rows, self.rules.bidders)
         # (a formula without a value isn't also an empty field)
         blank = {each.place for each in form.faults if each.words == NOT_STORED}
-        faults = faults_of(said, source)
+        faults = faults_of(said, form.path, form.rows, self.rules.bidders)
         faults = [it for it in faults if it.place not in blank or not it.words.startswith("''")]
         self.faults += form.faults + first_of(faults, form.path)
         if not form.faults:
@@ -239,17 +236,15 @@ class Auction:
         """Adds a fault for each name in the words that is no bidder's, and for each word that isn't needed."""
         choices, forms, bidders = self.choices, self.forms, self.rules.bidders
         unended = [name for name in choices.allow_unended if name not in ("rules", "groups")]
-        named = [("--allow-missing", name) for name in choices.allow_missing]
-        named += [("--allow-empty", name) for name in choices.allow_empty]
-        named += [("--allow-unended", name) for name in unended]
-        for word, name in named:
+        words = {"missing": choices.allow_missing, "empty": choices.allow_empty, "unended": unended}
+        for word, name in [(word, name) for word, names in words.items() for name in names]:
             if name not in bidders:
                 near = nearest(name, bidders)
-                self.fault(word, f"{quoted(name)} is no bidder of the rules{near}")
-            elif word == "--allow-missing" and name in forms:
+                self.fault(f"--allow-{word}", f"{quoted(name)} is no bidder of the rules{near}")
+            elif word == "missing" and name in forms:
                 self.fault(forms[name].path, f"this is a form of {name}; --allow-missing names it")
-            elif word != "--allow-missing" and name not in {*forms, *self.unread}:
-                self.fault(word, f"there is no form of {name}")
+            elif word != "missing" and name not in {*forms, *self.unread}:
+                self.fault(f"--allow-{word}", f"there is no form of {name}")
 
     def check_counts(self, path: str) -> None:
         """Adds a fault for each form that hasn't the bids that are expected, by a file with a row `bidder,bids` for each."""
@@ -283,7 +278,6 @@ class Auction:
         """Reads all files: that of the rules, those of a folder of forms, and one of groups, or groups by a rule."""
         if not self.read_rules(rules):
             return
-        assert self.rules_file
         with self.reading():
             if group_words:
                 self.read_groups(group_words)
@@ -305,8 +299,8 @@ class Auction:
         if self.choices.expect:
             self.check_counts(self.choices.expect)
         path = "".join(group_words[-1:])
-        source = Source(path, self.groups, self.rules.bidders)
-        self.faults += of_groups + first_of(faults_of(of_part["groups", None], source), path)
+        faults = faults_of(of_part["groups", None], path, self.groups, self.rules.bidders)
+        self.faults += of_groups + first_of(faults, path)
         if found.findings and found.findings[0].refused.part == "input":
             self.faults.append(of_parts(found.findings[0], self.text, "the joined input"))
         if found.more:

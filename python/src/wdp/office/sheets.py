@@ -17,7 +17,6 @@ from wdp.texts.tables import LINE_END, Records, Row, decoded, encoded, written
 MOST_OF_A_TEXT = 4 * 1024 * 1024
 # bytes of a file, which may have a text of the greatest size as UTF-16, after a mark
 MOST_OF_A_FILE = 2 * MOST_OF_A_TEXT + 2
-UTF_16 = {codecs.BOM_UTF16_LE: "utf-16-le", codecs.BOM_UTF16_BE: "utf-16-be"}
 DELIMITERS = {",": "commas", ";": "semicolons", "\t": "tabs"}
 # what some spreadsheets write, and read, as a first line
 SEPARATOR_LINE = re.compile('"?sep=([^"\r\n]*)"?(?:\r\n|\n|\r|$)')
@@ -90,10 +89,10 @@ class File:
 def text_of(file: File, kinds: str = CSV) -> str:
     """The text of a file's bytes, without a byte order mark; what was done to it is a change. A table has to be of these kinds."""
     data, changes = file.data, file.changes
-    text, encoding = decoded(data), UTF_16.get(data[:2])
-    if encoding:
+    text = decoded(data)
+    if data.startswith((codecs.BOM_UTF16_LE, codecs.BOM_UTF16_BE)):
         try:
-            text = data[2:].decode(encoding)
+            text = data.decode("utf-16")
         except UnicodeDecodeError:
             raise Unreadable(file.path, "it begins as UTF-16 and isn't") from None
         changes.append("UTF-16 turned into UTF-8")

@@ -4,7 +4,6 @@ import io
 import zipfile
 from collections.abc import Iterator
 from functools import partial
-from itertools import zip_longest
 from typing import Any
 
 from wdp.files import Unreadable
@@ -38,7 +37,7 @@ def cells_of(sheets: list[Any], file: File, taken: list[str]) -> Iterator[Row]:
     is_first = True
     pairs = zip(*(sheet.iter_rows(values_only=True) for sheet in sheets))
     for number, (row, made) in enumerate(pairs, 1):
-        both = enumerate(zip_longest(row, made), 1)
+        both = enumerate(zip(row, made), 1)
         width = max((at for at, pair in both if pair != (None, None)), default=0)
         if width > MOST_CELLS:
             why = f"in row {number} it has a cell beyond the first {MOST_CELLS:,}"
@@ -72,8 +71,7 @@ def read_sheet(file: File, most: int, name: str | None) -> File:
     import openpyxl
 
     data, taken = io.BytesIO(file.data), list[str]()
-    entries = zipfile.ZipFile(data).infolist()
-    if sum(entry.file_size for entry in entries) > MOST_UNPACKED:
+    if sum(entry.file_size for entry in zipfile.ZipFile(data).infolist()) > MOST_UNPACKED:
         why = f"it is a workbook of more than {MOST_UNPACKED:,} bytes, unpacked"
         raise Unreadable(file.path, why)
     load = partial(openpyxl.load_workbook, read_only=True)
