@@ -15,7 +15,6 @@ import argparse
 import re
 from collections.abc import Callable
 from dataclasses import dataclass
-from typing import NamedTuple
 
 from wdp.files import put, read, tell, write_folder
 from wdp.office import choices
@@ -23,7 +22,7 @@ from wdp.office.faults import quoted
 from wdp.office.judge import explained
 from wdp.office.sheets import Pairs, read_pairs
 from wdp.program import Limits, answer, found_program
-from wdp.publish.results import Results, figures_of
+from wdp.publish.results import AUDIT, Results, figures_of
 from wdp.results import Report, Tie
 from wdp.texts import accepted
 from wdp.texts.accepted import Accepted, Rules
@@ -36,7 +35,8 @@ from wdp.texts.tables import digest_of
 MOST_OF_AN_AUDIT = 2**31
 LONGEST, LONGEST_NAME = {"title": 200, "currency": 20}, 100
 TITLE = "Results of the auction"
-PAGE, AUDIT = "results.html", "audit.txt"
+# of an award the audit that has it first, and what the program prints of that, as it is and as a report
+Award = tuple[bytes | None, bytes, Report]
 
 
 @dataclass(frozen=True)
@@ -57,14 +57,6 @@ class Given:
     is_kept: bool = False
 
 
-class Award(NamedTuple):
-    """An award, with the audit that has it first, and what the program prints of that."""
-
-    audit: bytes | None
-    printed: bytes
-    report: Report
-
-
 def is_line(text: object, longest: int) -> bool:
     """Whether this is a text for the page: of at least one and at most that many characters, all printable."""
     return isinstance(text, str) and 0 < len(text) <= longest and text.isprintable()
@@ -83,8 +75,7 @@ def add_words(parser: argparse.ArgumentParser) -> None:
     add("report", metavar="REPORT")
     folder = "the folder for the files; it may have older ones of these files, and no others"
     add("--output", metavar="DIR", type=choices.path, help=folder)
-    text = "print the tables, with aligned columns"
-    add("--text", action="store_true", help=text)
+    add("--text", action="store_true", help="print the tables, with aligned columns")
     add("--title", type=line("title"), default=TITLE, help="the page's heading")
     unit = "the unit of all amounts, such as GBP"
     add("--currency", type=line("currency"), metavar="UNIT", help=unit)
@@ -161,7 +152,7 @@ def of_report(given: Given, auction: Accepted) -> Award:
             raise Refused(f"{source}: line {number}: {printed}")
     if fault := disproved(report):
         raise Refused(f"{source}: {fault}; nothing is published")
-    return Award(None, text, report)
+    return None, text, report
 
 
 def with_tie_first(audit: bytes) -> bytes:
@@ -178,18 +169,19 @@ def awards_in(given: Given, audit: bytes, count: int) -> list[Award]:
     that of the one that wasn't drawn."""
     source = given.sources[2]
     try:
-        awards = [Award(audit, *judged(given.program, "verify", audit))]
-        if isinstance(awards[0].report.uniqueness, Tie):
+        printed, report = judged(given.program, "verify", audit)
+        awards: list[Award] = [(audit, printed, report)]
+        if isinstance(report.uniqueness, Tie):
             tied = with_tie_first(audit)
-            awards.append(Award(tied, *judged(given.program, "verify", tied)))
+            awards.append((tied, *judged(given.program, "verify", tied)))
     except Refused as error:
         raise Refused(f"{source}: wdp verify refuses it: {error.text}") from None
     if given.is_drawn and len(awards) == 1:
         raise WrongWords(f"--drawn: {source} shows no tie, so that nothing was drawn")
-    reports = [report_in(award.printed, count) for award in awards]
-    if given.is_drawn and reports[0] == given.report:
-        awards, reports = awards[::-1], reports[::-1]
-    if reports[-1 if given.is_drawn else 0] != given.report:
+    if given.is_drawn and report_in(printed, count) == given.report:
+        awards.reverse()
+    _, undrawn, _ = awards[-1] if given.is_drawn else awards[0]
+    if report_in(undrawn, count) != given.report:
         raise Refused(f"{source}: what wdp verify prints of it isn't the report")
     return awards
 
@@ -227,8 +219,8 @@ def results_from(given: Given) -> Results:
     else:
         grown = with_added(given, given.audit)
         awards = awards_in(given, given.audit, count)
-    audit, printed, report = awards[0]
-    other = awards[1].report if awards[1:] else None
+    (audit, printed, report), *others = awards
+    other = others[0][-1] if others else None
     figures = {
         "certified": report.is_certified,
         "title": given.title,
@@ -254,10 +246,9 @@ def results_from(given: Given) -> Results:
 
 def publish(results: Results, folder: str) -> int:
     """Writes the files into a folder, in the place of an older one of these files alone; how many they are."""
-    files = {**results.files(), PAGE: results.page()}
-    more = {} if results.audit is None else {AUDIT: results.audit}
-    write_folder(folder, {**files, **more}, [*files, AUDIT])
-    return len(files) + len(more)
+    files = results.files()
+    write_folder(folder, files, [*files, AUDIT])
+    return len(files)
 
 
 def run(given: argparse.Namespace) -> int:

@@ -5,7 +5,7 @@ from collections.abc import Iterable, Iterator, Sequence
 from pathlib import Path
 from typing import Any, NamedTuple, cast
 
-from wdp.office.faults import Cell, aligned
+from wdp.office.faults import Cell, aligned, printed
 from wdp.results import Group, Report
 from wdp.texts.accepted import Accepted
 from wdp.texts.refusals import need
@@ -13,6 +13,7 @@ from wdp.texts.tables import field_text
 
 # what parts fields, and the first signs by which spreadsheets know a formula
 SPECIAL = re.compile(r'[,"\r\n]|^[=+\-@%\t]')
+TEMPLATE, AUDIT = Path(__file__).with_name("page.html.jinja"), "audit.txt"
 MOST_BOUND = 4  # groups that are named as binding a price
 # the figures of each table below their headings; those of CSV files are the same or, of groups, in another order
 BIDDERS = {"Bidder": "name", "Amount": "amount", "Price": "price", "Opportunity cost": "cost"}
@@ -28,10 +29,10 @@ GROUPS |= {"Paid": "paid", "Winners": "winners"}
 GROUPS_CSV = {it: GROUPS[it] for it in ("Group", "Left out", "Winners", "Total")}
 GROUPS_CSV |= {"Opportunity cost": "cost", "Paid": "paid", "Added": "is_added"}
 LEFT_OUT = {"Bidder": "bidder", "Bid": "why"}
-SUMS = "Supply", "Sold", "Unsold", "Value left"  # of categories
-# headings of columns of amounts, and words in the place of a figure that there isn't
-AMOUNTS = {"Amount", "Price", "Opportunity cost", "Cost alone", "Reserve", "Total", "Paid"}
-AMOUNTS |= {"Reserve of a lot", "Value of an unsold lot", "Value left"}
+# headings of columns that are added up, figures that are amounts, and words in the place of a figure that there isn't
+SUMMED = {"Amount", "Price", "Reserve", "Lots", "Cost alone", "Supply", "Sold", "Unsold"}
+SUMMED |= {"Value left"}
+AMOUNTS = {"amount", "price", "cost", "reserve", "total", "paid", "value", "value_left"}
 BLANKS = NOT_ASKED_FOR, NONE_WON, NO_BIDS = "not asked for", "none won", "no bids"
 
 Figures = dict[str, Any]  # of the whole, or of a bidder, a group and so on
@@ -108,8 +109,7 @@ class Table(NamedTuple):
     sums: Sequence[Cell] = ()
 
     def text(self) -> str:
-        lines = aligned([self.headings, *self.rows, *([self.sums] if self.sums else [])])
-        return "".join(line + "\n" for line in lines)
+        return printed(aligned([self.headings, *self.rows, *([self.sums] if self.sums else [])]))
 
 
 def names_in(value: list[Any]) -> list[str]:
@@ -123,11 +123,9 @@ def cell_text(value: Any) -> str:
         value = "yes" if value else "no"
     if isinstance(value, list):
         value = "+".join(names_in(value)) or "-"
-    return (
-        field_text(value, SPECIAL)
-        if isinstance(value, str)
-        else str("" if value is None else value)
-    )
+    if value is None:
+        return ""
+    return field_text(value, SPECIAL) if isinstance(value, str) else str(value)
 
 
 class Results(Figures):
@@ -200,16 +198,19 @@ class Results(Figures):
             return NONE_WON if of["bids"] else NO_BIDS
         return NOT_ASKED_FOR if key == "cost" and value is None else cast(Cell, value)
 
-    def table(
-        self, name: str, of: dict[str, str], rows: Sequence[Figures], sums: Figures | None = None
-    ) -> Table:
+    def sum_of(self, key: str, rows: Sequence[Figures]) -> Cell:
+        values = [row[key] for row in rows if row[key]]
+        return self.lots_text(map(sum, zip(*values))) if key == "lots" else sum(values)
+
+    def table(self, name: str, of: dict[str, str], rows: Sequence[Figures]) -> Table:
         """A table of figures below their headings, without the columns of which nothing is known."""
         columns = {it: [self.cell(key, row) for row in rows] for it, key in of.items()}
         known = {it: cells for it, cells in columns.items() if set(cells) - {None}}
         unit = f", {self['currency']}" if self["currency"] else ""
-        headings = [it + (unit if it in AMOUNTS else "") for it in known]
-        totals = [sums.get(it, "") for it in known] if sums else []
-        return Table(name, headings, list(zip(*known.values())), totals)
+        headings = [it + (unit if of[it] in AMOUNTS else "") for it in known]
+        sums = [self.sum_of(of[it], rows) if it in SUMMED else "" for it in known]
+        sums = ["All", *sums[1:]] if SUMMED.intersection(known) else []
+        return Table(name, headings, list(zip(*known.values())), sums)
 
     def bound_by(self, name: str) -> str:
         """What binds a winner's price: the groups that pay exactly their cost, and the reserve."""
@@ -222,9 +223,7 @@ class Results(Figures):
     def prices_table(self) -> Table:
         """What each winner pays, if there are prices."""
         winners = [{**each, "bound": self.bound_by(each["name"])} for each in self.winners()]
-        sums: Figures = {"Winner": "All", "Cost alone": sum(each["cost"] or 0 for each in winners)}
-        sums |= {"Price": self["prices"]["total"], "Amount": self["amounts"]}
-        return self.table("prices", PRICES, winners, sums)
+        return self.table("prices", PRICES, winners)
 
     def ties_table(self) -> Table:
         """What differs between the award of the page and the other one: a row for each bidder who doesn't win the same in both,
@@ -248,15 +247,10 @@ class Results(Figures):
 
     def tables(self) -> list[Table]:
         """All tables that have a row, in the order of the page."""
-        categories, bidders, prices = self["categories"], self["bidders"], self["prices"]
-        sums = {"Bidder": "All", "Amount": self["amounts"], "Price": prices and prices["total"]}
-        sums["Reserve"] = sum(each["reserve"] for each in bidders)
-        sums["Lots"] = self.lots_text([each["sold"] for each in categories])
         of_bidders = {it: key for it, key in BIDDERS.items() if it != "Group"}
-        made = [self.ties_table(), self.table("bidders", of_bidders, bidders, sums)]
-        made += [self.prices_table()] if prices else []
-        sums = {it: sum(each[CATEGORIES[it]] for each in categories) for it in SUMS}
-        made.append(self.table("categories", CATEGORIES, categories, {"Category": "All", **sums}))
+        made = [self.ties_table(), self.table("bidders", of_bidders, self["bidders"])]
+        made += [self.prices_table()] if self["prices"] else []
+        made.append(self.table("categories", CATEGORIES, self["categories"]))
         made.append(Table("pools", [*POOLS], [[*pool.values()] for pool in self["pools"]]))
         made.append(self.table("groups", GROUPS, self["groups"]))
         made.append(self.table("left_out", LEFT_OUT, self["left_out"]))
@@ -264,45 +258,45 @@ class Results(Figures):
 
     def plain_text(self) -> str:
         """What is to be said in sentences, and the tables, aligned."""
-        said = "\n".join(filter(None, [self["title"], *self.sentences().values()])) + "\n"
-        return said + "".join("\n" + table.text() for table in self.tables())
+        said = printed(filter(None, [self["title"], *self.sentences().values()]))
+        return "\n".join([said, *(table.text() for table in self.tables())])
 
-    def csv(self, columns: dict[str, str], rows: list[Figures]) -> bytes:
-        """A CSV text. Its first field says so if the totals aren't certified. Names that an office gave are beside the codes."""
-        kind, *more = columns
+    def csv(self, of: dict[str, str], rows: list[Figures], more: Iterable[str] = ()) -> bytes:
+        """A CSV text with more columns at its end. Its first field says so if the totals aren't certified. Names that an office gave
+        are beside the codes."""
+        columns = {heading.lower(): key for heading, key in of.items() if key != "lots"}
+        columns |= {key: key for key in more}
+        kind, *headings = columns
         first = kind if self["certified"] else f"{kind} (results not certified)"
-        lines = [[first, *more], *([row[key] for key in columns.values()] for row in rows)]
+        lines = [[first, *headings], *([row[key] for key in columns.values()] for row in rows)]
         if self["names"] and kind in ("bidder", "category"):
             beside = ["name", *(self["names"].get(row["name"], "") for row in rows)]
             lines = [[line[0], name, *line[1:]] for line, name in zip(lines, beside)]
         return "".join(",".join(map(cell_text, line)) + "\n" for line in lines).encode()
 
     def files(self) -> dict[str, bytes]:
-        def small(columns: dict[str, str]) -> dict[str, str]:
-            return {heading.lower(): key for heading, key in columns.items() if key != "lots"}
-
         lots = [f"lots of {each['name']}" for each in self["categories"]]
         bidders = [{**each, **dict(zip(lots, each["lots"]))} for each in self["bidders"]]
         groups = [{**each, "certified": self["certified"]} for each in self["groups"]]
-        of_groups = {**small(GROUPS_CSV), "certified": "certified"}
-        return {
-            "bidders.csv": self.csv({**small(BIDDERS), **dict(zip(lots, lots))}, bidders),
-            "categories.csv": self.csv(small(CATEGORIES), self["categories"]),
-            "pools.csv": self.csv(small(POOLS), self["pools"]),
-            "groups.csv": self.csv(of_groups, groups),
+        files = {
+            "bidders.csv": self.csv(BIDDERS, bidders, lots),
+            "categories.csv": self.csv(CATEGORIES, self["categories"]),
+            "pools.csv": self.csv(POOLS, self["pools"]),
+            "groups.csv": self.csv(GROUPS_CSV, groups, ["certified"]),
             "results.json": (json.dumps(self, indent=1) + "\n").encode(),
+            "results.html": self.page(),
         }
+        return files if self.audit is None else {**files, AUDIT: self.audit}
 
     def page(self) -> bytes:
         need("the page", "jinja2")
-        from jinja2 import Environment, FileSystemLoader, StrictUndefined
+        from jinja2 import StrictUndefined, Template
 
         how: Any = dict(trim_blocks=True, lstrip_blocks=True, keep_trailing_newline=True)
-        how.update(loader=FileSystemLoader(Path(__file__).parent), undefined=StrictUndefined)
-        page = Environment(autoescape=True, **how).get_template("page.html.jinja")
+        text = TEMPLATE.read_text("utf-8")
+        page = Template(text, autoescape=True, undefined=StrictUndefined, **how)
         about = dict(said=self.sentences(), winners=self.winners(), tables=self.tables())
-        rendered: str = page.render(self, **about, called=self.called, blanks=BLANKS)
-        return rendered.encode()
+        return page.render(self, **about, called=self.called, blanks=BLANKS).encode()
 
 
 def figures_of(auction: Accepted, report: Report, other: Report | None, is_drawn: bool) -> Figures:
