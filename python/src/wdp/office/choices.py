@@ -45,10 +45,8 @@ def add_words(parser: argparse.ArgumentParser) -> None:
     allow = partial(add, metavar="NAMES", type=names, action="extend", default=[])
     allow("--allow-missing", help="these bidders have no form; separate names by commas")
     allow("--allow-empty", help="these bidders' forms have no bid; separate names by commas")
-    ends = "the forms of these bidders, `rules` or `groups` are complete without a last line end"
-    allow("--allow-unended", help=ends)
-    rows = "a file with a row `bidder,bids` for each form: how many bids it must have"
-    add("--expect", metavar="COUNTS", type=path, help=rows)
+    allow("--allow-unended", help="these forms, rules or groups are complete without a line end")
+    add("--expect", metavar="COUNTS", type=path, help="rows `bidder,bids`, one for each form")
     add("--sheet", metavar="NAME", type=path, help="the sheet of each workbook, else the first")
 
 

@@ -33,9 +33,7 @@ def add_words(parser: argparse.ArgumentParser) -> None:
     add("rules", metavar="RULES", help="the file of the rules")
     add("forms", metavar="FORMS_DIR", help="the folder with the bidders' forms")
     add("groups_file", metavar="GROUPS", nargs="?", help="the file of the groups")
-    each = "each (nobody, and each bidder alone)"
-    winners = "each winner of a report's first group, or of what `wdp map` prints, alone"
-    rule = f"in place of GROUPS: {each}, or winners FILE (nobody, and {winners})"
+    rule = "in place of GROUPS: each (bidder alone), or winners FILE (of a report, each alone)"
     add("--groups", nargs="+", metavar="RULE", default=[], help=rule)
     add("--output", metavar="FILE", type=choices.path, help="write the input to this file")
     add("--receipt", metavar="FILE", type=choices.path, help="write the receipt to this file too")

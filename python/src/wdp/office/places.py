@@ -13,21 +13,18 @@ from wdp.texts.parts import MOST_OF_INPUT, Part, names_in, parts_of
 from wdp.texts.tables import Row
 
 MONTH = "(?:jan|feb|mar|apr|may|jun|jul|aug|sep|oct|nov|dec)[a-z]*"
-DATE = re.compile(
-    rf"[0-9]{{1,4}}([-/.])[0-9]{{1,2}}\1[0-9]{{1,4}}(?:[ T].*)?|[0-9]{{1,2}}[- ]{MONTH}(?:[- ][0-9]+)?|{MONTH}[- ][0-9]+",
-    re.IGNORECASE,
-)
+IN_DIGITS = r"[0-9]{1,4}([-/.])[0-9]{1,2}\1[0-9]{1,4}(?:[ T].*)?"
+DATE = rf"{IN_DIGITS}|[0-9]{{1,2}}[- ]{MONTH}(?:[- ][0-9]+)?|{MONTH}[- ][0-9]+"
 # why a field is no number, as spreadsheets write it
 HINTS = (
     (re.compile(r""), "the field is empty"),
     (re.compile(r"[+-]?[0-9]+([.,][0-9]*)?[eE][+-]?[0-9]+"), "it is in scientific notation, as spreadsheets show wide numbers"),
-    (DATE, "it is a date, as spreadsheets make of what looks like one"),
+    (re.compile(DATE, re.IGNORECASE), "it is a date, as spreadsheets make of what looks like one"),
     (re.compile(r"#[A-Z/0]+[!?]?"), "it is a spreadsheet's word for an error"),
     *((re.compile(rf".*[{mark}].*", re.DOTALL), f"it has {name}") for mark, name in (
         (",", "a comma"), (" \u00a0\u202f\u2009", "a space"), (".", "a point"), ("'\u2019", "an apostrophe"),
         ("£$€", "a sign of a currency"), (r"\-\u2212", "a minus sign"), ("+", "a plus sign"))),
 )  # fmt: skip
-NUMBERS = ("NumberText", "AmountText", "QuantityText")
 SHOWN = 100  # faults of one file that are printed one by one
 # of the faults that the program finds without a cause
 CAUSES = {
@@ -38,11 +35,8 @@ CAUSES = {
     "CallLimit": "a bidder has at most 1,000 forms",
 }
 SEPARATORS = {";": "semicolons", "\t": "tabs", "|": "bars", ",": "commas"}
-# words for one row, and for many
-ZEROS = (
-    "holds nothing but zeros; delete it if it is no bid",
-    "hold nothing but zeros; delete those that are no bids",
-)
+OF_ZEROS = "holds nothing but zeros; delete it if it is no bid"
+MANY_OF_ZEROS = "hold nothing but zeros; delete those that are no bids"
 
 
 def hint(value: str) -> str:
@@ -59,7 +53,7 @@ def words_of(finding: Finding, row: Row | None, bidders: Sequence[str]) -> str:
     if not row or not finding.field or finding.field > len(row.values):
         return words
     value = row.values[finding.field - 1]
-    if kind in NUMBERS:
+    if kind in ("NumberText", "AmountText", "QuantityText"):
         return words + hint(value)
     return words + (nearest(value, bidders) if kind == "UnknownBidder" else "")
 
@@ -70,7 +64,8 @@ def alike_words(finding: Finding, row: Row | None, width: int) -> tuple[str, str
     if row is None or refused.part != "form" or refused.at == 1 or refused.kind == "TooManyBids":
         return None
     if refused.kind != "FieldCount":
-        return None if any(value.strip("0") for value in row.values) else ZEROS
+        is_bid = any(value.strip("0") for value in row.values)
+        return None if is_bid else (OF_ZEROS, MANY_OF_ZEROS)
     for mark, name in SEPARATORS.items():
         if sum(value.count(mark) for value in row.values) >= width - 1:
             end = "fields, and the first row hasn't"

@@ -15,13 +15,13 @@ from wdp.files import Unreadable, at, read
 from wdp.office.faults import Fault, counted, nearest, quoted
 from wdp.office.judge import Finding, explained
 from wdp.office.places import faults_of, first_of, hint, of_parts
-from wdp.office.sheets import AS_HEADS, MOST_OF_A_FILE, OF_FORMS, File, Pairs, lines_of
-from wdp.office.sheets import read_pairs, table_of
-from wdp.office.versions import Undecided, last_of
+from wdp.office.sheets import AS_HEADS, MOST_OF_A_FILE, File, lines_of, read_pairs, table_of
+from wdp.office.versions import last_of
 from wdp.office.workbook import NOT_STORED, workbook_of
 from wdp.texts.accepted import Rules, rules_of
 from wdp.texts.answers import WON
 from wdp.texts.parts import MOST_OF_INPUT, group_rows
+from wdp.texts.refusals import Refused
 from wdp.texts.tables import Row, decoded, encoded
 
 WORKBOOK = ".xlsx"
@@ -33,8 +33,6 @@ NO_FORM = f"its name doesn't end in {', '.join(FORMS)}; remove it if it is no fo
 # records of rules and of a form, and lines of groups, with one that is too many: what follows is a fault whatever it says
 MOST_OF_RULES, MOST_OF_A_FORM = 1 + 32 + 256 + 16 + 16 * 32 + 1, 1 + 4_000 + 1
 MOST_OF_GROUPS = 1_024 + 1
-# fields of a record of the rules, by their version
-WIDTHS = {"1": 5, "2": 6, "3": 6}
 # the first group of a report, or an allocation as `wdp map` prints it
 FIRST_GROUP = re.compile(rf"(?:group 1 .*\n)?{WON}")
 NO_WINNERS = "it doesn't begin with winners and a total, as reports do; perhaps it was cut off"
@@ -102,7 +100,7 @@ class Auction:
         with self.reading():
             file = self.rules_file = table_of(path, read(path, MOST_OF_A_FILE), MOST_OF_RULES)
             first = file.rows[0].values if file.rows else []
-            file.trim(WIDTHS.get("".join(first[1:2]), len(first)))
+            file.trim(5 if first[1:2] == ["1"] else 6)  # fields, by the version of the rules
             self.faults += file.faults
             if not file.faults:
                 found = explained(self.program, b"%rules\n" + file.text)
@@ -140,7 +138,7 @@ class Auction:
         if path.lower().endswith(WORKBOOK):
             form = workbook_of(path, data, MOST_OF_A_FORM, self.choices.sheet)
         else:
-            form = table_of(path, data, MOST_OF_A_FORM, OF_FORMS)
+            form = table_of(path, data, MOST_OF_A_FORM, ".xlsx or CSV")
         own, bidders = form.trim(len(self.rules.categories) + 1).bidder, self.rules.bidders
         named = named_in(form.path, bidders)
         others = " and ".join(name for name in bidders if name in named - {own})
@@ -163,7 +161,7 @@ class Auction:
         way, name = self.choices.last_wins, forms[0].bidder
         try:
             last, replaced = last_of([form.path for form in forms], way)
-        except Undecided as why:
+        except Refused as why:
             tried = f"--last-wins {way} can't tell which is later: " if way else ""
             for form in forms[1:]:
                 self.fault(form.path, f"another form of {name} is in {forms[0].path}; {tried}{why}")
@@ -190,9 +188,9 @@ class Auction:
         """Takes the groups of a file, or makes them by a rule: `each`, or `winners FILE`."""
         path, names = words[-1], self.rules.bidders
         if words[0] == "winners":
-            file = self.groups_file = File(path, read(path, MOST_OF_INPUT))
-            file.changes = ["each winner alone"]
-            found = FIRST_GROUP.match(decoded(file.data))
+            data = read(path, MOST_OF_INPUT)
+            self.groups_file = File(path, data, changes=["each winner alone"])
+            found = FIRST_GROUP.match(decoded(data))
             if not found:
                 raise Unreadable(path, NO_WINNERS)
             names = [line.split()[0] for line in found[1].splitlines()]
@@ -248,24 +246,23 @@ class Auction:
 
     def check_counts(self, path: str) -> None:
         """Adds a fault for each form that hasn't the bids that are expected, by a file with a row `bidder,bids` for each."""
-
-        def fault_of(name: str, count: str, before: Pairs) -> str:
-            is_count = COUNT.fullmatch(count)
-            return "" if is_count else f"{quoted(count)} isn't a number of bids{hint(count)}"
-
-        known, wanted = (self.rules.bidders, "bidder"), "a bidder and a number of bids"
+        wanted, known = "a bidder and a number of bids", (self.rules.bidders, "bidder")
         with self.reading():
-            expected, faults = read_pairs(path, ("bidder", "bids"), wanted, known, fault_of, 1)
+            expected, faults = read_pairs(path, "bidder,bids", wanted, *known)
+            for row in expected.values():
+                if not COUNT.fullmatch(count := row.values[1]):
+                    why = f"{quoted(count)} isn't a number of bids{hint(count)}"
+                    faults.append(Fault(f"{path}:{row.place(1)}", why))
             self.faults += faults
             if not faults:
                 self.compare(path, expected)
 
-    def compare(self, path: str, expected: Pairs) -> None:
+    def compare(self, path: str, expected: dict[str, Row]) -> None:
         for name in self.rules.bidders:
-            form = self.forms.get(name)
-            count, place = expected.get(name, ("0", path))
+            form, row = self.forms.get(name), expected.get(name)
+            count, place = (row.values[1], f"{path}:{row.place(1)}") if row else ("0", path)
             wanted = f"{counted(int(count), 'bid')} of {name} expected"
-            if form and name not in expected:
+            if form and not row:
                 self.fault(path, f"there is no row for {name}, which has a form")
             elif not form and int(count) and name not in self.unread:
                 self.fault(place, f"{wanted}; there is no form")

@@ -6,7 +6,7 @@ from __future__ import annotations
 
 import codecs
 import re
-from collections.abc import Callable, Collection, Iterable
+from collections.abc import Collection, Iterable
 from dataclasses import dataclass, field
 
 from wdp.files import Unreadable, read
@@ -29,9 +29,7 @@ OTHERS = (
     (re.compile(rb"\s*<(?:!doctype|html|table|\?xml|head|meta)", re.I), "it is a page of HTML or XML; save the table as {}"),
     (re.compile(rb"[^\0]{,4095}\0"), "it holds bytes 0, as no CSV file does; save the table as {} in UTF-8"),
 )  # fmt: skip
-CSV, OF_FORMS = "CSV", ".xlsx or CSV"
 NO_TEXT = re.compile("[\udc80-\udcff]")  # bytes that are no UTF-8, as they are decoded
-Pairs = dict[str, tuple[str, str]]  # values by their names, each with its place
 AS_HEADS = "begins with %, as the heads of parts do"
 
 
@@ -86,7 +84,7 @@ class File:
         return self
 
 
-def text_of(file: File, kinds: str = CSV) -> str:
+def text_of(file: File, kinds: str = "CSV") -> str:
     """The text of a file's bytes, without a byte order mark; what was done to it is a change. A table has to be of these kinds."""
     data, changes = file.data, file.changes
     text = decoded(data)
@@ -99,10 +97,8 @@ def text_of(file: File, kinds: str = CSV) -> str:
     elif data.startswith(codecs.BOM_UTF8):
         text = text[1:]
         changes.append("byte order mark dropped")
-    else:
-        for kind, why in OTHERS:
-            if kind.match(data):
-                raise Unreadable(file.path, why.format(kinds))
+    elif why := next((why for kind, why in OTHERS if kind.match(data)), None):
+        raise Unreadable(file.path, why.format(kinds))
     if found := NO_TEXT.search(text):
         *before, last = LINE_END.split(text[: found.start()])
         place = f"{file.path}:{len(before) + 1}:{len(last) + 1}"
@@ -134,7 +130,7 @@ def delimiter_of(text: str, file: File) -> tuple[str, int]:
     return delimiter, begin
 
 
-def table_of(path: str, data: bytes, most: int, kinds: str = CSV) -> File:
+def table_of(path: str, data: bytes, most: int, kinds: str = "CSV") -> File:
     """The records of a file's bytes, at most so many."""
     file = File(path, data)
     text = text_of(file, kinds)
@@ -161,35 +157,24 @@ def lines_of(path: str, data: bytes) -> File:
 
 
 def read_pairs(
-    path: str,
-    heading: tuple[str, str],
-    wanted: str,
-    known: tuple[Collection[str], str],
-    fault_of: Callable[[str, str, Pairs], str],
-    value_at: int = 0,
-    regular: bool = False,
-) -> tuple[Pairs, list[Fault]]:
-    """The values in a file of pairs by their names, each with its place, and what is wrong with the file. The first row may be the
-    heading. A name is one of the known ones, which a message calls so; `fault_of` says what is wrong with its value, which is
-    a fault of the row's field `value_at`.
-    """
-    names, who = known
+    path: str, heading: str, wanted: str, names: Collection[str], who: str, regular: bool = False
+) -> tuple[dict[str, Row], list[Fault]]:
+    """The rows of a file of pairs by their first values, and what is wrong with it. The first row may be the heading. A first value
+    is one of the names; a message says of whom they are."""
     file = table_of(path, read(path, MOST_OF_A_FILE, regular), len(names) + 2).trim(2)
-    pairs: Pairs = {}
-    if file.rows and tuple(value.lower() for value in file.rows[0].values) == heading:
+    pairs: dict[str, Row] = {}
+    if file.rows and [value.lower() for value in file.rows[0].values] == heading.split(","):
         del file.rows[0]
     for row in file.rows:
-        name, value, why = row.values[0], row.values[-1], ""
-        if len(row.values) != 2:
-            why = f"the row has {counted(len(row.values), 'field')}; it is to have {wanted}"
+        name, count, why = row.values[0], len(row.values), ""
+        if count != 2:
+            why = f"the row has {counted(count, 'field')}; it is to have {wanted}"
         elif name not in names:
             why = f"{quoted(name)} is no {who} of the rules{nearest(name, names)}"
         elif name in pairs:
             why = f"an earlier row is of {quoted(name)}"
         if why:
             file.fault(row.place(), why)
-        elif why := fault_of(name, value, pairs):
-            file.fault(row.place(value_at), why)
         else:
-            pairs[name] = value, f"{path}:{row.place(1)}"
+            pairs[name] = row
     return pairs, file.faults

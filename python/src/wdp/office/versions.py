@@ -11,13 +11,11 @@ from itertools import takewhile
 from pathlib import PurePath
 from typing import Any
 
+from wdp.texts.refusals import Refused
+
 PART = re.compile(r"[0-9]+|[^\W\d_]+")
 # such a date isn't in order by its numbers
 YEAR_LAST = re.compile(r"(?<![0-9])[0-9]{1,2}[^0-9][0-9]{1,2}[^0-9](?:19|20)[0-9]{2}(?![0-9])")
-
-
-class Undecided(Exception):
-    """Why nobody can say which file is the last."""
 
 
 def by_name(paths: Sequence[str]) -> list[list[int]]:
@@ -27,9 +25,9 @@ def by_name(paths: Sequence[str]) -> list[list[int]]:
     ends = [list(takewhile(str.isdecimal, reversed(each))) for each in parts]
     names = [each[: len(each) - len(end)] for each, end in zip(parts, ends)]
     if any(name != names[0] for name in names):
-        raise Undecided("their names differ in more than the numbers at their ends")
+        raise Refused("their names differ in more than the numbers at their ends")
     if any(map(YEAR_LAST.search, stems)):
-        raise Undecided("a date with the year last isn't in order by its numbers")
+        raise Refused("a date with the year last isn't in order by its numbers")
     return [[int(number) for number in reversed(end)] for end in ends]
 
 
@@ -46,9 +44,9 @@ def words_of(key: list[int] | int) -> str:
 
 
 def last_of(paths: Sequence[str], way: str | None) -> tuple[int, list[tuple[int, str]]]:
-    """The place of the file that counts, and of each other one its place and by what that was judged."""
+    """The place of the file that counts, and of each other one its place and by what that was judged; Refused if nobody can say."""
     if way is None:
-        raise Undecided("say --last-wins name or --last-wins time")
+        raise Refused("say --last-wins name or --last-wins time")
     if way == "name":
         keys: list[Any] = by_name(paths)
         same, judged = "their names end alike", "the numbers at the ends of their names, {} and {}"
@@ -57,6 +55,6 @@ def last_of(paths: Sequence[str], way: str | None) -> tuple[int, list[tuple[int,
         same, judged = "they were changed at the same time", "their times of change, {} and {} UTC"
     *order, last = (place for _, place in sorted(zip(keys, range(len(paths)))))
     if keys[order[-1]] == keys[last]:
-        raise Undecided(same)
+        raise Refused(same)
     now = words_of(keys[last])
     return last, [(place, judged.format(words_of(keys[place]), now)) for place in order]

@@ -42,11 +42,10 @@ def cells_of(sheets: list[Any], file: File, taken: list[str]) -> Iterator[Row]:
         if width > MOST_CELLS:
             why = f"in row {number} it has a cell beyond the first {MOST_CELLS:,}"
             raise Unreadable(file.path, why)
-        cells = [f"{get_column_letter(at + 1)}{number}" for at in range(width)]
-        places = [f"{sheets[0].title}!{cell}" for cell in cells]
-        for value, formula, cell, place in zip(row, made, cells, places):
+        places = [f"{sheets[0].title}!{get_column_letter(at + 1)}{number}" for at in range(width)]
+        for value, formula, place in zip(row, made, places):
             if isinstance(formula, str) and formula.startswith("="):
-                taken.append(cell)
+                taken.append(place.rpartition("!")[2])
                 if value is None:
                     file.fault(place, NOT_STORED)
             if not is_first and isinstance(value, str) and value.strip().isdecimal():

@@ -20,7 +20,7 @@ from wdp.files import put, read, tell, write_folder
 from wdp.office import choices
 from wdp.office.faults import quoted
 from wdp.office.judge import explained
-from wdp.office.sheets import Pairs, read_pairs
+from wdp.office.sheets import read_pairs
 from wdp.program import Limits, answer, found_program
 from wdp.publish.results import AUDIT, Results, figures_of
 from wdp.results import Report, Tie
@@ -73,40 +73,36 @@ def add_words(parser: argparse.ArgumentParser) -> None:
     add = parser.add_argument
     add("input", metavar="INPUT")
     add("report", metavar="REPORT")
-    folder = "the folder for the files; it may have older ones of these files, and no others"
-    add("--output", metavar="DIR", type=choices.path, help=folder)
+    add("--output", metavar="DIR", type=choices.path, help="a folder for these files and no others")
     add("--text", action="store_true", help="print the tables, with aligned columns")
     add("--title", type=line("title"), default=TITLE, help="the page's heading")
-    unit = "the unit of all amounts, such as GBP"
-    add("--currency", type=line("currency"), metavar="UNIT", help=unit)
+    add("--currency", type=line("currency"), metavar="UNIT", help="of all amounts, such as GBP")
     names = "a file with a row `code,name` for each bidder or category that has another name"
     add("--names", metavar="FILE", type=choices.path, help=names)
-    audit = "the input with solutions and certificates, as `wdp verify` reads it"
-    add("--audit", metavar="FILE", help=audit)
-    drawn = "publish the tied award of the audit, because the lot fell on it"
-    add("--drawn", action="store_true", help=drawn)
+    add("--audit", metavar="FILE", help="what `wdp verify` reads, with INPUT at its end")
+    add("--drawn", action="store_true", help="publish the tied award, since the lot fell on it")
 
 
 def read_names(path: str, rules: Rules, regular: bool) -> dict[str, str]:
     """What an office calls bidders and categories, by their codes; Refused at the first row that isn't `code,name`."""
     codes = {*rules.bidders, *(category.name for category in rules.categories)}
-
-    def fault_of(code: str, value: str, before: Pairs) -> str:
-        name = value.strip()
-        if not is_line(name, LONGEST_NAME):
-            return f"{quoted(name)} isn't 1 to {LONGEST_NAME} printable characters"
-        if name in codes - {code}:
-            return f"{quoted(name)} is the code of another"
-        is_there = name in (each.strip() for each, _ in before.values())
-        return f"an earlier row has the name {quoted(name)}, too" if is_there else ""
-
-    known = codes, "bidder and no category"
-    names, faults = read_pairs(
-        path, ("code", "name"), "a code and a name", known, fault_of, regular=regular
-    )
+    about = "a code and a name", codes, "bidder and no category"
+    pairs, faults = read_pairs(path, "code,name", *about, regular)
     if faults:
         raise Refused(str(faults[0]))
-    return {code: name.strip() for code, (name, _) in names.items()}
+    names: dict[str, str] = {}
+    for code, row in pairs.items():
+        name, why = row.values[1].strip(), ""
+        if not is_line(name, LONGEST_NAME):
+            why = f"{quoted(name)} isn't 1 to {LONGEST_NAME} printable characters"
+        elif name in codes - {code}:
+            why = f"{quoted(name)} is the code of another"
+        elif name in names.values():
+            why = f"an earlier row has the name {quoted(name)}, too"
+        if why:
+            raise Refused(f"{path}:{row.place()}: {why}")
+        names[code] = name
+    return names
 
 
 def solutions_of(report: Report, auction: Accepted) -> bytes:
