@@ -9,7 +9,7 @@ import openpyxl
 import pytest
 from commands import BIDDERS, BY_HAND, small_files, stopped, without
 
-from wdp.office.versions import words_of
+from wdp.office.reading import words_of
 
 DIGITS = "; write digits alone"
 

@@ -60,7 +60,7 @@ def of_input(given: argparse.Namespace, program: str) -> tuple[list[Fault], bool
 def of_files(given: argparse.Namespace, program: str) -> tuple[list[Fault], bool, list[str]]:
     rules, folder, *groups = given.paths
     auction = Auction(program, given)
-    auction.read_all(rules, folder, groups, given.bids)
+    auction.read_all(rules, folder, groups)
     counts = {name: form.bids or 0 for name, form in auction.forms.items()}
     return auction.faults, bool(auction.rules.bidders), left_out(counts, auction.left_out)
 

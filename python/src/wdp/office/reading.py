@@ -5,27 +5,28 @@ They are joined into one input, in which the program finds the faults; here is w
 import argparse
 import os
 import re
+import time
 from collections import defaultdict
 from collections.abc import Iterable, Iterator, Sequence
 from contextlib import contextmanager
 from dataclasses import dataclass, field
+from itertools import takewhile
 from pathlib import PurePath
+from typing import Any
 
 from wdp.files import Unreadable, at, read
 from wdp.office.faults import Fault, counted, nearest, quoted
 from wdp.office.judge import Finding, explained
 from wdp.office.places import faults_of, first_of, hint, of_parts
-from wdp.office.sheets import AS_HEADS, MOST_OF_A_FILE, File, lines_of, read_pairs, table_of
-from wdp.office.versions import last_of
-from wdp.office.workbook import NOT_STORED, workbook_of
+from wdp.office.sheets import AS_HEADS, MOST_OF_A_FILE, NOT_STORED, File, lines_of, read_pairs
+from wdp.office.sheets import table_of, workbook_of
 from wdp.texts.accepted import Rules, rules_of
 from wdp.texts.answers import WON
 from wdp.texts.parts import MOST_OF_INPUT, group_rows
 from wdp.texts.refusals import Refused
 from wdp.texts.tables import Row, decoded, encoded
 
-WORKBOOK = ".xlsx"
-FORMS = (".csv", ".tsv", ".txt", WORKBOOK)
+FORMS = (".csv", ".tsv", ".txt", ".xlsx")
 OTHER_WORKBOOKS = (".xlsm", ".xlsb", ".xls", ".ods", ".numbers")
 LOCK, LOCKED = "~$", " (a spreadsheet's lock: the workbook is open, or was)"
 OTHER_WORKBOOK = "it is a workbook {}, which isn't read; save it as .xlsx or CSV"
@@ -37,6 +38,9 @@ MOST_OF_GROUPS = 1_024 + 1
 FIRST_GROUP = re.compile(rf"(?:group 1 .*\n)?{WON}")
 NO_WINNERS = "it doesn't begin with winners and a total, as reports do; perhaps it was cut off"
 COUNT = re.compile("[0-9]{1,18}")
+PART = re.compile(r"[0-9]+|[^\W\d_]+")
+# such a date isn't in order by its numbers
+YEAR_LAST = re.compile(r"(?<![0-9])[0-9]{1,2}[^0-9][0-9]{1,2}[^0-9](?:19|20)[0-9]{2}(?![0-9])")
 NOBODY_FIRST = "the first line has to be -, the group of nobody: costs are measured against it"
 UNENDED = "the last {} has no line end, as in a file that was cut off; say --allow-unended {} if it is complete"
 
@@ -48,6 +52,49 @@ def named_in(path: str, bidders: list[str]) -> set[str]:
         alike = {name for name in bidders if name.lower() == word.lower()}
         named |= {word} if word in alike else alike
     return named
+
+
+def by_name(paths: Sequence[str]) -> list[list[int]]:
+    """The numbers at the end of each file's name, which put files in order: `Heron.csv`, `Heron (9).csv`, `Heron-10.csv`. Names that
+    differ in anything else don't say which is later."""
+    stems = [PurePath(path).stem for path in paths]
+    parts = [PART.findall(stem.lower()) for stem in stems]
+    ends = [list(takewhile(str.isdecimal, reversed(each))) for each in parts]
+    names = [each[: len(each) - len(end)] for each, end in zip(parts, ends)]
+    if any(name != names[0] for name in names):
+        raise Refused("their names differ in more than the numbers at their ends")
+    if any(map(YEAR_LAST.search, stems)):
+        raise Refused("a date with the year last isn't in order by its numbers")
+    return [[int(number) for number in reversed(end)] for end in ends]
+
+
+def words_of(key: list[int] | int) -> str:
+    """The numbers of a name in words, or a time of change, in nanoseconds."""
+    if isinstance(key, list):
+        return "-".join(map(str, key)) or "none"
+    seconds, rest = divmod(key, 10**9)
+    try:
+        at = time.strftime("%Y-%m-%d %H:%M:%S", time.gmtime(seconds))
+    except (OverflowError, OSError, ValueError):
+        at = f"{seconds} s after 1970-01-01"
+    return f"{at}.{rest:09}"
+
+
+def last_of(paths: Sequence[str], way: str | None) -> tuple[int, list[tuple[int, str]]]:
+    """The place of the file that counts, and of each other one its place and by what that was judged; Refused if nobody can say."""
+    if way is None:
+        raise Refused("say --last-wins name or --last-wins time")
+    if way == "name":
+        keys: list[Any] = by_name(paths)
+        same, judged = "their names end alike", "the numbers at the ends of their names, {} and {}"
+    else:
+        keys = [os.stat(path).st_mtime_ns for path in paths]
+        same, judged = "they were changed at the same time", "their times of change, {} and {} UTC"
+    *order, last = (place for _, place in sorted(zip(keys, range(len(paths)))))
+    if keys[order[-1]] == keys[last]:
+        raise Refused(same)
+    now = words_of(keys[last])
+    return last, [(place, judged.format(words_of(keys[place]), now)) for place in order]
 
 
 @dataclass
@@ -135,7 +182,7 @@ class Auction:
     def read_form(self, path: str) -> File:
         """The form of a file, whose name has to name the bidder of its first row, and no other; Unreadable if there is none."""
         data = read(path, MOST_OF_A_FILE, regular=True)
-        if path.lower().endswith(WORKBOOK):
+        if path.lower().endswith(".xlsx"):
             form = workbook_of(path, data, MOST_OF_A_FORM, self.choices.sheet)
         else:
             form = table_of(path, data, MOST_OF_A_FORM, ".xlsx or CSV")
@@ -172,15 +219,13 @@ class Auction:
     def read_forms(self, folder: str) -> None:
         bidders = self.rules.bidders
         by_bidder = defaultdict[str, list[File]](list)
-        paths: list[str] = []
         with self.reading(bidders):
-            paths = self.form_paths(folder)
-        for path in paths:
-            with self.reading(named_in(path, bidders)):
-                form = self.read_form(path)
-                by_bidder[form.bidder].append(form)
-                # (whose first row is wrong isn't also missing)
-                self.unread += named_in(path, bidders) if form.bidder not in bidders else ()
+            for path in self.form_paths(folder):
+                with self.reading(named_in(path, bidders)):
+                    form = self.read_form(path)
+                    by_bidder[form.bidder].append(form)
+                    # (whose first row is wrong isn't also missing)
+                    self.unread += named_in(path, bidders) if form.bidder not in bidders else ()
         for name in dict.fromkeys([*bidders, *by_bidder]):
             self.counting += self.last_form(by_bidder[name])
 
@@ -269,9 +314,7 @@ class Auction:
             elif form and form.bids is not None and form.bids != int(count):
                 self.fault(place, f"{wanted}; {form.path} has {form.bids}")
 
-    def read_all(
-        self, rules: str, folder: str, group_words: Sequence[str], with_bids: bool = True
-    ) -> None:
+    def read_all(self, rules: str, folder: str, group_words: Sequence[str]) -> None:
         """Reads all files: that of the rules, those of a folder of forms, and one of groups, or groups by a rule."""
         if not self.read_rules(rules):
             return
@@ -284,7 +327,7 @@ class Auction:
         self.text += b"".join(b"%form\n" + form.text for form in self.counting)
         lines = ["+".join(row.values) + "\n" for row in self.groups]
         self.text += encoded("%groups\n" + "".join(lines)) if group_words else b""
-        found = explained(self.program, self.text, with_bids)
+        found = explained(self.program, self.text, with_bids=True)
         of_part = found.by_part()
         for number, form in enumerate(self.counting, 1):
             self.check_form(form, of_part["form", number], not found.more)

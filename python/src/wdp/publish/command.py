@@ -142,10 +142,10 @@ def of_report(given: Given, auction: Accepted) -> Award:
         raise Refused(f"{source}: it isn't a report of this input: {error.text}") from None
     except Refused as error:
         raise Refused(f"{source}: its winners aren't of this input: {error.text}") from None
-    for number, pair in enumerate(zip(text.split(b"\n"), again.split(b"\n")), 1):
-        if pair[0] != pair[1]:
-            printed = f"of its winners wdp prints '{pair[1].decode()}' here"
-            raise Refused(f"{source}: line {number}: {printed}")
+    for number, (own, printed) in enumerate(zip(text.split(b"\n"), again.split(b"\n")), 1):
+        if own != printed:
+            why = f"of its winners wdp prints '{printed.decode()}' here"
+            raise Refused(f"{source}: line {number}: {why}")
     if fault := disproved(report):
         raise Refused(f"{source}: {fault}; nothing is published")
     return None, text, report

@@ -30,8 +30,8 @@ GROUPS_CSV = {it: GROUPS[it] for it in ("Group", "Left out", "Winners", "Total")
 GROUPS_CSV |= {"Opportunity cost": "cost", "Paid": "paid", "Added": "is_added"}
 LEFT_OUT = {"Bidder": "bidder", "Bid": "why"}
 # headings of columns that are added up, figures that are amounts, and words in the place of a figure that there isn't
-SUMMED = {"Amount", "Price", "Reserve", "Lots", "Cost alone", "Supply", "Sold", "Unsold"}
-SUMMED |= {"Value left"}
+SUMMED = {"Amount", "Price", "Cost alone", "Reserve", "Lots"}
+SUMMED |= {"Supply", "Sold", "Unsold", "Value left"}
 AMOUNTS = {"amount", "price", "cost", "reserve", "total", "paid", "value", "value_left"}
 BLANKS = NOT_ASKED_FOR, NONE_WON, NO_BIDS = "not asked for", "none won", "no bids"
 
