@@ -46,7 +46,7 @@ def add_words(parser: argparse.ArgumentParser) -> None:
     allow("--allow-missing", help="these bidders have no form; separate names by commas")
     allow("--allow-empty", help="these bidders' forms have no bid; separate names by commas")
     allow("--allow-unended", help="these forms, rules or groups are complete without a line end")
-    add("--expect", metavar="COUNTS", type=path, help="rows `bidder,bids`, one for each form")
+    add("--expect", metavar="COUNTS", type=path, help="a file of rows `bidder,bids` for the forms")
     add("--sheet", metavar="NAME", type=path, help="the sheet of each workbook, else the first")
 
 
