@@ -11,6 +11,7 @@ Given prices, the best multiplier of each block follows: the least of its priced
 however they were found, and is exact in whole numbers.
 """
 from collections import Counter
+from collections.abc import Iterator
 from dataclasses import dataclass, field
 from itertools import chain
 from typing import Any, NamedTuple
@@ -45,10 +46,10 @@ class Layout:
         columns, entries = program.columns, Matrix.of(program).entries
         self.count = len(columns)
         self.is_open: Array = np.array([not column.is_fixed for column in columns], bool)
-        self.members, self.block_rows = blocks_of(program, entries, self.is_open)
-        in_blocks = set(self.block_rows)
-        kinds = [(at, row.kind) for at, row in enumerate(program.rows) if at not in in_blocks]
-        self.shared = [(at, sign) for at, kind in kinds for sign in SIGNS[kind]]
+        blocks = list(blocks_of(program, entries, self.is_open))
+        self.members, self.block_rows = [each for each, _ in blocks], [row for _, row in blocks]
+        rest = [at for at in range(len(program.rows)) if at not in self.block_rows]
+        self.shared = [(at, sign) for at in rest for sign in SIGNS[program.rows[at].kind]]
         if self.count * len(self.shared) > LARGEST_TABLE:
             what = "too many columns and rows that several blocks share"
             raise Refused(f"the program has {what}: {self.count} times {len(self.shared)}")
@@ -64,20 +65,19 @@ class Layout:
         right_sides = [sign * program.rows[at].right_side for at, sign in self.shared]
         self.right_sides = [right - less for right, less in zip(right_sides, taken)]
         self.order = np.concatenate([np.zeros(0, int), *self.members])
-        sizes = [len(places) for places in self.members]
-        self.starts = np.cumsum([0] + sizes)[:-1]
+        ends = np.cumsum([0, *map(len, self.members)])
+        self.starts = ends[:-1]
         self.block_of: Array = np.full(self.count, -1)
-        self.block_of[self.order] = np.repeat(np.arange(len(sizes)), sizes)
-        ones, shape = np.ones(len(self.order)), (len(sizes), self.count)
-        of_blocks = csr_matrix((ones, (self.block_of[self.order], self.order)), shape)
-        self.rows = vstack([of_blocks, shared], "csr")
-        self.sides: Array = np.array([1] * len(sizes) + self.right_sides, float)
+        self.block_of[self.order] = np.repeat(np.arange(len(blocks)), np.diff(ends))
+        ones, shape = np.ones(len(self.order)), (len(blocks), self.count)
+        self.rows = vstack([csr_matrix((ones, self.order, ends), shape), shared], "csr")
+        self.sides: Array = np.array([1] * len(blocks) + self.right_sides, float)
         self.largest_cost = max((abs(column.cost) for column in columns), default=0)
         self.largest_loads = [int(abs(loads).max(initial=0)) for loads in self.loads.T]
         self.names: Array = np.array([f"{column.name} 1" for column in columns], object)
         # the most that prices lose by rounding, at any scale and in its units, if each moves by a half
         moved = sum(abs(number) for number in self.right_sides)
-        self.rounding = (moved + len(sizes) * sum(self.largest_loads)) // 2 + 1
+        self.rounding = (moved + len(blocks) * sum(self.largest_loads)) // 2 + 1
 
     def by_column(self, of_blocks: list[int], dtype: Any) -> Array:
         """For each column the number of its block, or 0."""
@@ -85,23 +85,15 @@ class Layout:
         return numbers[self.block_of]
 
 
-def blocks_of(
-    program: ZeroOne, entries: Any, is_open: Array
-) -> tuple[list[Array], list[int | None]]:
+def blocks_of(program: ZeroOne, entries: Any, is_open: Array) -> Iterator[tuple[Array, int | None]]:
     """The columns of each block, and its row or None."""
     is_free = is_open.copy()
-    members: list[Array] = []
-    rows: list[int | None] = []
-    for place, row_of in enumerate(program.rows):
-        within = slice(entries.indptr[place], entries.indptr[place + 1])
-        columns, is_one = entries.indices[within].astype(int), (entries.data[within] == 1).all()
-        is_block = is_one and (row_of.kind, row_of.right_side) == (AT_MOST, 1)
-        if len(columns) and is_block and is_free[columns].all():
-            is_free[columns] = False
-            members.append(columns)
-            rows.append(place)
-    alone = np.flatnonzero(is_free)
-    return [*members, *alone[:, None]], [*rows, *([None] * len(alone))]
+    for place, (row, held) in enumerate(zip(program.rows, entries)):
+        is_block = (row.kind, row.right_side) == (AT_MOST, 1) and (held.data == 1).all()
+        if is_block and held.nnz and is_free[held.indices].all():
+            is_free[held.indices] = False
+            yield held.indices, place
+    yield from ((np.array([place]), None) for place in np.flatnonzero(is_free))
 
 
 class Cut(NamedTuple):
@@ -125,10 +117,10 @@ class Node:
         allowed[places] = False
         return Node(allowed, self.path + (Cut(places, False),), self.forced)
 
-    def within(self, places: Array, block: int, members: Array) -> "Node":
-        """The side on which one of these columns is 1; they are of one block, which has these members."""
-        allowed = self.allowed.copy()
-        allowed[members] = False
+    def within(self, layout: Layout, places: Array) -> "Node":
+        """The side on which one of these columns is 1; they are of one block."""
+        block, allowed = int(layout.block_of[places[0]]), self.allowed.copy()
+        allowed[layout.members[block]] = False
         allowed[places] = self.allowed[places]
         forced = {**self.forced, block: len(self.path)}
         return Node(allowed, self.path + (Cut(places, True),), forced)
@@ -157,20 +149,13 @@ class Bound:
         right = sum(price * number for price, number in zip(prices, layout.right_sides))
         self.value = scale * layout.constant + sum(self.parts) - right
 
-    def is_above(self, least: int) -> bool:
-        """Whether it shows that no objective is below `least`."""
-        return self.value > self.scale * (least - 1)
+    def gap(self, least: int) -> int:
+        """How far it is from showing that no objective is below `least`: below 0 if it shows that."""
+        return self.scale * (least - 1) - self.value
 
     def reduced(self) -> Array:
         """How much more the bound would be with a column at 1; for the allowed columns."""
         return np.subtract(self.priced, self.layout.by_column(self.parts, self.priced.dtype))
-
-    def worth_fixing(self, least: int) -> tuple[Array, int]:
-        """The allowed columns at 1 in no point below `least`, and the least of their reduced costs."""
-        reduced = self.reduced()
-        is_beyond = reduced > self.scale * (least - 1) - self.value
-        places = np.flatnonzero(self.node.allowed & is_beyond)
-        return places, int(reduced[places].min()) if len(places) else 0
 
 
 class Leaf:

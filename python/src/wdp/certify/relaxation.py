@@ -171,18 +171,16 @@ class Visit(NamedTuple):
 class Split(NamedTuple):
     """Columns of one block, of which a fractional solution takes `part` in all."""
 
-    block: int
     places: Array
     part: float
 
 
 def candidates(layout: Layout, node: Node, places: Array, values: Array) -> list[Split]:
     """The splits at which the values of these columns are undecided, the most even first."""
-    found: list[Split] = []
     blocks = layout.block_of[places]
-    for block in np.unique(blocks):
-        held = blocks == block
-        found += block_candidates(layout, node, int(block), places[held], values[held])
+    each = [(int(block), blocks == block) for block in np.unique(blocks)]
+    given = ((block, places[held], values[held]) for block, held in each)
+    found = (split for one in given for split in block_candidates(layout, node, *one))
     return sorted(found, key=lambda split: (-min(split.part, 1 - split.part), len(split.places)))
 
 
@@ -200,7 +198,7 @@ def block_candidates(
         part, chosen = float(values[is_held].sum()), members[is_member]
         is_whole = is_forced and len(chosen) == len(members)
         if UNDECIDED < part < 1 - UNDECIDED and not is_whole:
-            found.setdefault(chosen.tobytes(), Split(block, chosen, part))
+            found.setdefault(chosen.tobytes(), Split(chosen, part))
 
     if not is_forced:
         offer(np.ones(len(places), bool), np.ones(len(members), bool))
@@ -224,13 +222,12 @@ def halving(layout: Layout, node: Node) -> Split | None:
         return None
     members = layout.members[block]
     members = members[node.allowed[members]]
-    return Split(block, members[: len(members) // 2] if block in node.forced else members, 0.5)
+    return Split(members[: len(members) // 2] if block in node.forced else members, 0.5)
 
 
 def sides(layout: Layout, node: Node, split: Split) -> tuple[Node, Node]:
     """The sides of a split, that without its columns first."""
-    high = node.within(split.places, split.block, layout.members[split.block])
-    return node.without(split.places), high
+    return node.without(split.places), node.within(layout, split.places)
 
 
 def strongest(

@@ -6,8 +6,7 @@ above the gap are fixed to 0 by a split of their own, whose second side the same
 import contextlib
 import math
 import time
-from collections.abc import Callable
-from dataclasses import replace
+from dataclasses import dataclass, replace
 from typing import NoReturn
 
 import numpy as np
@@ -36,10 +35,6 @@ class LimitReached(Refused):
     status = 4
 
 
-class Again(Exception):
-    """A better point makes the gap so small that costs want finer units."""
-
-
 class Search:
     """`ones` is the best point that is known, and `least` its objective: the search goes on at each better one that it
     finds. It may take so many seconds, and write so many lines."""
@@ -55,30 +50,27 @@ class Search:
         self.layout, self.program, self.say = layout, layout.program, say
         self.ones, self.least = ones, layout.program.objective(ones)
         self.begun = self.last_said = time.monotonic()
-        self.seconds, self.most_lines = math.inf if seconds is None else seconds, lines
+        self.seconds, self.most_lines = seconds or math.inf, lines
         self.is_from_nothing = ones <= layout.fixed_ones
         self.root_value = -math.inf
-        self.at_root: Relaxation | None = None
         self.lines: list[str] = []
         self.tasks: list[Visit | Leaf] = []
-        self.leaves = 0
 
     def certificate(self) -> bytes:
         """The text that shows that no objective is below `least`."""
         prices = root_prices(self.layout, self.seconds_left())
-        while True:
-            with contextlib.suppress(Again):
-                self.lines, self.tasks, self.at_root, self.leaves = [], [], None, 0
-                self.open_root(prices)
-                while self.tasks:
-                    self.check_limits()
-                    task = self.tasks.pop()
-                    if isinstance(task, Visit):
-                        self.visit(task)
-                    else:
-                        self.have_to_write(task)
-                return "".join(line + "\n" for line in self.lines).encode("ascii")
-            self.say("the search begins again")
+        at_root = self.open_root(prices)
+        while self.tasks:
+            self.check_limits()
+            task, before = self.tasks.pop(), self.least
+            if isinstance(task, Visit):
+                self.visit(task)
+            else:
+                self.have_to_write(task)
+            if at_root and self.least < before and at_root.units(self.least - 1) < FEWEST_UNITS:
+                self.say("the search begins again")
+                at_root = self.open_root(prices)
+        return "".join(line + "\n" for line in self.lines).encode("ascii")
 
     def elapsed(self) -> float:
         return time.monotonic() - self.begun
@@ -88,7 +80,7 @@ class Search:
 
     def check_limits(self) -> None:
         """Ends the search at a limit, and says now and then how far it is."""
-        far = f"{self.leaves} leaves, {len(self.tasks)} subtrees open"
+        far = f"{len(self.lines)} lines, {len(self.tasks)} subtrees open"
         is_late = self.elapsed() >= self.seconds
         if is_late or len(self.lines) > self.most_lines:
             limit = f"time limit of {self.seconds:g} seconds" if is_late else "limit of lines"
@@ -103,38 +95,38 @@ class Search:
 
     def write(self, leaf: Leaf) -> bool:
         """Writes a leaf if its numbers fit; whether they do."""
-        if not leaf.fits():
-            return False
-        self.lines.append(leaf.line())
-        self.leaves += 1
-        return True
+        if is_written := leaf.fits():
+            self.lines.append(leaf.line())
+        return is_written
 
     def have_to_write(self, leaf: Leaf) -> None:
         if not self.write(leaf):
             raise Refused("the numbers of this program are too large for a certificate")
 
-    def show(self, node: Node, prices_at: Callable[[int], list[int]]) -> bool:
-        """Writes a leaf with prices at the first scale that shows it."""
+    def show(self, node: Node, relaxation: Relaxation) -> bool:
+        """Writes a leaf with the relaxation's prices at the first scale that shows it."""
         for scale in SCALES:
-            bound = Bound(self.layout, node, scale, prices_at(scale))
-            if bound.is_above(self.least):
+            bound = Bound(self.layout, node, scale, relaxation.prices(scale))
+            if bound.gap(self.least) < 0:
                 return self.write(Leaf(bound))
-            if scale * (self.least - 1) - bound.value > self.layout.rounding:
+            if bound.gap(self.least) > self.layout.rounding:
                 break
         return False
 
-    def open_root(self, prices: list[int]) -> None:
-        """Shows the root, or begins the tree below it. Better prices, better points and fixed columns help one another in turns."""
+    def open_root(self, prices: list[int]) -> Relaxation | None:
+        """Shows the root, or begins the tree below it, with this relaxation. Better prices, better points and fixed columns help
+        one another in turns."""
         layout, node = self.layout, Node(self.layout.is_open.copy())
+        self.lines, self.tasks = [], []
         for turn in range(ROUNDS):
             bound = Bound(layout, node, 1, prices)
             self.root_value = max(bound.value, self.root_value)
             if turn == 0 and self.is_from_nothing:
                 self.try_promising(bound)
-            if bound.is_above(self.least) and self.write(Leaf(bound)):
-                return
+            gap = bound.gap(self.least)
+            if gap < 0 and self.write(Leaf(bound)):
+                return None
             node = self.fix(bound, ROOT_PART if turn else 0)
-            gap = self.least - 1 - bound.value
             relaxation = Relaxation(Bound(layout, node, 1, prices), gap)
             columns = f"{relaxation.count} of {layout.count} columns left, {self.elapsed():.1f} s"
             self.say(f"to show {self.least}, root bound {bound.value}, {columns}")
@@ -147,8 +139,8 @@ class Search:
             if not self.dive(node, relaxation) and not is_better:
                 break
             prices = better if is_better else prices
-        self.at_root = relaxation
         self.tasks.append(Visit(node, relaxation, basis))
+        return relaxation
 
     def try_promising(self, bound: Bound) -> None:
         """Searches the columns that are nearest to the choice of their blocks: a good point makes the gap small."""
@@ -178,9 +170,7 @@ class Search:
             is_late = self.elapsed() >= self.seconds
             if not left.any() or relaxation.overstep() > POSITIVE or is_late:
                 break
-            place = relaxation.core[left.argmax()]
-            block = int(self.layout.block_of[place])
-            node = node.within(np.array([place]), block, self.layout.members[block])
+            node = node.within(self.layout, relaxation.core[[left.argmax()]])
             relaxation.enter(node)
             limit = relaxation.units(self.least - 1)
             reached = relaxation.solve(limit=limit, seconds=self.seconds_left())
@@ -190,11 +180,12 @@ class Search:
 
     def fix(self, bound: Bound, part: float) -> Node:
         """Fixes the columns that can't be 1, if they are at least this part of the allowed ones."""
-        places, last = bound.worth_fixing(self.least)
-        if not len(places) or len(places) < part * bound.node.allowed.sum():
+        allowed, reduced = bound.node.allowed, bound.reduced()
+        places = np.flatnonzero(allowed & (reduced > bound.gap(self.least)))
+        if not len(places) or len(places) < part * allowed.sum():
             return bound.node
         # the same prices show the second side
-        second = Leaf(bound, bound.node.beyond(places), last)
+        second = Leaf(bound, bound.node.beyond(places), int(reduced[places].min()))
         if not second.fits():
             return bound.node
         self.lines.append("split 0 " + " ".join(self.layout.names[places]))
@@ -211,10 +202,10 @@ class Search:
         limit = relaxation.units(self.least - 1)
         stop = limit + abs(limit) * 1e-4 + 1e-6
         reached = relaxation.solve(limit=stop, seconds=self.seconds_left())
-        is_shown = self.show(node, relaxation.prices)
+        is_shown = self.show(node, relaxation)
         if not is_shown and reached is not None and reached > limit:
             reached = relaxation.solve()
-            is_shown = self.show(node, relaxation.prices)
+            is_shown = self.show(node, relaxation)
         if not is_shown and not self.fix_and_shrink(node, relaxation):
             self.part(Visit(node, relaxation, relaxation.basis()), reached)
 
@@ -253,15 +244,12 @@ class Search:
         self.tasks += [task._replace(node=high), task._replace(node=low)]
 
     def settle(self, node: Node) -> None:
-        """Shows a node with one point, by a row that it breaks or by its objective."""
-        prices, places = [0] * len(self.layout.shared), np.flatnonzero(node.allowed)
+        """Shows a node with one point, by the rows that it breaks or by its objective."""
+        places = np.flatnonzero(node.allowed)
         taken = [sum(map(int, loads)) for loads in self.layout.loads[places].T]
-        sides = enumerate(zip(taken, self.layout.right_sides))
-        broken = [at for at, (load, right) in sides if load > right]
-        for at in broken[:1]:
-            prices[at] = 1
+        is_broken = [int(load > right) for load, right in zip(taken, self.layout.right_sides)]
         self.try_point(set(map(int, places)))
-        self.have_to_write(Leaf(Bound(self.layout, node, int(not broken), prices)))
+        self.have_to_write(Leaf(Bound(self.layout, node, int(not any(is_broken)), is_broken)))
 
     def try_point(self, places: set[int]) -> bool:
         """Takes a point of the open columns if it is feasible and better than the best one; whether it is."""
@@ -271,20 +259,17 @@ class Search:
             return False
         gain, self.ones, self.least = self.least - objective, ones, objective
         self.found(gain)
-        if self.at_root and self.at_root.units(objective - 1) < FEWEST_UNITS:
-            raise Again()
         return True
 
     def found(self, gain: int) -> None:
         self.say(f"a better point: {self.least}, by {gain}, {self.elapsed():.1f} s")
 
 
+@dataclass(eq=False)
 class Beaten(Exception):
     """Another point is as good as the one that is to be the only one, or better by `gain`."""
 
-    def __init__(self, gain: int) -> None:
-        super().__init__()
-        self.gain = gain
+    gain: int
 
 
 class OnlySearch(Search):
@@ -293,12 +278,10 @@ class OnlySearch(Search):
     def __init__(self, program: ZeroOne, ones: set[int], seconds: float | None, say: Say) -> None:
         super().__init__(Layout(others(program, ones), len(program.rows)), ones, seconds, say)
         self.least += 1
+        self.is_from_nothing = False  # (the point that is known isn't one of this program)
 
     def known(self) -> str:
         return f"no other point has an objective below {self.root_value}"
-
-    def try_promising(self, bound: Bound) -> None:
-        """(the point that is known isn't one of this program)"""
 
     def found(self, gain: int) -> NoReturn:
         raise Beaten(gain - 1)
