@@ -132,6 +132,13 @@ def test_without_certificates(auction):
     assert "report.txt is certified" in auction.said("--no-certify", status=1)
     assert not auction.has("report.uncertified.txt")
     assert (auction.outcome(), auction.read("results/results.html")) == before
+    # once that report is gone a solution counts as the answer that isn't there
+    for name in ("report.txt", "answers/2.txt", "answers/3.txt"):
+        (auction.where / name).unlink()
+    auction.said("--no-certify", "--step", "3")
+    assert auction.read("answers/3.txt") == auction.read("solutions/3.txt")
+    auction.said("--no-certify")
+    assert totals(auction.read("report.uncertified.txt")) == TOTALS
 
 
 WORSE = 'if grep -q X1_1 "$1" && grep -q X2_1 "$1"; then echo X3_1 1 > "$2"; else rest "$@"; fi'

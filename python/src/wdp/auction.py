@@ -13,7 +13,7 @@ import sys
 import tempfile
 import time
 from collections.abc import Callable, Mapping, Sequence
-from dataclasses import dataclass, replace
+from dataclasses import dataclass
 from functools import partial
 from itertools import groupby
 from pathlib import Path
@@ -157,9 +157,11 @@ class Run(Folder):
         return log
 
     def answer(self, group: int, program: bytes) -> bytes:
-        """The solver's answer to a group's program: a point of it."""
-        name = of_group("answer", group)
-        if not self.has(name):
+        """The solver's answer to a group's program: a point of it. Without certificates a solution counts as one."""
+        name, solution = of_group("answer", group), of_group("solution", group)
+        if not self.has(name) and self.has(solution) and not self.is_certified:
+            self.leave(name, self.read(solution))
+        elif not self.has(name):
             point = solve.point_of(program, self.solver, self.seconds, self.log_of(group))
             self.leave(name, point)
         return self.read(name)
@@ -169,8 +171,7 @@ class Run(Folder):
         program = self.read(of_group("program", group))
         solution, certificate = of_group("solution", group), of_group("certificate", group)
         if not self.is_certified:
-            if not self.has(solution):
-                self.answer(group, program)
+            self.answer(group, program)
             return
         if not self.has(certificate) or not self.has(solution):
             try:
@@ -241,11 +242,10 @@ class Run(Folder):
 
     def publish(self, data: bytes, report: bytes, audit: bytes | None) -> None:
         """Has the program judge what was found, and makes the tables and the page."""
-        page, names = self.page or {}, self.path("names.csv")
+        page, path = self.page or {}, self.path("names.csv")
         title, currency = page.get("title") or publishing.TITLE, page.get("currency")
-        given = publishing.Given(self.program, data, report, audit, title=title, currency=currency)
-        if self.page is not None and names.exists():
-            given = replace(given, names=str(names), is_kept=True)
+        what, names = (self.program, data, report, audit), str(path) if path.exists() else None
+        given = publishing.Given(*what, title=title, currency=currency, names=names, is_kept=True)
         results = publishing.results_from(given)
         if self.page is not None:
             publishing.publish(results, str(self.path(RESULTS)))
@@ -275,9 +275,8 @@ class Run(Folder):
         kind = "certificate" if self.is_certified else "answer"
         missing = [f"{k} ({groups[k]})" for k in left if not self.has(of_group(kind, k))]
         if missing:
-            more = f" and {len(missing) - 20} more" if len(missing) > 20 else ""
-            which = f"{len(missing)} of {len(groups)} groups are missing: {', '.join(missing[:20])}"
-            say(f"no {'report' if 1 in groups else 'prices'}: {which}{more}")
+            which = f"{len(missing)} of {len(groups)} groups are missing: {', '.join(missing)}"
+            say(f"no {'report' if 1 in groups else 'prices'}: {which}")
         return not missing
 
     def priced(self) -> int:
@@ -479,5 +478,5 @@ def run_prices(given: argparse.Namespace) -> int:
             raise WrongWords("--output goes with an audit; a folder keeps its own")
         return own.in_place()
     audit = files.read(str(given.award), publishing.MOST_OF_AN_AUDIT)
-    give: Callable[[bytes], None] = lambda text: files.write_all({given.output: text})
-    return own.without_folder(partial(own.take_audit, audit), AUDIT, given.output and give)
+    give = partial(files.put, path=given.output) if given.output else None
+    return own.without_folder(partial(own.take_audit, audit), AUDIT, give)

@@ -125,7 +125,10 @@ def write_folder(
             shutil.rmtree(old, ignore_errors=True)
 
 
-def put(data: bytes) -> None:
+def put(data: bytes, path: str | None = None) -> None:
+    """Writes a file, or if none is named to standard output."""
+    if path:
+        return write_all({path: data})
     if sys.stdout is None:
         raise Unreadable("standard output", "it is closed")
     with at("standard output"):

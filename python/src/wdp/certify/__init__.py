@@ -83,13 +83,6 @@ def add_words(parser: argparse.ArgumentParser) -> None:
     add("--solution-output", metavar="FILE", help=solution)
 
 
-def leave(path: str | None, text: bytes) -> None:
-    if path:
-        files.write_all({path: text})
-    else:
-        files.put(text)
-
-
 def run(given: argparse.Namespace) -> int:
     """Certifies that a solution is optimal, or with --unique that it is the only optimal one."""
     say = partial(files.say, "certify")
@@ -104,18 +97,18 @@ def run(given: argparse.Namespace) -> int:
             say("--solution-output takes the better one, and the certificate is then for that")
             return NOT_OPTIMAL
     if given.solution_output:
-        leave(given.solution_output, found.solution)
-    leave(given.output, found.certificate)
+        files.put(found.solution, given.solution_output)
+    files.put(found.certificate, given.output)
     return 0
 
 
 def show_only(given: argparse.Namespace, found: Only, say: Say) -> int:
     """Writes the certificate that there is no other point, or the other point."""
     if found.claim == "unique":
-        leave(given.output, found.text)
+        files.put(found.text, given.output)
         return 0
     if not found.gain or given.solution_output:
-        leave(given.solution_output, found.text)
+        files.put(found.text, given.solution_output)
     below = f"another point's objective is {found.gain} below its own"
     say(f"the solution isn't optimal: {below}" if found.gain else "a tie: another point is as good")
     return NOT_OPTIMAL if found.gain else TIED
