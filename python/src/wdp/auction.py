@@ -19,6 +19,7 @@ from itertools import groupby
 from pathlib import Path
 
 from wdp import certify, files, prices, solve, steps
+from wdp.cli import reported
 from wdp.folder import INPUT, Folder
 from wdp.office.choices import checked
 from wdp.office.faults import counted
@@ -63,7 +64,7 @@ def in_processes(
     work: Mapping[str, steps.Step], jobs: int = 1, watch: steps.Watch | None = None
 ) -> int:
     """Does steps by their names, each in a process of its own, and says why one failed; the status of the first that did."""
-    named = {name: partial(steps.reported, say, name, step) for name, step in work.items()}
+    named = {name: partial(reported, say, name, step) for name, step in work.items()}
     ended = steps.run(named, jobs, watch)
     for name, status in ended.items():
         if status < 0:

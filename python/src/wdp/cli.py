@@ -4,12 +4,13 @@ import difflib
 import importlib
 import signal
 import sys
+from collections.abc import Callable
 from functools import partial
 from typing import NoReturn
 
 from wdp import files
-from wdp.steps import INTERRUPTED, reported
-from wdp.texts.refusals import escaped, shortened
+from wdp.steps import INTERRUPTED, Step
+from wdp.texts.refusals import Refused, escaped, shortened
 
 NAME = "wdp-office"
 FAULTS = "prints all that is wrong with an input, by file, line and column"
@@ -80,11 +81,23 @@ def parsed(words: list[str]) -> argparse.Namespace:
     if not words:
         files.tell(parser.format_help())
         raise SystemExit(WRONG_WORDS)
-    given, strange = parser.parse_known_args(words)
-    if strange:
-        parser.prog = f"{NAME} {given.command}" if given.command else NAME
-        parser.error(f"unrecognized arguments: {' '.join(strange)}")
-    return given
+    parser.prog = f"{NAME} {first}" if first in COMMANDS else NAME
+    return parser.parse_args(words)
+
+
+def reported(say: Callable[[str], None], label: str, step: Step) -> int:
+    """Does a step, and says why it failed; its status."""
+    try:
+        return step() or 0
+    except Refused as refused:
+        why, status = refused.text, refused.status
+    except MemoryError:
+        why, status = "out of memory", 1
+    except OSError as error:
+        named = f"{error.filename}: " if error.filename else ""
+        why, status = f"{named}{error.strerror or error}", 1
+    say(f"{label}: {why}" if label else why)
+    return status
 
 
 def main(words: list[str] | None = None) -> int:

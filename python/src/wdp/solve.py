@@ -14,7 +14,7 @@ import sys
 import tempfile
 from pathlib import Path
 
-from wdp import files, guard
+from wdp import files, steps
 from wdp.office.choices import checked
 from wdp.program import Limits, answer, found_program, ran, signal_named
 from wdp.results import Matrix
@@ -29,7 +29,7 @@ FILES = {"mps": "program.mps", "free": "free.mps", "out": "solution.txt"}
 PLACE = re.compile(r"\{([^{}]*)\}")  # of these files, and of the `seconds`
 CBC = "cbc {free} -sec {seconds} -timeMode elapsed -solve -solu {out}"
 CBC_LINE = re.compile(r"(?:\*\*)? *[0-9]+ +(\S+) +(\S+) +\S+ *")
-LONGEST_GRACE = 30  # seconds by which a solver may overstep its limit
+LONGEST_GRACE = 25  # seconds by which a solver may overstep its limit
 LONGEST = 200  # signs of a solver's words that a message has
 
 
@@ -63,12 +63,10 @@ def filled(words: list[str], known: dict[str, str]) -> list[str]:
     with an option before it."""
     made = words[:1]
     for word in words[1:]:
-        try:
+        if known.keys() >= set(PLACE.findall(word)):
             made.append(PLACE.sub(lambda found: known[found[1]], word))
-        except KeyError:
-            option = made[-1] if word.startswith("{") and made[1:] else ""
-            if option.startswith("-") and "=" not in option:
-                made.pop()
+        elif word.startswith("{") and made[1:] and re.fullmatch("-[^=]*", made[-1]):
+            made.pop()
     return made
 
 
@@ -105,7 +103,7 @@ def answer_of(text: bytes, solver: str, limit: float | None, folder: Path, log: 
     name = os.path.basename(words[0])
     paths = {place: str(folder / file) for place, file in FILES.items()}
     files.write_all({paths["mps"]: text, paths["free"]: free_text(text)})
-    guarded = [sys.executable, "-IS", guard.__file__, str(os.getpid()), str(MOST_OF_ANSWER)]
+    guarded = [sys.executable, "-IS", steps.__file__, str(os.getpid()), str(MOST_OF_ANSWER)]
     guarded += filled(words, {**paths, **({"seconds": str(seconds)} if seconds else {})})
     late = seconds and seconds + min(LONGEST_GRACE, 5 + seconds // 10)
     limits = Limits(MOST_OF_ANSWER, late, signal.SIGTERM)
@@ -159,13 +157,12 @@ def by_highs(program: ZeroOne, seconds: float | None) -> set[int]:
     low = np.where(kinds == AT_MOST, -np.inf, right)
     high = np.where(kinds == AT_LEAST, np.inf, right)
     rows = [LinearConstraint(matrix.entries.astype(float), low, high)] if len(right) else []
-    limit = {"time_limit": seconds} if seconds else {}
     found = milp(
         [0.0 if column.is_fixed else float(column.cost) for column in program.columns],
         integrality=np.ones(len(matrix.columns)),
         bounds=Bounds(matrix.lower, matrix.upper),
         constraints=rows,
-        options={"mip_rel_gap": 0.0, **limit},
+        options={"mip_rel_gap": 0.0, "time_limit": seconds or math.inf},
     )
     if found.x is None:
         status = TIME_OUT if found.status == 1 else NO_POINT

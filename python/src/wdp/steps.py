@@ -1,39 +1,35 @@
-"""Steps side by side, each in a process of its own, of which nothing is left, whatever ends them."""
-from __future__ import annotations
+"""Steps side by side, each in a process of its own, of which nothing is left, whatever ends them and wherever it hid.
 
+usage: python3 -IS steps.py PARENT BYTES WORDS..
+
+Runs a program so. PARENT is the process that asks; when that ends, or by SIGTERM, the program is ended. No file that it
+writes gets more than BYTES. The status is the program's own; 127 if it can't be started.
+"""
+import ctypes
 import os
+import resource
 import signal
 import sys
 import time
 import traceback
 from collections.abc import Callable, Iterator, Mapping
-from contextlib import contextmanager
+from contextlib import contextmanager, suppress
+from pathlib import Path
 
-from wdp import guard
-from wdp.guard import ENDINGS
-from wdp.texts.refusals import Refused
-
+PR_SET_PDEATHSIG, PR_SET_CHILD_SUBREAPER = 1, 36
+ENDINGS = {signal.SIGTERM, signal.SIGINT, signal.SIGHUP}
 LOOK_EVERY = 0.2  # seconds
 PATIENCE = 5  # seconds for a step to put away what it began
-INTERRUPTED = 130
+LAST_PATIENCE = 10  # seconds for what was killed to end
+INTERRUPTED, NOT_STARTED = 130, 127
 
 Step = Callable[[], int | None]
 Watch = Callable[[int, list[str]], None]
 
 
-def reported(say: Callable[[str], None], label: str, step: Step) -> int:
-    """Does a step, and says why it failed; its status."""
-    try:
-        return step() or 0
-    except Refused as refused:
-        why, status = refused.text, refused.status
-    except MemoryError:
-        why, status = "out of memory", 1
-    except OSError as error:
-        named = f"{error.filename}: " if error.filename else ""
-        why, status = f"{named}{error.strerror or error}", 1
-    say(f"{label}: {why}" if label else why)
-    return status
+def prctl(option: int, value: int) -> None:
+    """Asks the kernel for a signal when the parent ends, or for the children of those that end."""
+    ctypes.CDLL(None).prctl(option, value)
 
 
 def interrupt(number: int, frame: object) -> None:
@@ -47,7 +43,7 @@ def end_by(handler: Callable[[int, object], None] | signal.Handlers, of_parent: 
     """What the signals that end a process do in this one, and which one it gets when its parent ends."""
     for number in ENDINGS:
         signal.signal(number, handler)
-    guard.prctl(guard.PR_SET_PDEATHSIG, of_parent)
+    prctl(PR_SET_PDEATHSIG, of_parent)
 
 
 @contextmanager
@@ -63,11 +59,11 @@ def ended_at_once() -> Iterator[None]:
 @contextmanager
 def signals_wait() -> Iterator[None]:
     """Within this a signal waits: an import that it breaks off may fail with another error."""
-    signal.pthread_sigmask(signal.SIG_BLOCK, ENDINGS)
+    before = signal.pthread_sigmask(signal.SIG_BLOCK, ENDINGS | {signal.SIGCHLD})
     try:
         yield
     finally:
-        signal.pthread_sigmask(signal.SIG_UNBLOCK, ENDINGS)
+        signal.pthread_sigmask(signal.SIG_SETMASK, before)
 
 
 def forked(step: Step) -> int:
@@ -77,12 +73,12 @@ def forked(step: Step) -> int:
     try:
         try:
             end_by(interrupt, signal.SIGTERM)
-            guard.prctl(guard.PR_SET_CHILD_SUBREAPER, 1)
+            prctl(PR_SET_CHILD_SUBREAPER, 1)
             signal.pthread_sigmask(signal.SIG_SETMASK, [])
             if os.getppid() == parent:
                 status = step() or 0
         finally:
-            guard.end_all()
+            end_all()
     except KeyboardInterrupt:
         status = INTERRUPTED
     except BaseException:
@@ -99,34 +95,84 @@ def run(steps: Mapping[str, Step], jobs: int = 1, watch: Watch | None = None) ->
     waiting = list(steps)[::-1]
     at_work: dict[int, str] = {}
     ended: dict[str, int] = {}
-    before = signal.pthread_sigmask(signal.SIG_BLOCK, ENDINGS | {signal.SIGCHLD})
-    guard.prctl(guard.PR_SET_CHILD_SUBREAPER, 1)
-    try:
-        while waiting or at_work:
-            while waiting and len(at_work) < jobs:
-                name = waiting.pop()
-                at_work[forked(steps[name])] = name
-            came = signal.sigtimedwait(ENDINGS | {signal.SIGCHLD}, LOOK_EVERY)
-            if came and came.si_signo != signal.SIGCHLD:
-                raise KeyboardInterrupt
-            for process, status in (guard.reaped() or {}).items():
-                if process in at_work:
-                    ended[at_work.pop(process)] = status
-            if watch:
-                watch(len(ended), list(at_work.values()))
-    finally:
-        stop(set(at_work))
-        signal.pthread_sigmask(signal.SIG_SETMASK, before)
+    prctl(PR_SET_CHILD_SUBREAPER, 1)
+    with signals_wait():
+        try:
+            while waiting or at_work:
+                while waiting and len(at_work) < jobs:
+                    name = waiting.pop()
+                    at_work[forked(steps[name])] = name
+                came = signal.sigtimedwait(ENDINGS | {signal.SIGCHLD}, LOOK_EVERY)
+                if came and came.si_signo != signal.SIGCHLD:
+                    raise KeyboardInterrupt
+                for process, status in reaped().items():
+                    if process in at_work:
+                        ended[at_work.pop(process)] = status
+                if watch:
+                    watch(len(ended), list(at_work.values()))
+        finally:
+            left, last = set(at_work), time.monotonic() + PATIENCE
+            for process in left:
+                os.kill(process, signal.SIGTERM)
+            while left and time.monotonic() < last:
+                left -= set(reaped())
+                time.sleep(0.01)
+            end_all()
     return ended
 
 
-def stop(at_work: set[int]) -> None:
-    """Ends what is still at work: a step that is interrupted puts away what it began."""
-    for process in at_work:
-        os.kill(process, signal.SIGTERM)
-    last = time.monotonic() + PATIENCE
-    while at_work and time.monotonic() < last:
-        ended = guard.reaped()
-        at_work -= at_work if ended is None else set(ended)
-        time.sleep(0.01)
-    guard.end_all()
+def reaped() -> dict[int, int]:
+    """The statuses of the processes that ended, by their numbers."""
+    ended: dict[int, int] = {}
+    with suppress(ChildProcessError):
+        while (found := os.waitpid(-1, os.WNOHANG))[0]:
+            ended[found[0]] = os.waitstatus_to_exitcode(found[1])
+    return ended
+
+
+def end_all() -> None:
+    """Ends all that was started: whatever loses its parent becomes a child of this process."""
+    listed, last = Path(f"/proc/self/task/{os.getpid()}/children"), time.monotonic() + LAST_PATIENCE
+    while left := listed.read_text().split():
+        if time.monotonic() > last:
+            raise TimeoutError(f"these processes can't be ended: {' '.join(left)}")
+        for process in left:
+            os.kill(int(process), signal.SIGKILL)
+        reaped()
+        time.sleep(0.002)
+
+
+def become(words: list[str]) -> int:
+    """Turns this process into a program, in a session of its own; its status if that can't be started."""
+    try:
+        os.setsid()
+        prctl(PR_SET_CHILD_SUBREAPER, 0)
+        end_by(signal.SIG_DFL, signal.SIGKILL)
+        for number in (signal.SIGPIPE, signal.SIGXFSZ):
+            signal.signal(number, signal.SIG_DFL)
+        os.execvp(words[0], words)
+    except OSError as error:
+        os.write(2, f"{words[0]} can't be started: {error.strerror}\n".encode(errors="replace"))
+    return NOT_STARTED
+
+
+def main(parent: int, most: int, words: list[str]) -> int:
+    signal.pthread_sigmask(signal.SIG_SETMASK, [])
+    prctl(PR_SET_PDEATHSIG, signal.SIGTERM)
+    resource.setrlimit(resource.RLIMIT_FSIZE, (most, most))
+    resource.setrlimit(resource.RLIMIT_CORE, (0, 0))
+    if os.getppid() != parent:
+        return INTERRUPTED
+    try:
+        status = run({"": lambda: become(words)})[""]
+    except KeyboardInterrupt:
+        return INTERRUPTED
+    if status < 0:
+        with suppress(OSError):  # (nothing can be said of SIGKILL)
+            signal.signal(-status, signal.SIG_DFL)
+        os.kill(os.getpid(), -status)
+    return status
+
+
+if __name__ == "__main__":
+    sys.exit(main(int(sys.argv[1]), int(sys.argv[2]), sys.argv[3:]))
