@@ -72,8 +72,7 @@ def add_words(parser: argparse.ArgumentParser) -> None:
     parser.epilog = EPILOG
     add = parser.add_argument
     add("mps", metavar="PROGRAM.mps")
-    begin = "by default the search begins from nothing"
-    add("solution", metavar="SOLUTION", nargs="?", help=begin)
+    add("solution", metavar="SOLUTION", nargs="?", help="by default the search begins from nothing")
     unique = "certify that each other point has a higher objective"
     add("--unique", action="store_true", help=unique)
     add("--time-limit", type=SECONDS, metavar="SECONDS")

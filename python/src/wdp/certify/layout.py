@@ -12,7 +12,6 @@ however they were found, and is exact in whole numbers.
 """
 from collections import Counter
 from collections.abc import Iterator
-from dataclasses import dataclass, field
 from itertools import chain
 from typing import Any, NamedTuple
 
@@ -31,8 +30,7 @@ LARGEST_TABLE = 2 * 10**8
 EXACT_IN_64_BITS = 2**59
 # above every number of 64 bits, and of any size that fits; for the columns that don't count
 NEVER, NEVER_AT_ANY_SIZE = 2**62, 10**60
-MOST = 10**18
-WIDEST = 2**126
+MOST, WIDEST = 10**18, 2**126  # of a multiplier, and of the size of a leaf
 
 
 class Layout:
@@ -48,11 +46,10 @@ class Layout:
         self.is_open: Array = np.array([not column.is_fixed for column in columns], bool)
         blocks = list(blocks_of(program, entries, self.is_open))
         self.members, self.block_rows = [each for each, _ in blocks], [row for _, row in blocks]
-        rest = [at for at in range(len(program.rows)) if at not in self.block_rows]
+        rest = sorted(set(range(len(program.rows))) - set(self.block_rows))
         self.shared = [(at, sign) for at in rest for sign in SIGNS[program.rows[at].kind]]
         if self.count * len(self.shared) > LARGEST_TABLE:
-            what = "too many columns and rows that several blocks share"
-            raise Refused(f"the program has {what}: {self.count} times {len(self.shared)}")
+            raise Refused(f"too many columns by shared rows: {self.count} by {len(self.shared)}")
         rows, signs = np.array(self.shared, np.int64).reshape(-1, 2).T
         shared = entries[rows].multiply(signs[:, None])
         self.loads: Array = np.ascontiguousarray(shared.toarray().T)
@@ -103,14 +100,13 @@ class Cut(NamedTuple):
     is_high: bool
 
 
-@dataclass(frozen=True, eq=False)
-class Node:
+class Node(NamedTuple):
     """The cuts on the way to a node, and what they leave: `allowed` says which columns may still be 1; `forced` gives
     the place of the cut by which a block has to win."""
 
     allowed: Array
     path: tuple[Cut, ...] = ()
-    forced: dict[int, int] = field(default_factory=dict)
+    forced: dict[int, int] = {}
 
     def without(self, places: Array) -> "Node":
         allowed = self.allowed.copy()
@@ -124,10 +120,6 @@ class Node:
         allowed[places] = self.allowed[places]
         forced = {**self.forced, block: len(self.path)}
         return Node(allowed, self.path + (Cut(places, True),), forced)
-
-    def beyond(self, places: Array) -> "Node":
-        """The side on which one of these columns is 1, whatever their blocks."""
-        return Node(self.allowed, self.path + (Cut(places, True),), self.forced)
 
 
 class Bound:
@@ -172,7 +164,7 @@ class Leaf:
         if last:
             self.add_cut(len(self.cuts) - 1, last)
         for at, cut in enumerate(self.node.path):
-            if not cut.is_high and len(cut.places):
+            if not cut.is_high:
                 self.add_cut(at, max(0, -int(self.reduced[cut.places].min())))
 
     def force(self, block: int, at: int) -> None:
@@ -197,7 +189,7 @@ class Leaf:
         multipliers = Counter({row: number for row, number in of_blocks if row is not None})
         for (row, sign), price in zip(self.layout.shared, self.bound.prices):
             multipliers[row] += sign * price
-        return {place: multipliers[place] for place in sorted(multipliers) if multipliers[place]}
+        return {place: number for place, number in sorted(multipliers.items()) if number}
 
     def fits(self) -> bool:
         """Whether each number is at most 10^18, and the size of the leaf (docs/REFERENCE.md) is below 2^126."""

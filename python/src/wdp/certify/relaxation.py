@@ -9,6 +9,7 @@ most so much of a shared row. Such sets part many columns at once, and lead to f
 the most even ones a few are tried by some steps of the dual simplex, and the one is taken that raises the bounds of both
 sides most.
 """
+import weakref
 from typing import Any, NamedTuple
 
 import numpy as np
@@ -21,8 +22,7 @@ from wdp.certify.layout import Array, Bound, Layout, Node
 UNITS_IN_GAP = 1000
 CAP_IN_GAPS = 20
 MOST_STEPS = MOST_MILLISECONDS = 2**31 - 1
-POSITIVE = 1e-6
-UNDECIDED = 1e-5
+POSITIVE, UNDECIDED = 1e-6, 1e-5
 CANDIDATES, STEPS = 8, 40  # splits that are tried, and steps of the dual simplex for each side
 
 
@@ -32,7 +32,7 @@ class Relaxation:
 
     def __init__(self, bound: Bound, gap: int) -> None:
         layout, core = bound.layout, np.flatnonzero(bound.node.allowed)
-        self.core, self.count, self.gap = core, len(core), gap
+        self.layout, self.core, self.count, self.gap = layout, core, len(core), gap
         self.unit = max(gap, 1) / UNITS_IN_GAP
         self.root_prices, self.base = bound.prices, bound.value
         self.blocks, self.height = len(layout.members), layout.rows.shape[0]
@@ -45,15 +45,12 @@ class Relaxation:
         costs = [*reduced, *(-part for part in bound.parts), *bound.prices]
         in_units = [min(cap, float(cost / self.unit)) for cost in costs]
         self.problem = glpk.glp_create_prob()
+        weakref.finalize(self, glpk.glp_delete_prob, self.problem)
         over = -eye(self.height, len(layout.shared), -self.blocks)
         self.load(hstack([rows, eye(self.height), over], "csc"), layout.sides)
         for column, cost in enumerate(in_units + [cap] * len(layout.shared)):
             glpk.glp_set_obj_coef(self.problem, column + 1, cost)
             self.set_bound(column)
-
-    def __del__(self) -> None:
-        if hasattr(self, "problem"):
-            glpk.glp_delete_prob(self.problem)
 
     def load(self, matrix: Any, right_sides: Array) -> None:
         """Gives the problem to GLPK, with a basis of slacks alone."""
@@ -69,7 +66,6 @@ class Relaxation:
         self.control = glpk.glp_smcp()
         glpk.glp_init_smcp(self.control)
         self.control.msg_lev, self.control.meth = glpk.GLP_MSG_OFF, glpk.GLP_DUALP
-        self.control.presolve = glpk.GLP_OFF
         glpk.glp_std_basis(problem)
         for row, number in enumerate(right_sides.tolist(), 1):
             glpk.glp_set_row_bnds(problem, row, glpk.GLP_FX, number, number)
@@ -81,7 +77,8 @@ class Relaxation:
         kind = glpk.GLP_DB if upper else glpk.GLP_FX
         glpk.glp_set_col_bnds(self.problem, column + 1, kind, 0.0, upper)
 
-    def enter(self, node: Node) -> None:
+    def enter(self, node: Node, basis: list[int] | None = None) -> None:
+        """Takes the bounds of a node, and the basis to start from."""
         upper = self.upper.copy()
         upper[: self.count] = node.allowed[self.core]
         upper[self.count : self.count + self.blocks] = 1
@@ -90,6 +87,13 @@ class Relaxation:
         self.upper = upper
         for column in changed:
             self.set_bound(int(column))
+        wanted = set(basis or ())
+        for variable in wanted.symmetric_difference((basis and self.basis()) or ()):
+            status = glpk.GLP_BS if variable in wanted else glpk.GLP_NL
+            if variable <= self.height:
+                glpk.glp_set_row_stat(self.problem, variable, status)
+            else:
+                glpk.glp_set_col_stat(self.problem, variable - self.height, status)
 
     def solve(
         self, limit: float | None = None, steps: int | None = None, seconds: float = np.inf
@@ -115,17 +119,6 @@ class Relaxation:
             return None
         return [glpk.glp_get_bhead(self.problem, row) for row in range(1, self.height + 1)]
 
-    def restore(self, basis: list[int] | None) -> None:
-        if basis is None:
-            return
-        wanted = set(basis)
-        for variable in wanted.symmetric_difference(self.basis() or []):
-            status = glpk.GLP_BS if variable in wanted else glpk.GLP_NL
-            if variable <= self.height:
-                glpk.glp_set_row_stat(self.problem, variable, status)
-            else:
-                glpk.glp_set_col_stat(self.problem, variable - self.height, status)
-
     def prices(self, scale: int) -> list[int]:
         """The prices of the shared rows at a scale, rounded."""
         shared = range(self.blocks + 1, self.height + 1)
@@ -134,11 +127,7 @@ class Relaxation:
         return [max(0, scale * root + each) for root, each in zip(self.root_prices, more)]
 
     def values(self) -> Array:
-        columns = range(1, self.count + 1)
-        return np.array([glpk.glp_get_col_prim(self.problem, column) for column in columns])
-
-    def points(self, is_one: Array) -> set[int]:
-        return {int(place) for place in self.core[is_one]}
+        return np.array([glpk.glp_get_col_prim(self.problem, at + 1) for at in range(self.count)])
 
     def overstep(self) -> float:
         """By how much the shared rows are overstepped in all."""
@@ -178,20 +167,17 @@ class Split(NamedTuple):
 def candidates(layout: Layout, node: Node, places: Array, values: Array) -> list[Split]:
     """The splits at which the values of these columns are undecided, the most even first."""
     blocks = layout.block_of[places]
-    each = [(int(block), blocks == block) for block in np.unique(blocks)]
-    given = ((block, places[held], values[held]) for block, held in each)
-    found = (split for one in given for split in block_candidates(layout, node, *one))
+    each = (blocks == block for block in np.unique(blocks))
+    found = [s for it in each for s in block_candidates(layout, node, places[it], values[it])]
     return sorted(found, key=lambda split: (-min(split.part, 1 - split.part), len(split.places)))
 
 
-def block_candidates(
-    layout: Layout, node: Node, block: int, places: Array, values: Array
-) -> list[Split]:
+def block_candidates(layout: Layout, node: Node, places: Array, values: Array) -> list[Split]:
     if len(places) == 1 and values[0] > 1 - POSITIVE:
         return []
-    members = layout.members[block]
+    block = int(layout.block_of[places[0]])
+    members, is_forced = layout.members[block], block in node.forced
     members = members[node.allowed[members]]
-    is_forced = block in node.forced
     found: dict[bytes, Split] = {}
 
     def offer(is_held: Array, is_member: Array) -> None:
@@ -213,40 +199,29 @@ def block_candidates(
 
 def halving(layout: Layout, node: Node) -> Split | None:
     """A split of the block that is least settled, whatever a solution says; None if each block is settled."""
-
-    def unsettled(block: int) -> int:
-        return int(node.allowed[layout.members[block]].sum()) - (block in node.forced)
-
-    block = max(range(len(layout.members)), key=unsettled, default=-1)
-    if block < 0 or unsettled(block) <= 0:
+    left = [members[node.allowed[members]] for members in layout.members]
+    unsettled = [len(places) - (block in node.forced) for block, places in enumerate(left)]
+    if max(unsettled, default=0) <= 0:
         return None
-    members = layout.members[block]
-    members = members[node.allowed[members]]
-    return Split(members[: len(members) // 2] if block in node.forced else members, 0.5)
+    block = unsettled.index(max(unsettled))
+    return Split(left[block][: len(left[block]) // 2] if block in node.forced else left[block], 0.5)
 
 
-def sides(layout: Layout, node: Node, split: Split) -> tuple[Node, Node]:
-    """The sides of a split, that without its columns first."""
-    return node.without(split.places), node.within(layout, split.places)
-
-
-def strongest(
-    layout: Layout, task: Visit, splits: list[Split], reached: float, limit: float
-) -> Split:
+def strongest(task: Visit, splits: list[Split], reached: float, limit: float) -> Split:
     """The split whose sides have the greatest product of gains, at a node whose relaxation has reached an objective."""
     node, relaxation, basis = task
 
     def gain(side: Node) -> float:
         """By how much some steps of the dual simplex raise the objective, up to the limit at which the side is shown."""
-        relaxation.enter(side)
-        relaxation.restore(basis)
+        relaxation.enter(side, basis)
         raised = relaxation.solve(limit=limit, steps=STEPS)
         best = reached if raised is None else min(limit, raised)
         return max(1e-9, best - reached)
 
     best, best_score = splits[0], -1.0
     for split in splits[:CANDIDATES]:
-        gains = [gain(side) for side in sides(layout, node, split)]
+        both = node.without(split.places), node.within(relaxation.layout, split.places)
+        gains = [gain(side) for side in both]
         if gains[0] * gains[1] > best_score:
             best, best_score = split, gains[0] * gains[1]
         if min(gains) >= (limit - reached) * 0.9999:

@@ -12,9 +12,9 @@ from typing import NoReturn
 import numpy as np
 
 from wdp.certify import Say
-from wdp.certify.layout import Bound, Layout, Leaf, Node
+from wdp.certify.layout import Bound, Cut, Layout, Leaf, Node
 from wdp.certify.relaxation import POSITIVE, Relaxation, Split, Visit, candidates, halving
-from wdp.certify.relaxation import root_prices, sides, strongest
+from wdp.certify.relaxation import root_prices, strongest
 from wdp.texts.refusals import Refused
 from wdp.texts.zero_one import AT_MOST, Row, ZeroOne
 
@@ -145,7 +145,7 @@ class Search:
     def try_promising(self, bound: Bound) -> None:
         """Searches the columns that are nearest to the choice of their blocks: a good point makes the gap small."""
         reduced, columns = bound.reduced(), self.program.columns
-        places = set(self.ones | self.layout.fixed_ones)
+        places = self.ones | self.layout.fixed_ones
         for members in self.layout.members:
             nearest = members[np.argsort(reduced[members], kind="stable")[:PROMISING]]
             places.update(map(int, nearest))
@@ -164,11 +164,10 @@ class Search:
         """Settles one block after the other as the relaxation has it; whether this finds a better point."""
         for _ in self.layout.members:
             values = relaxation.values()
-            if self.try_point(relaxation.points(values > 1 - POSITIVE)):
+            if self.try_point(set(relaxation.core[values > 1 - POSITIVE].tolist())):
                 return True
             left = np.where((values > POSITIVE) & (values < 1 - POSITIVE), values, 0)
-            is_late = self.elapsed() >= self.seconds
-            if not left.any() or relaxation.overstep() > POSITIVE or is_late:
+            if not left.any() or relaxation.overstep() > POSITIVE or self.elapsed() >= self.seconds:
                 break
             node = node.within(self.layout, relaxation.core[[left.argmax()]])
             relaxation.enter(node)
@@ -184,8 +183,9 @@ class Search:
         places = np.flatnonzero(allowed & (reduced > bound.gap(self.least)))
         if not len(places) or len(places) < part * allowed.sum():
             return bound.node
-        # the same prices show the second side
-        second = Leaf(bound, bound.node.beyond(places), int(reduced[places].min()))
+        # the same prices show the second side, on which one of them is 1, whatever their blocks
+        beyond = bound.node._replace(path=(*bound.node.path, Cut(places, True)))
+        second = Leaf(bound, beyond, int(reduced[places].min()))
         if not second.fits():
             return bound.node
         self.lines.append("split 0 " + " ".join(self.layout.names[places]))
@@ -197,8 +197,7 @@ class Search:
         if any(not node.allowed[self.layout.members[block]].any() for block in node.forced):
             nothing = [0] * len(self.layout.shared)
             return self.have_to_write(Leaf(Bound(self.layout, node, 0, nothing)))
-        relaxation.enter(node)
-        relaxation.restore(basis)
+        relaxation.enter(node, basis)
         limit = relaxation.units(self.least - 1)
         stop = limit + abs(limit) * 1e-4 + 1e-6
         reached = relaxation.solve(limit=stop, seconds=self.seconds_left())
@@ -214,8 +213,9 @@ class Search:
         layout, fixed, basis = self.layout, node, relaxation.basis()
         if relaxation.overstep() < 1e-7:
             fixed = self.fix(Bound(layout, node, 1, relaxation.prices(1)), NODE_PART)
-        is_less = fixed.allowed.sum() < SHRINKS_AT * relaxation.count
-        is_smaller = is_less and relaxation.count > SMALL
+        is_smaller = (
+            relaxation.count > SMALL and fixed.allowed.sum() < SHRINKS_AT * relaxation.count
+        )
         if is_smaller:
             bound = Bound(layout, Node(fixed.allowed), 1, relaxation.root_prices)
             relaxation, basis = Relaxation(bound, relaxation.gap), None
@@ -231,8 +231,8 @@ class Search:
         splits = candidates(layout, node, relaxation.core[held], values[held])
         if reached is not None and splits:
             limit = relaxation.units(self.least - 1)
-            return self.split(task, strongest(layout, task, splits, reached, limit))
-        self.try_point(relaxation.points(values > 0.5))
+            return self.split(task, strongest(task, splits, reached, limit))
+        self.try_point(set(relaxation.core[values > 0.5].tolist()))
         if half := halving(layout, node):
             self.split(task, half)
         else:
@@ -240,7 +240,7 @@ class Search:
 
     def split(self, task: Visit, split: Split) -> None:
         self.lines.append("split 0 " + " ".join(self.layout.names[split.places]))
-        low, high = sides(self.layout, task.node, split)
+        low, high = task.node.without(split.places), task.node.within(self.layout, split.places)
         self.tasks += [task._replace(node=high), task._replace(node=low)]
 
     def settle(self, node: Node) -> None:
@@ -248,7 +248,7 @@ class Search:
         places = np.flatnonzero(node.allowed)
         taken = [sum(map(int, loads)) for loads in self.layout.loads[places].T]
         is_broken = [int(load > right) for load, right in zip(taken, self.layout.right_sides)]
-        self.try_point(set(map(int, places)))
+        self.try_point(set(places.tolist()))
         self.have_to_write(Leaf(Bound(self.layout, node, int(not any(is_broken)), is_broken)))
 
     def try_point(self, places: set[int]) -> bool:
