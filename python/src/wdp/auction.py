@@ -25,6 +25,7 @@ from wdp.office.choices import checked
 from wdp.office.faults import counted
 from wdp.program import Limits, answer, found_program
 from wdp.publish import command as publishing
+from wdp.steps import Step, Watch
 from wdp.texts import accepted, answers
 from wdp.texts.parts import MOST_OF_INPUT, groups_in, parts_of, with_groups
 from wdp.texts.refusals import NotSolved, Refused, WrongWords, need
@@ -60,9 +61,7 @@ def part(head: str, *texts: bytes) -> bytes:
     return b"".join(b"%" + head.encode() + b"\n" + text for text in texts)
 
 
-def in_processes(
-    work: Mapping[str, steps.Step], jobs: int = 1, watch: steps.Watch | None = None
-) -> int:
+def in_processes(work: Mapping[str, Step], jobs: int = 1, watch: Watch | None = None) -> int:
     """Does steps by their names, each in a process of its own, and says why one failed; the status of the first that did."""
     named = {name: partial(reported, say, name, step) for name, step in work.items()}
     ended = steps.run(named, jobs, watch)
@@ -72,7 +71,7 @@ def in_processes(
     return next((max(status, 1) for status in ended.values() if status), 0)
 
 
-def progress(count: int, left: int) -> steps.Watch:
+def progress(count: int, left: int) -> Watch:
     """Prints how far a run is: one line that is renewed at a terminal, few lines elsewhere."""
     printed = time.monotonic()
 
@@ -140,9 +139,7 @@ class Run(Folder):
                 hint = f"wdp-office explain {path} prints what is wrong"
                 raise Refused(f"{refused}; {hint}") from None
             if groups_in(text)[:1] != ["-"]:
-                first = "the first line of %groups has to be `-`"
-                why = "since costs are measured against the winners among all bidders"
-                raise Refused(f"group 1 is not empty: {first}, {why}")
+                raise Refused("group 1 is not empty: the first line of %groups has to be `-`")
             printed.seek(0)
             for is_head, lines in groupby(printed, lambda line: line.startswith(b"* program ")):
                 if is_head:
@@ -153,9 +150,8 @@ class Run(Folder):
             self.leave(NAMES, "".join(name + "\n" for name in names).encode())
 
     def log_of(self, name: int | str) -> Path:
-        log = self.path(f"logs/{name}.txt").absolute()
-        log.parent.mkdir(exist_ok=True)
-        return log
+        self.path("logs").mkdir(exist_ok=True)
+        return self.path(f"logs/{name}.txt").absolute()
 
     def answer(self, group: int, program: bytes) -> bytes:
         """The solver's answer to a group's program: a point of it. Without certificates a solution counts as one."""
@@ -163,8 +159,7 @@ class Run(Folder):
         if not self.has(name) and self.has(solution) and not self.is_certified:
             self.leave(name, self.read(solution))
         elif not self.has(name):
-            point = solve.point_of(program, self.solver, self.seconds, self.log_of(group))
-            self.leave(name, point)
+            self.leave(name, solve.point_of(program, self.solver, self.seconds, self.log_of(group)))
         return self.read(name)
 
     def settle(self, group: int) -> None:
@@ -198,8 +193,7 @@ class Run(Folder):
         """What the winners pay, with what shows it, and the groups that are added for it."""
         names = {**self.names(), **self.added()}
         solutions, listed = [self.read(of_group("solution", k)) for k in names], [*names.values()]
-        program = self.read(of_group("program", 1))
-        award = prices.Award(self.read(INPUT), program, solutions, listed)
+        award = prices.Award(self.read(INPUT), self.read(of_group("program", 1)), solutions, listed)
         how = self.solver, self.seconds, steps.ended_at_once, self.log_of("prices")
         more, parts = award.priced(*how)
         added = listed[len(self.names()) :] + more
@@ -212,16 +206,11 @@ class Run(Folder):
         points = [name if self.has(name) else name.replace("solution", "answer") for name in points]
         text = part("solution", *map(self.read, points)) + data
         report, said = publishing.judged(self.program, "report", text)
-        if not self.is_certified:
-            if fault := publishing.disproved(said):
-                raise NotSolved(fault, WRONG)
-            if self.page is not None:
-                self.publish(data, report, None)
-            self.leave(UNCERTIFIED, report)
-            return
-        audit = self.audit(data, groups)
+        if not self.is_certified and (fault := publishing.disproved(said)):
+            raise NotSolved(fault, WRONG)
+        audit = self.audit(data, groups) if self.is_certified else None
         self.publish(data, report, audit)
-        made = {AUDIT: audit, REPORT: report}
+        made = {UNCERTIFIED: report} if audit is None else {AUDIT: audit, REPORT: report}
         if not all(self.has(name) and self.read(name) == text for name, text in made.items()):
             for name in (REPORT, UNCERTIFIED, AUDIT):
                 self.path(name).unlink(missing_ok=True)
@@ -285,8 +274,7 @@ class Run(Folder):
         while True:
             added = self.added()
             if len(self.names()) + len(added) > prices.MOST_GROUPS:
-                most = f"more than {prices.MOST_GROUPS:,} groups"
-                say(f"no prices: with each winner alone there are {most}")
+                say(f"no prices: more than {prices.MOST_GROUPS:,} groups, with each winner alone")
                 return 1
             status = in_processes({"prices": partial(self.compile, list(added.values()))})
             if status or not self.solved(added):
@@ -301,6 +289,8 @@ class Run(Folder):
         """Does all that isn't done yet; the status of the whole."""
         if not self.is_certified and self.has(REPORT):
             raise Refused(f"{self.path(REPORT)} is certified; --no-certify needs another folder")
+        if self.page is not None:
+            self.keep_page(self.page)
         if status := in_processes({"": self.compile}):
             return status
         if not self.solved(self.names()):
@@ -330,19 +320,17 @@ class Run(Folder):
     def in_place(self, data: bytes | None = None, step: str | None = None) -> int:
         """Does all, or one step, in the folder, which stays."""
         if not self.where.is_dir():
-            makes = "--input FILE makes it and puts the input there"
-            raise Refused(f"{self.where} is no folder; {makes}")
+            raise Refused(f"{self.where} is no folder; --input FILE makes it, with the input")
         if step:
             with self.locked(alone=False):
                 return self.one_step(step)
         with self.locked(alone=True), self.scratch():
             self.take_input(data)
-            self.keep_page()
             return self.through()
 
-    def keep_page(self) -> None:
+    def keep_page(self, page: dict[str, str | None]) -> None:
         """Title and currency stay as they were if nothing is said of them."""
-        path, there, page = str(self.path(PAGE)), None, self.page or {}
+        path, there = str(self.path(PAGE)), None
         with contextlib.suppress(OSError, ValueError, RecursionError):
             there = json.loads(files.read(path, 100_000, regular=True))
         for name, longest in publishing.LONGEST.items():
@@ -360,17 +348,14 @@ class Run(Folder):
             return self.priced() if self.is_priced else 0
         if name == "report":
             # (what a step was killed before it had all of it, as `unique.txt`, is made first)
-            self.keep_page()
             return self.through()
         if name.isdigit() and int(name) in {**self.names(), **self.added()}:
             return in_processes({f"group {name}": partial(self.settle, int(name))})
         raise WrongWords(f"there is no step {name}")
 
-    def without_folder(
-        self, take: Callable[[], None], name: str, give: Callable[[bytes], None] | None
-    ) -> int:
+    def without_folder(self, take: Step, name: str | None, path: str | None = None) -> int:
         """The same in a temporary folder, of which nothing is left: the process that waits takes it away, and the one that works
-        if the first one is killed. `take` gives it the input, and `give` gets the file that was asked for.
+        if the first one is killed. `take` gives it the input, and its file of this name goes to the path, or standard output.
         """
 
         def in_place() -> int:
@@ -379,8 +364,8 @@ class Run(Folder):
                 take()
                 with self.scratch():
                     status = self.through()
-                if give and self.has(name):
-                    give(self.read(name))
+                if name and self.has(name):
+                    files.put(self.read(name), path)
                 return status
             finally:
                 shutil.rmtree(self.where, ignore_errors=True)
@@ -451,8 +436,7 @@ def run_of(given: argparse.Namespace, folder: Path | None, shows: Callable[[str]
     where = folder or Path(tempfile.gettempdir(), "auction." + secrets.token_hex(8))
     page = {"title": given.title, "currency": given.currency} if folder else None
     how = given.time_limit, given.jobs, given.quiet, given.is_certified, given.is_only
-    is_priced = given.is_certified and given.is_priced
-    return Run(where, program, solver, *how, is_priced, page, shows)
+    return Run(where, program, solver, *how, given.is_certified and given.is_priced, page, shows)
 
 
 def run(given: argparse.Namespace) -> int:
@@ -462,9 +446,8 @@ def run(given: argparse.Namespace) -> int:
     if not given.folder:
         if given.step or given.input not in (None, "-") or given.title or given.currency:
             raise WrongWords("--input FILE, --title, --currency and --step go with DIR")
-        name = REPORT if own.is_certified else UNCERTIFIED
         take: Callable[[], None] = lambda: own.take_input(files.read("-", MOST_OF_INPUT))
-        return own.without_folder(take, name, files.put)
+        return own.without_folder(take, REPORT if own.is_certified else UNCERTIFIED)
     data = files.read(given.input, MOST_OF_INPUT) if given.input else None
     if data is not None:
         given.folder.mkdir(parents=True, exist_ok=True)
@@ -479,5 +462,4 @@ def run_prices(given: argparse.Namespace) -> int:
             raise WrongWords("--output goes with an audit; a folder keeps its own")
         return own.in_place()
     audit = files.read(str(given.award), publishing.MOST_OF_AN_AUDIT)
-    give = partial(files.put, path=given.output) if given.output else None
-    return own.without_folder(partial(own.take_audit, audit), AUDIT, give)
+    return own.without_folder(partial(own.take_audit, audit), given.output and AUDIT, given.output)

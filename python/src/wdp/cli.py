@@ -79,8 +79,7 @@ def parsed(words: list[str]) -> argparse.Namespace:
         raise SystemExit(WRONG_WORDS)
     parser = tree(first if first in COMMANDS else "")
     if not words:
-        files.tell(parser.format_help())
-        raise SystemExit(WRONG_WORDS)
+        parser.exit(WRONG_WORDS, parser.format_help())
     parser.prog = f"{NAME} {first}" if first in COMMANDS else NAME
     return parser.parse_args(words)
 

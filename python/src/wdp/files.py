@@ -100,9 +100,7 @@ def hidden_beside(path: str) -> str:
     return os.path.join(os.path.dirname(os.path.realpath(path)), WRITING + secrets.token_hex(8))
 
 
-def write_folder(
-    folder: str, texts: Mapping[str, bytes], ours: Iterable[str] | None = None
-) -> None:
+def write_folder(folder: str, texts: Mapping[str, bytes], ours: Iterable[str] = ()) -> None:
     """Writes a folder with these files, all or none, in the place of one that has no others than `ours`, by default these."""
     with at(folder):
         there = os.listdir(folder) if os.path.lexists(folder) else []

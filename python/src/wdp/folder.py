@@ -82,13 +82,12 @@ class Folder:
         with open(number, "rb") as lock:
             files.check_kind(path, os.fstat(number))
             while True:
-                try:
+                with contextlib.suppress(BlockingIOError):
                     fcntl.flock(lock, kind | fcntl.LOCK_NB)
                     break
-                except BlockingIOError:
-                    if time.monotonic() > last:
-                        raise Refused(f"another run works in {self.where}") from None
-                    time.sleep(0.05)
+                if time.monotonic() > last:
+                    raise Refused(f"another run works in {self.where}")
+                time.sleep(0.05)
             yield
 
     @contextlib.contextmanager

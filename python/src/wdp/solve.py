@@ -30,7 +30,6 @@ PLACE = re.compile(r"\{([^{}]*)\}")  # of these files, and of the `seconds`
 CBC = "cbc {free} -sec {seconds} -timeMode elapsed -solve -solu {out}"
 CBC_LINE = re.compile(r"(?:\*\*)? *[0-9]+ +(\S+) +(\S+) +\S+ *")
 LONGEST_GRACE = 25  # seconds by which a solver may overstep its limit
-LONGEST = 200  # signs of a solver's words that a message has
 
 
 def checked_solver(solver: str | None) -> str:
@@ -109,7 +108,7 @@ def answer_of(text: bytes, solver: str, limit: float | None, folder: Path, log: 
     limits = Limits(MOST_OF_ANSWER, late, signal.SIGTERM)
     with open(log, "wb+") as printed:
         ended = ran(guarded, b"", limits, printed, printed, folder)
-    said = ended.last_line[:LONGEST] or "it printed nothing"
+    said = ended.last_line or "it printed nothing"
     if ended.status is None:
         raise NotSolved(f"{name} overstepped its limit of {seconds} s and was ended", TIME_OUT)
     if ended.status == -signal.SIGXFSZ:
@@ -134,16 +133,13 @@ def free_text(text: bytes) -> bytes:
 def of_cbc(answer: bytes) -> bytes:
     heading, *lines = answer.decode(errors="replace").splitlines() or [""]
     if "no integer solution" in heading:
-        raise NotSolved(f"cbc has no solution yet: {heading[:LONGEST]}", TIME_OUT)
+        raise NotSolved(f"cbc has no solution yet: {heading}", TIME_OUT)
     if heading.startswith(("Infeasible", "Unbounded", "Integer infeasible")):
-        raise NotSolved(f"cbc found no solution: {heading[:LONGEST]}", NO_POINT)
-    made = []
-    for line in lines:
-        found = CBC_LINE.fullmatch(line)
-        if not found:
-            raise Refused(f"cbc's answer has a line that isn't understood: {line[:LONGEST]}")
-        made.append(f"{found[1]} {found[2]}\n".encode())
-    return b"".join(made)
+        raise NotSolved(f"cbc found no solution: {heading}", NO_POINT)
+    found = [CBC_LINE.fullmatch(line) for line in lines]
+    if None in found:
+        raise Refused(f"cbc's answer has a line that isn't understood: {lines[found.index(None)]}")
+    return "".join(f"{each[1]} {each[2]}\n" for each in found if each).encode()
 
 
 def by_highs(program: ZeroOne, seconds: float | None) -> set[int]:
