@@ -213,9 +213,8 @@ class Search:
         layout, fixed, basis = self.layout, node, relaxation.basis()
         if relaxation.overstep() < 1e-7:
             fixed = self.fix(Bound(layout, node, 1, relaxation.prices(1)), NODE_PART)
-        is_smaller = (
-            relaxation.count > SMALL and fixed.allowed.sum() < SHRINKS_AT * relaxation.count
-        )
+        left = fixed.allowed.sum()
+        is_smaller = relaxation.count > SMALL and left < SHRINKS_AT * relaxation.count
         if is_smaller:
             bound = Bound(layout, Node(fixed.allowed), 1, relaxation.root_prices)
             relaxation, basis = Relaxation(bound, relaxation.gap), None
