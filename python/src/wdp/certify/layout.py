@@ -171,9 +171,8 @@ class Leaf:
         """The columns within the cut pay for it, and the block's row for those outside."""
         members, part = self.layout.members[block], self.bound.parts[block]
         outside = np.setdiff1d(members, self.node.path[at].places)
-        row = 0
-        if self.layout.block_rows[block] is not None:
-            row = max(0, -part, -int(self.bound.priced[outside].min(initial=0)))
+        least = int(self.bound.priced[outside].min(initial=0))
+        row = 0 if self.layout.block_rows[block] is None else max(0, -part, -least)
         self.reduced[members] += row - self.blocks[block]
         self.blocks[block] = row
         self.add_cut(at, max(0, part + row))

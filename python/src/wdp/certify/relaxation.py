@@ -96,11 +96,10 @@ class Relaxation:
                 glpk.glp_set_col_stat(self.problem, variable - self.height, status)
 
     def solve(
-        self, limit: float | None = None, steps: int | None = None, seconds: float = np.inf
+        self, limit: float = 1.7e308, steps: int = MOST_STEPS, seconds: float = np.inf
     ) -> float | None:
         """The least objective in units above `base`, None if GLPK fails. It may stop above `limit`."""
-        self.control.obj_ul = 1.7e308 if limit is None else limit
-        self.control.it_lim = steps or MOST_STEPS
+        self.control.obj_ul, self.control.it_lim = limit, steps
         self.control.tm_lim = int(max(1, min(MOST_MILLISECONDS, 1000 * seconds)))
         for _ in range(3):
             status = glpk.glp_simplex(self.problem, self.control)
