@@ -45,8 +45,10 @@ def add_words(parser: argparse.ArgumentParser) -> None:
     allow = partial(add, metavar="NAMES", type=names, action="extend", default=[])
     allow("--allow-missing", help="these bidders have no form; separate names by commas")
     allow("--allow-empty", help="these bidders' forms have no bid; separate names by commas")
-    allow("--allow-unended", help="these forms, rules or groups are complete without a line end")
-    add("--expect", metavar="COUNTS", type=path, help="a file of rows `bidder,bids` for the forms")
+    ends = "the forms of these bidders, `rules` or `groups` are complete without a last line end"
+    allow("--allow-unended", help=ends)
+    rows = "a file of rows `bidder,bids`: how many bids each form must have"
+    add("--expect", metavar="COUNTS", type=path, help=rows)
     add("--sheet", metavar="NAME", type=path, help="the sheet of each workbook, else the first")
 
 

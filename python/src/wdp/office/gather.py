@@ -33,7 +33,8 @@ def add_words(parser: argparse.ArgumentParser) -> None:
     add("rules", metavar="RULES", help="the file of the rules")
     add("forms", metavar="FORMS_DIR", help="the folder with the bidders' forms")
     add("groups_file", metavar="GROUPS", nargs="?", help="the file of the groups")
-    rule = "in place of GROUPS: each (bidder alone), or winners FILE (of a report, each alone)"
+    winners = "each winner of FILE's first group, a report or what `wdp map` prints"
+    rule = f"in place of GROUPS: nobody, then each (bidder alone), or winners FILE ({winners})"
     add("--groups", nargs="+", metavar="RULE", default=[], help=rule)
     add("--output", metavar="FILE", type=choices.path, help="write the input to this file")
     add("--receipt", metavar="FILE", type=choices.path, help="write the receipt to this file too")
