@@ -67,6 +67,7 @@ class Relaxation:
         glpk.glp_init_smcp(self.control)
         self.control.msg_lev, self.control.meth = glpk.GLP_MSG_OFF, glpk.GLP_DUALP
         glpk.glp_std_basis(problem)
+        self.is_new = True
         for row, number in enumerate(right_sides.tolist(), 1):
             glpk.glp_set_row_bnds(problem, row, glpk.GLP_FX, number, number)
             glpk.glp_set_row_stat(problem, row, glpk.GLP_NS)
@@ -100,6 +101,9 @@ class Relaxation:
     ) -> float | None:
         """The least objective in units above `base`, None if GLPK fails. It may stop above `limit`."""
         self.control.obj_ul, self.control.it_lim = limit, steps
+        # slacks alone meet the rows, but some cost too much: the primal simplex is the way from them
+        self.control.meth = glpk.GLP_PRIMAL if self.is_new else glpk.GLP_DUALP
+        self.is_new = False
         self.control.tm_lim = int(max(1, min(MOST_MILLISECONDS, 1000 * seconds)))
         for _ in range(3):
             status = glpk.glp_simplex(self.problem, self.control)
