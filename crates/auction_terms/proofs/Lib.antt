@@ -1,5 +1,6 @@
 pub mod PowerFacts
 pub mod FoldingFacts
+pub mod FractionFacts
 pub mod TokenFacts
 pub mod ShortNumberFacts
 pub mod FirstFieldFacts

@@ -8,6 +8,7 @@ pub mod Stages
 pub mod Records
 pub mod Names
 pub mod Numbers
+pub mod Fractions
 pub mod Terms
 pub mod RulesText
 pub mod RulesFields

@@ -40,5 +40,8 @@ pub const GREATEST_WEIGHT: u64 = 10_000;
 /// The most faults that are kept of a text, or of an input; others are counted.
 pub const MOST_FAULTS: usize = 10_000;
 
+/// How many parts of a pound prices may be whole in.
+pub const MOST_PARTS: u64 = 1_000_000;
+
 /// The most bytes of a text of rules, a form or groups.
 pub const TEXT_LIMIT: usize = 4 * 1024 * 1024;
