@@ -1,18 +1,22 @@
--- A certificate judged after the split from a point bounds all others.
+-- A certificate judged after the splits from points bounds all others.
 use Rattle.std.proofs.Common.{◌≡◌, ℕ, zero, suc, ◌+◌, Bool, true, false, cond, List, [], ◌∷◌, ◌++◌, Some, slice_get}
-use Rattle.std.proofs.Common.{slice_index_or, drop, refl, sym, ap, ap₂, ◌∙◌, arith, ℤ, pos, neg_ℤ, ◌+ℤ◌, ◌≤ℤ◌}
-use Rattle.std.specs.Prelude.{◌&&◌, if◌then◌else◌}
+use Rattle.std.proofs.Common.{slice_index_or, drop, refl, sym, ap, ap₂, subst, ◌∙◌, arith, map, inl, inr, ⊎_elim, ℤ, pos, neg_ℤ, ◌+ℤ◌, ◌≤ℤ◌}
+use Rattle.std.specs.Prelude.{◌&&◌, ◌⊎◌, Contains, if◌then◌else◌}
+use Rattle.std.specs.List.{AllByRecursion}
 use Rattle.std.specs.Option.{option_map}
 use Rattle.std.proofs.lemmas.Int.{ints}
+use Rattle.std.proofs.lemmas.List.{reverse-append}
+use Rattle.std.proofs.lemmas.List.Elements.{recursion_from_All}
 use Rattle.program_rows.specs.declared.bounds.Bounds.{Bounds}
 use Rattle.program_rows.specs.declared.bounds.Bounds.TheVariants.{ZeroOrOne, Zero, One}
-use Rattle.program_rows.specs.Program.{TableColumn}
-use Rattle.program_rows.specs.Points.{AreAllowed, allows, objective, sum_at_one}
+use Rattle.program_rows.specs.Program.{Table, TableColumn}
+use Rattle.program_rows.specs.Points.{AreAllowed, IsPoint, allows, objective, sum_at_one}
 use Rattle.optimality.specs.Branches.{cuts_above}
-use Rattle.optimality.specs.Certificates.{Form, side}
+use Rattle.optimality.specs.Certificates.{Cut, Form, side}
 use Rattle.optimality.specs.inside.Certificates.{form_sum}
-use Rattle.optimality.specs.Only.{is_zero_or_one, distance, free_ones, all_others, ShownIsOnly}
-use Rattle.optimality.proofs.BoundFacts.{negated-sum, shown-within}
+use Rattle.optimality.specs.Only.{is_zero_or_one, distance, free_ones, all_but, all_others, one_above, ShownIsOnly}
+use Rattle.optimality.proofs.BoundFacts.{IsWithin, negated-sum, shown-within}
+use Rattle.optimality.proofs.BranchFacts.{cuts-last}
 
 -- ---------- how far values are from others ----------
 
@@ -77,22 +81,48 @@ not-apart _ _ _ h i e = absurd i
 
 -- ---------- the law ----------
 
+module _ (p : Table) (values : List Bool) (h : IsPoint p values) where
+  -- on the side of all others in the split from these values
+  abbrev IsBeyond : List Bool → Type 0
+  IsBeyond listed = form_sum (side true (distance 0 p.columns listed) (pos 0)).form values ≤ℤ neg_ℤ (neg_ℤ (pos (free_ones p.columns listed)) +ℤ pos 1)
+
+  beyond : (listed : List Bool) → IsPoint p listed → (values ≡ listed) ⊎ IsBeyond listed
+  beyond listed point = by (apart p.columns listed values) refl
+    where
+      by : (d : ℕ) → apart p.columns listed values ≡ d → (values ≡ listed) ⊎ IsBeyond listed
+      by zero e = inl (not-apart p.columns listed values point.allowed h.allowed e)
+      by (suc d) e =
+          let s : ℤ = form_sum (distance 0 p.columns listed) values in
+          let n : ℕ = free_ones p.columns listed in
+          let sum : s +ℤ pos n ≡ pos (apart p.columns listed values) = measured values 0 p.columns listed values point.allowed h.allowed
+          (λ k m e. ap (λ (i : ℕ). slice_index_or values i false) (let t : m ≡ k = omega arith in t)) in
+          let far : s +ℤ pos n ≡ pos (suc d) = sum ∙ ap (λ (i : ℕ). pos i) e in
+          inr (rw (negated-sum (distance 0 p.columns listed) values) (omega (arith, ints)))
+
+  -- the values are among these, or on that side of each split
+  among-or-beyond : (listed : List (List Bool)) → AllByRecursion (IsPoint p) listed → Contains listed values ⊎ AllByRecursion IsBeyond listed
+  among-or-beyond [] points = inr tt
+  among-or-beyond (v ∷ listed) points = ⊎_elim
+      (λ same. inl (0, omega arith, sym same))
+      (λ here. ⊎_elim (λ c. inl (suc c.0, (let l = c.1 in omega arith), c.2)) (λ others. inr (here, others)) (among-or-beyond listed points.1))
+      (beyond v points.0)
+
+  within : (listed : List (List Bool)) → AllByRecursion IsBeyond listed → IsWithin (cuts_above (all_but p listed)) values
+  within [] far = tt
+  within (v ∷ listed) far = subst (λ (cuts : List Cut). IsWithin cuts values)
+      (sym (ap cuts_above (reverse-append (all_others p v ∷ []) (map (all_others p) listed)) ∙ cuts-last (all_but p listed) true
+      (distance 0 p.columns v) (neg_ℤ (pos (free_ones p.columns v)))))
+      (far.0, within listed far.1)
+
 pub shown-is-only : ShownIsOnly
-shown-is-only p values certificate point shows others h lower = by (apart p.columns values others) refl
-  where
-    by : (d : ℕ) → apart p.columns values others ≡ d → others ≡ values
-    by zero e = not-apart p.columns values others point.allowed h.allowed e
-    by (suc d) e =
-        let s : ℤ = form_sum (distance 0 p.columns values) others in
-        let n : ℕ = free_ones p.columns values in
-        let sum : s +ℤ pos n ≡ pos (apart p.columns values others) = measured others 0 p.columns values others point.allowed h.allowed
-        (λ k m e. ap (λ (i : ℕ). slice_index_or others i false) (let t : m ≡ k = omega arith in t)) in
-        let far : s +ℤ pos n ≡ pos (suc d) = sum ∙ ap (λ (i : ℕ). pos i) e in
-        let within : form_sum (side true (distance 0 p.columns values) (neg_ℤ (pos n))).form others ≤ℤ neg_ℤ (neg_ℤ (pos n) +ℤ pos 1) =
-        rw (negated-sum (distance 0 p.columns values) others) (omega (arith, ints)) in
-        let above : (objective p values +ℤ pos 1) ≤ℤ objective p others =
-        shown-within p (objective p values +ℤ pos 1) (cuts_above (all_others p values ∷ [])) certificate others shows h (within, tt) in
-        absurd (omega (arith, ints))
+shown-is-only p first others certificate point points shows values h lower = ⊎_elim
+    (λ among. among)
+    (λ far.
+    let above : (objective p first +ℤ pos 1) ≤ℤ objective p values =
+    shown-within p (one_above p first) (cuts_above (all_but p (first ∷ others))) certificate values shows h
+    (within p values h (first ∷ others) far) in
+    absurd (omega (arith, ints)))
+    (among-or-beyond p values h (first ∷ others) (point, recursion_from_All (IsPoint p) others points))
 
 -- ---------- column by column ----------
 

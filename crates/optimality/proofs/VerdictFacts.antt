@@ -1,8 +1,9 @@
 -- A text has no fault if and only if it describes a certificate that shows least.
 use Rattle.std.proofs.Common.{◌≡◌, ℕ, suc, Bool, true, false, cond, List, [], ◌∷◌, ◌++◌, Option, Some, None, Result, Ok}
-use Rattle.std.proofs.Common.{Err, length, refl, sym, subst, ◌∙◌, arith, ℤ, pos, ◌+ℤ◌, inl, inr}
-use Rattle.std.specs.Prelude.{OnOk, IfErr, not, ◌↔◌, ◌⊎◌, ◌<ℤ◌, ◌*ℤ◌, ◌-ℤ◌, int_lt, if◌then◌else◌, bytes_eq, codes}
-use Rattle.std.specs.List.{list_all}
+use Rattle.std.proofs.Common.{Err, length, map, refl, sym, subst, ◌∙◌, arith, ℤ, pos, neg_ℤ, inl, inr}
+use Rattle.std.proofs.lemmas.List.{length-map, length-reverse, reverse-append}
+use Rattle.std.specs.Prelude.{⊤, OnOk, IfErr, not, ◌↔◌, ◌⊎◌, ◌<ℤ◌, ◌*ℤ◌, ◌-ℤ◌, int_lt, if◌then◌else◌, bytes_eq, codes}
+use Rattle.std.specs.List.{AllByRecursion, list_all}
 use Rattle.std.specs.Option.{ok_or}
 use Rattle.std.proofs.lemmas.Int.{ints}
 use Rattle.auction_terms.specs.Lines.{lines_of}
@@ -26,8 +27,7 @@ use Rattle.optimality.proofs.LineFacts.{line_by_word}
 use Rattle.optimality.specs.CertificateText.{TellsCertificate, IsShownBy}
 use Rattle.optimality.specs.Branches.{Branch, At, cuts_above, closed}
 use Rattle.optimality.specs.Verdict.{taken, fault_from, certificate_fault}
-use Rattle.optimality.specs.Only.{all_others, only_fault, IsShownOnlyBy}
-use Rattle.program_rows.specs.Points.{objective}
+use Rattle.optimality.specs.Only.{all_but, all_others, distance, free_ones, one_above, only_fault, IsShownOnlyBy}
 
 -- ---------- what lines still have to tell ----------
 
@@ -235,12 +235,47 @@ verdict p least text =
       (λ h. all.1 (h.0, [], h.1, h.2, refl)),
     )
 
--- the same after the split from a point
-pub only-verdict : (p : Table) (values : List Bool) (text : List ℕ) → (only_fault p values text ≡ None) ↔ IsShownOnlyBy p values text
-only-verdict p values text =
-    let all = stands p (objective p values +ℤ pos 1) (lines_of text) (Some (all_others p values ∷ [])) 0 in (
-      (λ h. let a = all.0 h in (a.0, subst (λ (left : List (List ℕ)). TellsCertificate p 1 a.0 (certificate_lines (lines_of text)) left) a.4 a.2, a.3)),
-      (λ h. all.1 (h.0, [], h.1, h.2, refl)),
+abbrev IsSecond : Branch → Type 0
+IsSecond (At true form most) = ⊤
+IsSecond (At false form most) = ⊥
+
+seconds-more : (branches : List Branch) (form : Form) (most : ℤ) → AllByRecursion IsSecond branches → AllByRecursion IsSecond (branches ++ At true form most ∷ [])
+seconds-more [] form most h = (tt, tt)
+seconds-more (b ∷ branches) form most h = (h.0, seconds-more branches form most h.1)
+
+seconds : (p : Table) (listed : List (List Bool)) → AllByRecursion IsSecond (all_but p listed)
+seconds p [] = tt
+seconds p (v ∷ listed) = subst (λ (bs : List Branch). AllByRecursion IsSecond bs) (sym (reverse-append (all_others p v ∷ []) (map (all_others p) listed)))
+    (seconds-more (all_but p listed) (distance 0 p.columns v) (neg_ℤ (pos (free_ones p.columns v))) (seconds p listed))
+
+-- nothing is to come after the second sides of splits
+nothing-left : (p : Table) (least : ℤ) (branches : List Branch) (lines : List (List ℕ)) → AllByRecursion IsSecond branches
+    → Completes p least branches lines ↔ (lines ≡ [])
+nothing-left p least [] lines h = (λ e. e, λ e. e)
+nothing-left p least (At true form most ∷ branches) lines h = nothing-left p least branches lines h.1
+nothing-left p least (At false form most ∷ branches) lines h = absurd h.0
+
+-- the same after the splits from points
+pub only-verdict : (p : Table) (first : List Bool) (others : List (List Bool)) (text : List ℕ)
+    → (only_fault p first others text ≡ None) ↔ IsShownOnlyBy p first others text
+only-verdict p first others text =
+    let depth : length (all_but p (first ∷ others)) ≡ suc (length others) =
+    length-reverse (map (all_others p) (first ∷ others)) ∙ length-map (first ∷ others) (all_others p) in
+    let all = stands p (one_above p first) (lines_of text) (Some (all_but p (first ∷ others))) 0 in
+    let lines : List (List ℕ) = certificate_lines (lines_of text) in (
+      (λ h. let a = all.0 h in (
+        a.0,
+        subst (λ (d : ℕ). TellsCertificate p d a.0 lines []) depth (subst (λ (left : List (List ℕ)). TellsCertificate p (length
+            (all_but p (first ∷ others))) a.0 lines left) ((nothing-left p (one_above p first) (all_but p (first ∷ others)) a.1 (seconds p (first ∷ others))).0 a.4) a.2),
+        a.3,
+      )),
+      (λ h. all.1 (
+        h.0,
+        [],
+        subst (λ (d : ℕ). TellsCertificate p d h.0 lines []) (sym depth) h.1,
+        h.2,
+        (nothing-left p (one_above p first) (all_but p (first ∷ others)) [] (seconds p (first ∷ others))).1 refl,
+      )),
     )
 
 -- ---------- an answer ----------

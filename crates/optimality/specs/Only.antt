@@ -1,9 +1,11 @@
--- Certificates that no other point has an objective as low as that of a point. Each is judged after a split whose first side holds that point alone.
-use Rattle.std.specs.Prelude.{◌≡◌, ◌↔◌, ℕ, suc, ◌+◌, ◌&&◌, Bool, true, false, List, [], ◌∷◌, Option, Some, None, Ok, pos, neg_ℤ, ◌+ℤ◌, if◌then◌else◌}
+-- Certificates that no point but these has an objective as low as that of the first of them. Each is judged after splits, one for each of these points, whose
+-- first side holds that point alone.
+use Rattle.std.specs.Prelude.{◌≡◌, ◌↔◌, ℕ, suc, ◌+◌, ◌&&◌, Bool, true, false, List, [], ◌∷◌, All, length, map, reverse}
+use Rattle.std.specs.Prelude.{Option, Some, None, Ok, ℤ, pos, neg_ℤ, ◌+ℤ◌, if◌then◌else◌}
 use Rattle.auction_terms.specs.Lines.{lines_of}
 use Rattle.program_rows.specs.declared.bounds.Bounds.{Bounds}
 use Rattle.program_rows.specs.declared.bounds.Bounds.TheVariants.{ZeroOrOne}
-use Rattle.program_rows.specs.Only.{IsOnlyLeast}
+use Rattle.program_rows.specs.Only.{AreOnlyLeast}
 use Rattle.program_rows.specs.Points.{IsPoint, objective}
 use Rattle.program_rows.specs.Program.{Table, TableColumn}
 use Rattle.optimality.specs.Branches.{Branch, At, cuts_above}
@@ -36,27 +38,38 @@ free_ones columns values = 0
 abbrev pub all_others : Table → List Bool → Branch
 all_others p values = At true (distance 0 p.columns values) (neg_ℤ (pos (free_ones p.columns values)))
 
--- no other point has an objective as low
-abbrev pub ShowsOnly : Table → List Bool → Certificate → Type 0
-ShowsOnly p values certificate = ShowsWithin p (objective p values +ℤ pos 1) (cuts_above (all_others p values ∷ [])) certificate
+-- the splits from these points, one below the other: the first point's is at the root, so that it is the last of what is open
+abbrev pub all_but : Table → List (List Bool) → List Branch
+all_but p listed = reverse (map (all_others p) listed)
 
--- what such a certificate shows of a point
+-- one more than the objective of the first point
+abbrev pub one_above : Table → List Bool → ℤ
+one_above p first = objective p first +ℤ pos 1
+
+-- no point but the first and the others has an objective as low as the first's
+abbrev pub ShowsOnly : Table → List Bool → List (List Bool) → Certificate → Type 0
+ShowsOnly p first others certificate = ShowsWithin p (one_above p first) (cuts_above (all_but p (first ∷ others))) certificate
+
+-- what such a certificate shows of points
 abbrev pub ShownIsOnly : Type 0
-ShownIsOnly = (p : Table) (values : List Bool) (certificate : Certificate) → IsPoint p values → ShowsOnly p values certificate → IsOnlyLeast p values
+ShownIsOnly = (p : Table) (first : List Bool) (others : List (List Bool)) (certificate : Certificate) → IsPoint p first → All (IsPoint p) others
+    → ShowsOnly p first others certificate → AreOnlyLeast p first others
 
 -- the text describes a certificate that shows it
-abbrev pub IsShownOnlyBy : Table → List Bool → List ℕ → Type 0
-IsShownOnlyBy p values text =
-    (certificate : Certificate) × TellsCertificate p 1 certificate (certificate_lines (lines_of text)) [] × ShowsOnly p values certificate
+abbrev pub IsShownOnlyBy : Table → List Bool → List (List Bool) → List ℕ → Type 0
+IsShownOnlyBy p first others text =
+    (certificate : Certificate) × TellsCertificate p (suc (length others)) certificate (certificate_lines (lines_of text)) []
+    × ShowsOnly p first others certificate
 
 -- the first fault of a text that is to show it
-abbrev pub only_fault : Table → List Bool → List ℕ → Option (ℕ × CertificateFaultKind)
-only_fault p values text = fault_from p (objective p values +ℤ pos 1) (Ok (Some (all_others p values ∷ []))) 0 (lines_of text)
+abbrev pub only_fault : Table → List Bool → List (List Bool) → List ℕ → Option (ℕ × CertificateFaultKind)
+only_fault p first others text = fault_from p (one_above p first) (Ok (Some (all_but p (first ∷ others)))) 0 (lines_of text)
 
 -- the line of this number tells a leaf of size 2^126 or more, and no line before it has a fault
-abbrev pub IsLargeOnlyAt : Table → List Bool → List ℕ → ℕ → Type 0
-IsLargeOnlyAt p values text number = IsLargeFrom p (objective p values +ℤ pos 1) (Ok (Some (all_others p values ∷ []))) 0 (lines_of text) number
+abbrev pub IsLargeOnlyAt : Table → List Bool → List (List Bool) → List ℕ → ℕ → Type 0
+IsLargeOnlyAt p first others text number = IsLargeFrom p (one_above p first) (Ok (Some (all_but p (first ∷ others)))) 0 (lines_of text) number
 
 -- a text has no fault if and only if it describes a certificate that shows it
 abbrev pub OnlyFaultIsExact : Type 0
-OnlyFaultIsExact = (p : Table) (values : List Bool) (text : List ℕ) → (only_fault p values text ≡ None) ↔ IsShownOnlyBy p values text
+OnlyFaultIsExact = (p : Table) (first : List Bool) (others : List (List Bool)) (text : List ℕ)
+    → (only_fault p first others text ≡ None) ↔ IsShownOnlyBy p first others text

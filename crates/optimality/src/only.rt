@@ -1,13 +1,13 @@
-//! Whether a point is the only one of its objective or less.
+//! Whether points are the only ones of the objective of the first of them, or less.
 
-ghost use Rattle.std.specs.Prelude.{◌≡◌, ◌⊎◌, ◌+◌, ◌+ℤ◌, ◌++◌, ◌∷◌, ◌<◌, ◌≤◌, [], IfErr, IfOk, OnOk, drop, if◌then◌else◌, length, neg_ℤ, pos};
+ghost use Rattle.std.specs.Prelude.{◌≡◌, ◌⊎◌, ◌+◌, ◌+ℤ◌, ◌++◌, ◌∷◌, ◌<◌, ◌≤◌, All, IfErr, IfOk, OnOk, drop, if◌then◌else◌, length, neg_ℤ, pos};
 ghost use Rattle.optimality.specs.Answers.{IsLimit, IsVerdict};
 ghost use Rattle.optimality.specs.Only as only;
-ghost use Rattle.optimality.specs.Only.{IsLargeOnlyAt, IsShownOnlyBy, all_others, free_ones, only_fault};
+ghost use Rattle.optimality.specs.Only.{IsLargeOnlyAt, IsShownOnlyBy, all_but, all_others, free_ones, one_above, only_fault};
 ghost use Rattle.optimality.specs.inside.Branches.{branch_of, branches_of};
 ghost use Rattle.optimality.specs.inside.Checking.{IsPrepared};
 ghost use Rattle.program_rows.specs.declared.certificate_fault.CertificateFaultKind.TheVariants.{TooLarge};
-ghost use Rattle.program_rows.specs.Only.{IsOnlyLeast};
+ghost use Rattle.program_rows.specs.Only.{AreOnlyLeast};
 ghost use Rattle.program_rows.specs.Points.{IsPoint, objective, sum_at_one};
 
 use crate::checker::{Checker, OpenSplit};
@@ -114,18 +114,23 @@ fn all_others(
     })
 }
 
-/// That split alone.
+/// The splits from these points, that of the first one at the root.
 fn open_splits(
     alloc: Global,
     program: &Selection<'_>,
-    values: &Point,
+    first: &Point,
+    others: &[Point],
 ) -> Result<Vec<OpenSplit>, AllocError>
-    requires { length values.now ≡ length program.now.columns }
+    requires first { length first.now ≡ length program.now.columns }
+    requires others { All (λ values. length values ≡ length program.now.columns) others.now }
     ensures { IfOk result (λ splits. branches_of splits.items
-        ≡ all_others program.now values.now ∷ []) }
+        ≡ all_but program.now (first.now ∷ others.now)) }
 {
-    let mut splits = Vec::with_capacity(alloc, 1)?;
-    splits.push_reserved(all_others(alloc, program, values)?);
+    let mut splits = Vec::new(alloc);
+    splits.push(all_others(alloc, program, first)?)?;
+    for other in others {
+        splits.push(all_others(alloc, program, other)?)?;
+    }
     Ok(splits)
 }
 
@@ -145,7 +150,7 @@ fn cost_at(program: &Selection<'_>, values: &Point, column: usize) -> i64
 /// One more than the objective of the values. It is added up here from 1 on, which shows that there is room for it in 128 bits.
 fn one_above(program: &Selection<'_>, values: &Point) -> i128
     requires { length values.now ≡ length program.now.columns }
-    ensures { result ≡ objective program.now values.now +ℤ pos 1 }
+    ensures { result ≡ one_above program.now values.now }
 {
     let mut sum: i128 = 1;
     for column in 0..program.column_count() {
@@ -156,51 +161,57 @@ fn one_above(program: &Selection<'_>, values: &Point) -> i128
 
 /// What a certificate is checked against, and the splits that are open above it.
 #[derive(Drop)]
-struct AfterSplit<'p> {
+struct AfterSplits<'p> {
     checker: Checker<'p>,
     splits: Vec<OpenSplit>,
 }
 
-fn after_split<'p>(
+fn after_splits<'p>(
     alloc: Global,
     text: &[u8],
     program: &'p Selection<'p>,
-    values: &Point,
-) -> Result<AfterSplit<'p>, AllocError>
-    requires { length values.now ≡ length program.now.columns }
+    first: &Point,
+    others: &[Point],
+) -> Result<AfterSplits<'p>, AllocError>
+    requires first { length first.now ≡ length program.now.columns }
+    requires others { All (λ values. length values ≡ length program.now.columns) others.now }
     ensures prepared { IfOk result (λ start. IsPrepared start.checker) }
     ensures program { IfOk result (λ start. start.checker.program.now ≡ program.now) }
-    ensures least { IfOk result (λ start. start.checker.least
-        ≡ objective program.now values.now +ℤ pos 1) }
+    ensures least { IfOk result (λ start. start.checker.least ≡ one_above program.now first.now) }
     ensures splits { IfOk result (λ start. branches_of start.splits.items
-        ≡ all_others program.now values.now ∷ []) }
+        ≡ all_but program.now (first.now ∷ others.now)) }
 {
-    let splits = open_splits(alloc, program, values)?;
-    let checker = new_checker(alloc, text, program, one_above(program, values))?;
-    Ok(AfterSplit { checker, splits })
+    let splits = open_splits(alloc, program, first, others)?;
+    let checker = new_checker(alloc, text, program, one_above(program, first))?;
+    Ok(AfterSplits { checker, splits })
 }
 
-/// Checks that a text describes a certificate that each other point of the program has a higher objective than these values. It is
-/// judged after a split that parts the values from all others, so that the first multiplier of each leaf is that split's.
+/// Checks that a text describes a certificate that each point of the program but these has a higher objective than the first one. It is
+/// judged after splits that part each of these points from all others, so that the first multipliers of each leaf are those of these
+/// splits, in the order of the points.
 pub fn check_only(
     alloc: Global,
     text: &[u8],
     program: &Program,
-    values: &Point,
+    first: &Point,
+    others: &[Point],
 ) -> Result<(), CertificateFault>
-    requires { length values.now ≡ length program.now.columns }
-    ensures only { OnOk result (IsPoint program.now values.now
-        → IsOnlyLeast program.now values.now) }
-    ensures shown { OnOk result (IsShownOnlyBy program.now values.now text.now) }
+    requires first { length first.now ≡ length program.now.columns }
+    requires others { All (λ values. length values ≡ length program.now.columns) others.now }
+    ensures only { OnOk result (IsPoint program.now first.now
+        → All (IsPoint program.now) others.now
+        → AreOnlyLeast program.now first.now others.now) }
+    ensures shown { OnOk result (IsShownOnlyBy program.now first.now others.now text.now) }
     ensures refused { IfErr result (λ fault. IsLimit fault.kind
-        ⊎ ¬ IsShownOnlyBy program.now values.now text.now) }
-    ensures first { IsVerdict result (only_fault program.now values.now text.now) }
+        ⊎ ¬ IsShownOnlyBy program.now first.now others.now text.now) }
+    ensures first_fault { IsVerdict result
+        (only_fault program.now first.now others.now text.now) }
     ensures too_large { IfErr result (λ fault. fault.kind ≡ TooLarge → IsLargeOnlyAt program.now
-        values.now text.now fault.line) }
+        first.now others.now text.now fault.line) }
 {
     let selection = Selection::whole(program);
-    match after_split(alloc, text, &selection, values) {
-        Ok(AfterSplit { checker, splits }) => check_lines(&checker, splits, text),
+    match after_splits(alloc, text, &selection, first, others) {
+        Ok(AfterSplits { checker, splits }) => check_lines(&checker, splits, text),
         Err(_) => Err(refused(0, Refusal::Stopped(Limit::Memory))),
     }
 }

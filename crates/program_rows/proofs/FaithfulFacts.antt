@@ -86,7 +86,7 @@ chosen (o ∷ kept) [] = []
 chosen (o ∷ kept) (true ∷ p) = o ∷ chosen kept p
 chosen (o ∷ kept) (false ∷ p) = chosen kept p
 
-chosen_all : (P : Offer → Type 0) (kept : List Offer) (p : List Bool) → AllByRecursion P kept → AllByRecursion P (chosen kept p)
+pub chosen_all : (P : Offer → Type 0) (kept : List Offer) (p : List Bool) → AllByRecursion P kept → AllByRecursion P (chosen kept p)
 chosen_all P [] p a = tt
 chosen_all P (o ∷ kept) [] a = tt
 chosen_all P (o ∷ kept) (true ∷ p) a = (a.0, chosen_all P kept p a.1)

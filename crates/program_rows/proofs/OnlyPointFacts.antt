@@ -1,24 +1,28 @@
 -- An only least point of the program of the kept bids wins the only allocation.
 use Rattle.std.proofs.Common.{◌≡◌, ℕ, ◌+◌, ◌≤◌, Bool, true, false, ◌==◌, cond, List, [], ◌∷◌, ◌++◌, map, refl, sym, ap, ap₂}
-use Rattle.std.proofs.Common.{◌∙◌, subst, arith, eqb-true, eq-eqb, pos, neg_ℤ, ◌≤ℤ◌}
-use Rattle.std.specs.Prelude.{IsPermutation, sum_by}
+use Rattle.std.proofs.Common.{◌∙◌, Option, Some, subst, arith, eqb-true, eq-eqb, pos, neg_ℤ, ◌≤ℤ◌}
+use Rattle.std.specs.Prelude.{All, IsPermutation, not, sum_by, ◌&&◌}
+use Rattle.std.specs.Option.{option_map_or}
 use Rattle.std.proofs.lemmas.Int.{ints}
 use Rattle.std.proofs.lemmas.Bool.{and_parts, and_from}
 use Rattle.std.proofs.lemmas.List.Sums.{sum_by-append, sum_by-cons}
-use Rattle.std.proofs.lemmas.List.Elements.{recursion_from_All}
+use Rattle.std.proofs.lemmas.List.Elements.{All-from_recursion, All-map, recursion_from_All}
 use Rattle.std.proofs.lemmas.List.Sorted.{IsPermutation-cons, IsPermutation-middle, IsPermutation-refl, IsPermutation-sym, IsPermutation-trans}
 use Rattle.auction_terms.specs.declared.choices.Choice.{Choice}
-use Rattle.auction_terms.specs.Allocations.{total}
-use Rattle.auction_terms.specs.Keeping.{kept_of, is_kept_choice}
+use Rattle.auction_terms.specs.Allocations.{bid_of, form_of, total}
+use Rattle.auction_terms.specs.declared.bids.Bid.{Bid}
+use Rattle.auction_terms.specs.Domination.{is_kept}
+use Rattle.auction_terms.specs.Keeping.{Offer, kept_of, is_kept_choice, offers_from}
 use Rattle.auction_terms.specs.inside.Keeping.{choice_of}
 use Rattle.auction_terms.proofs.LimitFacts.{kept_are_offers, sized}
+use Rattle.auction_terms.proofs.OfferFacts.{all_agree, all_filter, stands as offers_stand}
 use Rattle.auction_terms.proofs.OnlyFacts.{feasible_permuted, only_among_all, total_permuted}
 use Rattle.program_rows.specs.Points.{objective}
 use Rattle.program_rows.specs.Rows.{program_of, subjects}
 use Rattle.program_rows.specs.Faithful.{back}
-use Rattle.program_rows.specs.Only.{OnlyLeastIsOnly}
+use Rattle.program_rows.specs.Only.{OnlyLeastAreAllKept, OnlyLeastIsOnly, PointsWinKeptBids}
 use Rattle.program_rows.proofs.EachFacts.{each}
-use Rattle.program_rows.proofs.FaithfulFacts.{back_is, chosen, counted_members, exact_point, measured, numbered, presolved_is_faithful, same_choice, values_of}
+use Rattle.program_rows.proofs.FaithfulFacts.{back_is, chosen, chosen_all, counted_members, exact_point, measured, numbered, presolved_is_faithful, same_choice, values_of}
 
 -- ---------- lists that have each choice as often ----------
 
@@ -112,3 +116,40 @@ only_least_is_only lots book group values a within is_point only moved none =
     ∙ counted_members lots book group fits (λ d. cond (same_choice c d) 1 0) other k feasible.one_bid_each in
     IsPermutation-trans a won other (IsPermutation-sym won a moved) (as-often won other often))
     none
+
+-- ---------- several points ----------
+
+pub points_win_kept_bids : PointsWinKeptBids
+points_win_kept_bids lots book group values within =
+    let all = kept_of lots book group in
+    let kept = all_agree (λ (o : Offer). (bid_of book (choice_of o) ≡ Some o.bid) × ((not (group o.bidder) && is_kept lots (form_of book o.bidder) o.bid) ≡ true))
+    (λ (o : Offer). is_kept_choice lots book group (choice_of o) ≡ true) all
+    (λ o h. ap (λ (b : Option Bid). not (group o.bidder) && option_map_or (λ x. is_kept lots (form_of book o.bidder) x) b false) h.0 ∙ h.1)
+    (all_filter (λ (o : Offer). bid_of book (choice_of o) ≡ Some o.bid) (λ (o : Offer). not (group o.bidder) && is_kept lots (form_of book o.bidder) o.bid)
+    (offers_from 1 book) (offers_stand book)) in
+    let is = back_is lots (subjects lots all) all values (numbered lots all (kept_are_offers lots book group within)) in
+    subst (All (λ c. is_kept_choice lots book group c ≡ true)) (sym is)
+    (All-map (λ c. is_kept_choice lots book group c ≡ true) choice_of (chosen all values)
+    (All-from_recursion (λ (o : Offer). is_kept_choice lots book group (choice_of o) ≡ true) (chosen all values)
+    (chosen_all (λ (o : Offer). is_kept_choice lots book group (choice_of o) ≡ true) all values kept)))
+
+pub only_least_are_all_kept : OnlyLeastAreAllKept
+only_least_are_all_kept lots book group first others within is_point only other feasible kept no_less =
+    let all = kept_of lots book group in
+    let p = program_of lots all in
+    let fits = sized lots book within in
+    let k = recursion_from_All (λ c. is_kept_choice lots book group c ≡ true) other kept in
+    let parsed = (presolved_is_faithful lots book group within).maps_back first is_point in
+    let exact = exact_point lots book group fits other k feasible in
+    let v = values_of lots book group fits other in
+    let of_first : pos (total lots book (back p.columns first)) ≡ neg_ℤ (objective p first) = parsed.same_total in
+    let of_other : pos (total lots book other) ≡ neg_ℤ (objective p v) = exact.1 in
+    let lower : objective p v ≤ℤ objective p first = omega (arith, ints) in
+    let among = only v exact.0 lower in
+    let won = back p.columns v in
+    let chosen_is : won ≡ map choice_of (chosen all v) = back_is lots (subjects lots all) all v (numbered lots all (kept_are_offers lots book group within)) in
+    let often : (c : Choice) → times c won ≡ times c other = λ c.
+    ap (times c) chosen_is
+    ∙ measured (λ d. cond (same_choice c d) 1 0) (λ o. cond (same_choice c (choice_of o)) 1 0) (chosen all v) (each _ (chosen all v) (λ o. refl))
+    ∙ counted_members lots book group fits (λ d. cond (same_choice c d) 1 0) other k feasible.one_bid_each in
+    (among.0, v, among.1, among.2, as-often won other often)

@@ -1,5 +1,5 @@
 -- What a line of an MPS text is.
-use Rattle.std.specs.Prelude.{ℕ, not, ◌||◌, ◌&&◌, nat_le, List, [], length, drop, ◌==◌, if◌then◌else◌, slice_index}
+use Rattle.std.specs.Prelude.{ℕ, not, ◌||◌, ◌&&◌, nat_le, List, length, drop, ◌==◌, if◌then◌else◌, slice_index}
 use Rattle.std.specs.List.{list_all}
 use Rattle.auction_terms.specs.LineFields.{field, fields, is_space}
 

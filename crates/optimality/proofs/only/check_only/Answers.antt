@@ -8,19 +8,19 @@ use Rattle.optimality.proofs.only.check_only.Goals as goal
 
 pub returns-in-Ok-clause-shown : goal.returns-in-Ok-clause-shown
 returns-in-Ok-clause-shown c =
-    let first : IsVerdict c.check_lines.result (only_fault c.args.program.now c.args.values.now c.args.text.now) = search rules in
-    shown (only_fault c.args.program.now c.args.values.now c.args.text.now) c.check_lines.result
-    (only-verdict c.args.program.now c.args.values.now c.args.text.now) first
+    let first : IsVerdict c.check_lines.result (only_fault c.args.program.now c.args.first.now c.args.others.now c.args.text.now) = search rules in
+    shown (only_fault c.args.program.now c.args.first.now c.args.others.now c.args.text.now) c.check_lines.result
+    (only-verdict c.args.program.now c.args.first.now c.args.others.now c.args.text.now) first
 
 pub returns-in-Ok-clause-only : goal.returns-in-Ok-clause-only
 returns-in-Ok-clause-only c =
-    let first : IsVerdict c.check_lines.result (only_fault c.args.program.now c.args.values.now c.args.text.now) = search rules in
-    on_ok_weaker c.check_lines.result (λ s point. shown-is-only c.args.program.now c.args.values.now s.0 point s.2)
-    (shown (only_fault c.args.program.now c.args.values.now c.args.text.now) c.check_lines.result
-    (only-verdict c.args.program.now c.args.values.now c.args.text.now) first)
+    let first : IsVerdict c.check_lines.result (only_fault c.args.program.now c.args.first.now c.args.others.now c.args.text.now) = search rules in
+    on_ok_weaker c.check_lines.result (λ s point points. shown-is-only c.args.program.now c.args.first.now c.args.others.now s.0 point points s.2)
+    (shown (only_fault c.args.program.now c.args.first.now c.args.others.now c.args.text.now) c.check_lines.result
+    (only-verdict c.args.program.now c.args.first.now c.args.others.now c.args.text.now) first)
 
 pub returns-in-Ok-clause-refused : goal.returns-in-Ok-clause-refused
 returns-in-Ok-clause-refused c =
-    let first : IsVerdict c.check_lines.result (only_fault c.args.program.now c.args.values.now c.args.text.now) = search rules in
-    not-shown (only_fault c.args.program.now c.args.values.now c.args.text.now) c.check_lines.result
-    (only-verdict c.args.program.now c.args.values.now c.args.text.now) first
+    let first : IsVerdict c.check_lines.result (only_fault c.args.program.now c.args.first.now c.args.others.now c.args.text.now) = search rules in
+    not-shown (only_fault c.args.program.now c.args.first.now c.args.others.now c.args.text.now) c.check_lines.result
+    (only-verdict c.args.program.now c.args.first.now c.args.others.now c.args.text.now) first
