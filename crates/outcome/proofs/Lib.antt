@@ -10,7 +10,11 @@ pub mod CostFacts
 pub mod TieFacts
 pub mod QuantityFacts
 pub mod RivalFacts
+pub mod NumberFacts
+pub mod FollowFacts
+pub mod PutFacts
 pub mod LeftFacts
 pub mod ReportFacts
 pub mod WorkedPrograms
+mod WorkedPrices
 mod WorkedSolutions

@@ -7,4 +7,5 @@ pub mod Pricing
 pub mod Uniqueness
 pub mod Costs
 pub mod Ties
+pub mod Following
 pub mod inside

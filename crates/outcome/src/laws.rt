@@ -6,6 +6,7 @@ ghost use Rattle.outcome.specs.Coming.{AnswersOfSolversComeBack, PointsComeBack,
 ghost use Rattle.outcome.specs.Costs.{CostsAreBounded, CostsAreOwn, CostsCoverLots};
 ghost use Rattle.outcome.specs.Solution.{solution_line_fault};
 ghost use Rattle.outcome.specs.PointAllocation.{TakesWhatIsNamed};
+ghost use Rattle.outcome.specs.Following.{FollowingAreGreatest, FollowingAreTheRest};
 ghost use Rattle.outcome.specs.declared.limits.TheConstants.{SOLUTION_LIMIT, TOLERANCE_PARTS};
 ghost use Rattle.outcome.specs.Ties.{OnlyFirstSettlesCosts, OnlyFirstTellsCosts, OthersDiffer, OthersTie, RivalsTie, TheOnlyIsGreatest};
 
@@ -91,6 +92,16 @@ pub fn others_tie()
 /// A bid that does as well in a winner's place ties.
 pub fn a_rival_ties()
     ensures { RivalsTie }
+{}
+
+/// What follows from an award of kept bids and of greatest total is of greatest total, too.
+pub fn what_follows_is_as_good()
+    ensures { FollowingAreGreatest }
+{}
+
+/// Where all allocations of kept bids and of greatest total are known, what follows from them completes all of greatest total, each once.
+pub fn what_follows_is_the_rest()
+    ensures { FollowingAreTheRest }
 {}
 
 /// The limits of solutions are these numbers.

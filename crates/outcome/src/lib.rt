@@ -3,6 +3,7 @@
 
 mod allocation;
 mod costs;
+mod following;
 pub mod laws;
 mod limits;
 mod mapping;
@@ -17,6 +18,7 @@ mod writing;
 
 pub use allocation::{Allocation, same_winners};
 pub use costs::{cost, total};
+pub use following::with_following;
 pub use limits::{SOLUTION_LIMIT, TOLERANCE_PARTS};
 pub use mapping::map_back;
 pub use pricing::{Pricing, paid, price_of};

@@ -2,29 +2,46 @@
 
 use std::marker::Model;
 
-/// The price of each bidder, bidder 1's first and 0 for one that wins nothing; and whether no whole prices that cover every group
-/// of bidders and are at least the reserves have a lower sum.
+/// The price of each bidder in parts of a pound, bidder 1's first and 0 for one that wins nothing; how many parts make a pound, at
+/// least 1; and whether these are the prices of the rule.
 #[derive(Drop)]
 pub struct Pricing {
+    parts: u64,
     prices: Vec<u64>,
-    is_least: bool,
+    by_rule: bool,
 }
 
 impl Model for Pricing {
+    ghost use Rattle.std.specs.Prelude.{◌≤◌};
     ghost use Rattle.outcome.specs.Pricing.{Priced};
 
     ghost Value = { Priced };
 
-    ghost view = { λ p. record { prices = p.prices.items; is_least = p.is_least } };
+    ghost view = { λ p. record { parts = p.parts; prices = p.prices.items; by_rule = p.by_rule } };
+
+    ghost invariant = { λ p. 1 ≤ p.parts };
 }
 
 impl Pricing {
-    ghost use Rattle.std.specs.Prelude.{◌≡◌};
+    ghost use Rattle.std.specs.Prelude.{◌≡◌, ◌≤◌};
+    ghost use Rattle.outcome.specs.Pricing.{in_pounds, price_in};
 
-    pub fn new(prices: Vec<u64>, is_least: bool) -> Pricing
-        ensures { result ≡ record { prices = prices.items; is_least = is_least } }
+    pub fn new(parts: u64, prices: Vec<u64>, by_rule: bool) -> Pricing
+        requires { 1 ≤ parts }
+        ensures { result ≡ record { parts = parts; prices = prices.items; by_rule = by_rule } }
     {
-        Pricing { prices, is_least }
+        Pricing {
+            parts,
+            prices,
+            by_rule,
+        }
+    }
+
+    fn parts(&self) -> u64
+        ensures parts { result ≡ self.now.parts }
+        ensures some { 1 ≤ result }
+    {
+        self.parts
     }
 
     fn prices(&self) -> &[u64]
@@ -33,22 +50,30 @@ impl Pricing {
         self.prices.as_slice()
     }
 
-    fn is_least(&self) -> bool
-        ensures { result ≡ self.now.is_least }
+    fn by_rule(&self) -> bool
+        ensures { result ≡ self.now.by_rule }
     {
-        self.is_least
+        self.by_rule
+    }
+
+    /// What a bidder pays: its price, rounded up to whole pounds.
+    fn pounds(&self, bidder: u16) -> u64
+        ensures { result ≡ in_pounds self.now.parts (price_in self.now.prices) bidder }
+    {
+        price_of(self.prices(), bidder).div_ceil(self.parts())
     }
 }
 
-ghost use Rattle.std.specs.Prelude.{◌≡◌, ◌≤◌, ◌*◌, ◌^◌, ◌∷◌, ◌++◌, [], Some, codes, flat_map, length};
+ghost use Rattle.std.specs.Prelude.{◌≡◌, ◌≤◌, ◌*◌, ◌^◌, ◌∷◌, ◌++◌, ◌==◌, [], Some, codes, decimal, flat_map, if◌then◌else◌, length};
 ghost use Rattle.byte_sinks.specs.Adds.{Adds};
-ghost use Rattle.bid_desk.specs.Sale.{sale_of};
+ghost use Rattle.bid_desk.specs.Sale.{bidder_name, sale_of};
+ghost use Rattle.auction_terms.specs.Fractions.{fraction_text};
 ghost use Rattle.outcome.specs.Pricing as of_prices;
-ghost use Rattle.outcome.specs.Pricing.{least_line, price_in, price_line, pricing_text, sum_line};
+ghost use Rattle.outcome.specs.Pricing.{amount_text, exact_text, in_pounds, price_in, price_line, pricing_text, rule_line, sum_line};
 
 use crate::allocation::Allocation;
 use crate::sale::name_of;
-use auction_terms::Choice;
+use auction_terms::{Choice, gcd};
 use bid_desk::ClosedBook;
 use byte_sinks::{Sink, Writer};
 use itoa::Buffer;
@@ -78,62 +103,151 @@ pub fn paid(prices: &[u64], choices: &[Choice]) -> u128
     sum
 }
 
-/// Adds the line of a winner's price.
-fn add_price<S: Sink>(writer: &mut Writer<'_, S>, book: &ClosedBook, prices: &[u64], choice: Choice)
-    ensures { Adds S.taken S.failures writer.old writer.new
-        (price_line (sale_of book.now) prices.now choice) }
+/// The sum of what the winners pay in whole pounds.
+fn paid_in_pounds(pricing: &Pricing, choices: &[Choice]) -> u128
+    ensures sum { result ≡ of_prices.paid (in_pounds pricing.now.parts (price_in pricing.now.prices))
+        choices.now }
+    ensures small { result ≤ length choices.now * 2 ^ 64 }
 {
-    let mut price = Buffer::new();
-    let pieces: [&[u8]; 4] = [
-        name_of(book, choice.bidder),
-        b" ",
-        price.format(price_of(prices, choice.bidder)).as_bytes(),
-        b"\n",
-    ];
+    let mut sum: u128 = 0;
+    for choice in choices {
+        sum += u128::from(pricing.pounds(choice.bidder));
+    }
+    sum
+}
+
+/// Whether that many pounds are that many parts.
+fn is_exact(parts: u64, pounds: u128, exact: u128) -> bool
+    requires { 1 ≤ parts }
+    ensures { result ≡ (parts * pounds == exact) }
+{
+    exact % u128::from(parts) == 0 && exact / u128::from(parts) == pounds
+}
+
+/// Adds the denominator of a fraction that isn't whole.
+fn add_denominator<S: Sink>(writer: &mut Writer<'_, S>, denominator: u64)
+    ensures { Adds S.taken S.failures writer.old writer.new
+        (if denominator == 1 then [] else 47 ∷ decimal denominator) }
+{
+    if denominator == 1 {
+        writer.add(b"");
+        return;
+    }
+    let mut buffer = Buffer::new();
+    let pieces: [&[u8]; 2] = [b"/", buffer.format(denominator).as_bytes()];
     writer.add_pieces(&pieces);
+}
+
+/// Adds a whole number.
+fn add_whole<S: Sink>(writer: &mut Writer<'_, S>, number: u128)
+    ensures { Adds S.taken S.failures writer.old writer.new (decimal number) }
+{
+    let mut buffer = Buffer::new();
+    let pieces: [&[u8]; 1] = [buffer.format(number).as_bytes()];
+    writer.add_pieces(&pieces);
+}
+
+/// Adds a number of parts, in pounds, as a fraction in lowest terms.
+fn add_fraction<S: Sink>(writer: &mut Writer<'_, S>, parts: u64, exact: u128)
+    requires { 1 ≤ parts }
+    ensures { Adds S.taken S.failures writer.old writer.new (fraction_text parts exact) }
+{
+    let divisor = gcd(exact, parts);
+    add_whole(writer, exact / u128::from(divisor));
+    add_denominator(writer, parts / divisor);
+}
+
+/// Adds the exact amount, if it is another one than what is paid.
+fn add_exact<S: Sink>(writer: &mut Writer<'_, S>, parts: u64, pounds: u128, exact: u128)
+    requires { 1 ≤ parts }
+    ensures { Adds S.taken S.failures writer.old writer.new (exact_text parts pounds exact) }
+{
+    if is_exact(parts, pounds, exact) {
+        writer.add(b"");
+    } else {
+        writer.add(b" ");
+        add_fraction(writer, parts, exact);
+    }
+}
+
+/// Adds what is paid, the exact amount if it is another one, and the end of the line.
+fn add_amount<S: Sink>(writer: &mut Writer<'_, S>, parts: u64, pounds: u128, exact: u128)
+    requires { 1 ≤ parts }
+    ensures { Adds S.taken S.failures writer.old writer.new
+        (amount_text parts pounds exact ++ 10 ∷ []) }
+{
+    add_whole(writer, pounds);
+    add_exact(writer, parts, pounds, exact);
+    writer.add(b"\n");
+}
+
+/// Adds the name of a bidder, and a space.
+fn add_name<S: Sink>(writer: &mut Writer<'_, S>, book: &ClosedBook, bidder: u16)
+    ensures { Adds S.taken S.failures writer.old writer.new
+        (bidder_name (sale_of book.now).names bidder ++ 32 ∷ []) }
+{
+    let pieces: [&[u8]; 2] = [name_of(book, bidder), b" "];
+    writer.add_pieces(&pieces);
+}
+
+/// Adds the line of a winner's price.
+fn add_price<S: Sink>(
+    writer: &mut Writer<'_, S>,
+    book: &ClosedBook,
+    pricing: &Pricing,
+    choice: Choice,
+)
+    ensures { Adds S.taken S.failures writer.old writer.new
+        (price_line (sale_of book.now) pricing.now choice) }
+{
+    let exact = price_of(pricing.prices(), choice.bidder);
+    let pounds = pricing.pounds(choice.bidder);
+    add_name(writer, book, choice.bidder);
+    add_amount(
+        writer,
+        pricing.parts(),
+        u128::from(pounds),
+        u128::from(exact),
+    );
 }
 
 /// Adds the lines of the winners' prices.
 fn add_prices<S: Sink>(
     writer: &mut Writer<'_, S>,
     book: &ClosedBook,
-    prices: &[u64],
+    pricing: &Pricing,
     choices: &[Choice],
 )
     ensures { Adds S.taken S.failures writer.old writer.new
-        (flat_map (price_line (sale_of book.now) prices.now) choices.now) }
+        (flat_map (price_line (sale_of book.now) pricing.now) choices.now) }
 {
     for choice in choices {
-        add_price(writer, book, prices, *choice);
+        add_price(writer, book, pricing, *choice);
     }
 }
 
 /// Adds the line of the sum.
-fn add_sum<S: Sink>(writer: &mut Writer<'_, S>, prices: &[u64], choices: &[Choice])
-    ensures { Adds S.taken S.failures writer.old writer.new
-        (sum_line prices.now choices.now) }
+fn add_sum<S: Sink>(writer: &mut Writer<'_, S>, pricing: &Pricing, choices: &[Choice])
+    ensures { Adds S.taken S.failures writer.old writer.new (sum_line pricing.now choices.now) }
 {
-    let mut buffer = Buffer::new();
-    let pieces: [&[u8]; 3] = [
-        b"sum ",
-        buffer.format(paid(prices, choices)).as_bytes(),
-        b"\n",
-    ];
-    writer.add_pieces(&pieces);
+    let pounds = paid_in_pounds(pricing, choices);
+    let exact = paid(pricing.prices(), choices);
+    writer.add(b"sum ");
+    add_amount(writer, pricing.parts(), pounds, exact);
 }
 
-/// Adds the line of a least sum.
-fn add_least<S: Sink>(writer: &mut Writer<'_, S>, is_least: bool)
-    ensures { Adds S.taken S.failures writer.old writer.new (least_line is_least) }
+/// Adds the last line, if these are the prices of the rule.
+fn add_rule<S: Sink>(writer: &mut Writer<'_, S>, by_rule: bool)
+    ensures { Adds S.taken S.failures writer.old writer.new (rule_line by_rule) }
 {
-    if is_least {
-        writer.add(b"least\n");
+    if by_rule {
+        writer.add(b"by the rule\n");
     } else {
         writer.add(b"");
     }
 }
 
-/// Adds prices and what is known of their sum.
+/// Adds prices, and whether they are those of the rule.
 fn add_winning_prices<S: Sink>(
     writer: &mut Writer<'_, S>,
     book: &ClosedBook,
@@ -144,9 +258,9 @@ fn add_winning_prices<S: Sink>(
         (pricing_text (sale_of book.now) choices.now (Some pricing.now)) }
 {
     writer.add(b"prices\n");
-    add_prices(writer, book, pricing.prices(), choices);
-    add_sum(writer, pricing.prices(), choices);
-    add_least(writer, pricing.is_least());
+    add_prices(writer, book, pricing, choices);
+    add_sum(writer, pricing, choices);
+    add_rule(writer, pricing.by_rule());
 }
 
 /// Adds what the winners pay, if there are prices.

@@ -1,83 +1,20 @@
 //! Bids that do as well in a winner's place.
 
-ghost use Rattle.std.specs.Prelude.{◌≡◌, ◌≤◌, All, IfOk, MatchOption, false, length, map, nat_le};
-ghost use Rattle.std.specs.List.{list_all};
+ghost use Rattle.std.specs.Prelude.{◌≡◌, ◌≤◌, All, IfOk, false, length, map};
 ghost use Rattle.std.specs.Option.{option_map};
-ghost use Rattle.auction_terms.specs.Allocations.{IsFeasible, loads};
-ghost use Rattle.auction_terms.specs.Limits.{IsBid, IsBook};
+ghost use Rattle.auction_terms.specs.Allocations.{IsFeasible};
+ghost use Rattle.auction_terms.specs.Limits.{IsBid};
 ghost use Rattle.auction_terms.specs.Only.{first_rival, with_bid};
-ghost use Rattle.auction_terms.specs.Packages.{fits, left};
 ghost use Rattle.auction_terms.specs.Terms.{lots_in};
-ghost use Rattle.auction_terms.specs.declared.limits.TheConstants.{GREATEST_QUANTITY, MOST_BIDS};
+ghost use Rattle.auction_terms.specs.declared.limits.TheConstants.{MOST_BIDS};
 ghost use Rattle.bid_desk.specs.Closing.{book_of};
-ghost use Rattle.outcome.specs.inside.Rivals.{both_packages, first_rival_number, first_suiting, rival_of, suits};
+ghost use Rattle.outcome.specs.inside.Rivals.{first_rival_number, first_suiting, rival_of, suits};
 
 use crate::allocation::Allocation;
-use crate::costs::lots_taken;
-use arrayvec::ArrayVec;
-use auction_terms::{Bid, Choice, GREATEST_QUANTITY, Package};
+use crate::following::{fits_with, taken, without};
+use auction_terms::{Bid, Choice, Package};
 use bid_desk::ClosedBook;
 use std::alloc::{AllocError, Global};
-
-/// What the choices take together. They fit, so that it is a package.
-fn taken(book: &ClosedBook, choices: &[Choice]) -> Package
-    requires { IsFeasible (lots_in book.now.rules) (book_of book.now) (λ b. false) choices.now }
-    ensures loads { result ≡ loads (lots_in book.now.rules) (book_of book.now) choices.now }
-    ensures book { IsBook (lots_in book.now.rules) (book_of book.now) }
-{
-    let mut lots = ArrayVec::new();
-    for category in 0..book.rules().categories().len() {
-        lots.push(lots_taken(book, category, choices) as u16);
-    }
-    Package::of(lots)
-}
-
-/// What the others take, if one of them has its own package.
-fn without(taken: &Package, own: &Package) -> Package
-    requires { length taken.now ≡ length own.now }
-    ensures { result ≡ left taken.now own.now }
-{
-    let all = taken.quantities();
-    let part = own.quantities();
-    let mut others = ArrayVec::new();
-    for (place, &quantity) in all.iter().enumerate() {
-        others.push(quantity.saturating_sub(part[place]));
-    }
-    Package::of(others)
-}
-
-/// Both packages, if no category has more than a package may have.
-fn together(others: &Package, own: &Package) -> Option<Package>
-    requires { length others.now ≡ length own.now }
-    ensures { MatchOption result (list_all (λ quantity. nat_le quantity GREATEST_QUANTITY)
-        (both_packages others.now own.now) ≡ false)
-        (λ both. both ≡ both_packages others.now own.now) }
-{
-    let theirs = others.quantities();
-    let ours = own.quantities();
-    let mut both = ArrayVec::new();
-    for (place, &lots) in theirs.iter().enumerate() {
-        let quantity = lots + ours[place];
-        if u64::from(quantity) > GREATEST_QUANTITY {
-            return None;
-        }
-        both.push(quantity);
-    }
-    Some(Package::of(both))
-}
-
-/// Whether a package fits with what the others take.
-fn fits_with(book: &ClosedBook, others: &Package, own: &Package) -> bool
-    requires others { length others.now ≡ length book.now.rules.categories }
-    requires own { length own.now ≡ length book.now.rules.categories }
-    ensures { result ≡ fits (lots_in book.now.rules) (both_packages others.now own.now) }
-{
-    let rules = book.rules();
-    match together(others, own) {
-        Some(both) => both.fits(rules),
-        None => false,
-    }
-}
 
 /// Whether a bid has this net, and its package fits with what the others take. Few bids have the same net, so it is compared first.
 fn suits(book: &ClosedBook, net: i64, others: &Package, bid: &Bid) -> bool

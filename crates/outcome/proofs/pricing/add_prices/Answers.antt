@@ -11,4 +11,4 @@ loop-choice-preserved g c =
     let all = c.args.choices.now in
     let lt : at < length all = omega arith in
     Adds-to (Adds-then c.loop-choice.invariant c.add_price.ensures)
-    (flat_map-next_or (price_line (sale_of c.args.book.now) c.args.prices.now) all at (record { bidder = 0; bid = 0 }) lt)
+    (flat_map-next_or (price_line (sale_of c.args.book.now) c.args.pricing.now) all at (record { bidder = 0; bid = 0 }) lt)

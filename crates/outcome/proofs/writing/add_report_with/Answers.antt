@@ -1,4 +1,4 @@
-use Rattle.std.proofs.Common.{◌≡◌, ◌<◌, ◌∷◌, [], List, length, slice_index_or, arith, subst, sym}
+use Rattle.std.proofs.Common.{◌≡◌, ◌<◌, ◌∷◌, [], List, length, slice_index_or, arith}
 use Rattle.byte_sinks.proofs.AddingFacts.{Adds-then}
 use Rattle.auction_terms.specs.declared.choices.Choice.{Choice}
 use Rattle.outcome.proofs.writing.add_report_with.Goals as goal
