@@ -1,34 +1,31 @@
 -- What the functions over books and programs rest on.
-use Rattle.std.proofs.Common.{◌≡◌, ℕ, zero, suc, ◌+◌, ◌<◌, ◌≤◌, Bool, true, false, ◌==◌, cond, List, [], ◌∷◌, ◌++◌, Option}
-use Rattle.std.proofs.Common.{Some, None, length, map, take, drop, slice_get, slice_index_or, refl, sym, ap, ◌∙◌, subst}
-use Rattle.std.proofs.Common.{arith, append_assoc, drop-cons, take_all, eq-eqb, ℤ, pos, neg_ℤ, ◌-ℤ◌, ◌-◌, ◌^◌}
-use Rattle.std.specs.Prelude.{count_by, filter, sum_by, All}
-use Rattle.std.specs.List.{AllByRecursion}
+use Rattle.std.proofs.Common.{◌≡◌, ℕ, zero, suc, ◌+◌, ◌*◌, ◌<◌, ◌≤◌, Bool, true, false, ◌==◌, cond, List, [], ◌∷◌, ◌++◌, Option}
+use Rattle.std.proofs.Common.{Some, None, ⊎_elim, length, map, drop, slice_get, slice_index_or, refl, sym, ap, ◌∙◌, subst}
+use Rattle.std.proofs.Common.{arith, append_assoc, drop-cons, eq-eqb, ℤ, pos, neg_ℤ, ◌-ℤ◌, ◌-◌, ◌^◌}
+use Rattle.std.specs.Result.{IsErrAnd}
+use Rattle.std.specs.Prelude.{IfErr, Result, Ok, Err, count_by, filter, nat_le, sum_by, unsigned_abs, ◌&&◌}
+use Rattle.std.specs.List.{AllByRecursion, list_all}
 use Rattle.std.specs.Option.{option_map, option_map_or}
-use Rattle.std.proofs.lemmas.Bool.{cond-true, cond-false}
+use Rattle.std.proofs.lemmas.Bool.{cases_Bool, cond-true, cond-false}
 use Rattle.std.proofs.lemmas.Int.{ints}
 use mir.Syntax.{w128}
 use mir.Val.{to_z, of_z}
 use Rattle.std.proofs.lemmas.List.Sums.{sum_by-cons}
-use Rattle.std.proofs.lemmas.List.Elements.{All-more, recursion_from_All}
+use Rattle.std.proofs.lemmas.List.Elements.{recursion_from_All}
 use Rattle.auction_terms.specs.declared.limits.TheConstants.{GREATEST_AMOUNT}
 use Rattle.auction_terms.specs.declared.bids.Bid.{Bid}
 use Rattle.auction_terms.specs.declared.choices.Choice.{Choice}
-use Rattle.auction_terms.specs.Packages.{Lots}
-use Rattle.auction_terms.specs.Allocations.{Book, amount_of, bid_at, bid_of, form_of, total}
-use Rattle.auction_terms.specs.Keeping.{kept_of}
-use Rattle.auction_terms.specs.Limits.{IsBid, IsBook, IsLots}
-use Rattle.auction_terms.proofs.LimitFacts.{kept_are_offers}
-use Rattle.auction_terms.proofs.OfferFacts.{all_agree, sum_filter}
+use Rattle.auction_terms.specs.Packages.{Lots, left, worth}
+use Rattle.auction_terms.specs.Allocations.{Book, amount_of, bid_at, bid_of, form_of, loads, total}
+use Rattle.auction_terms.specs.Limits.{IsBid, IsBook}
+use Rattle.auction_terms.proofs.OfferFacts.{sum_filter}
 use Rattle.program_rows.specs.Costed.{costed}
-use Rattle.program_rows.specs.Legal.{IsSmall, IsSmallColumn}
 use Rattle.program_rows.specs.Program.{TableColumn}
-use Rattle.program_rows.specs.Rows.{program_of}
 use Rattle.program_rows.proofs.EachFacts.{item_at}
-use Rattle.program_rows.proofs.LegalFacts.{built_is_legal}
-use Rattle.prices.specs.Prices.{ArePrices, gain, revenue}
-use Rattle.prices.specs.Raised.{raised_column, raised_cost}
-use Rattle.prices.proofs.CoverFacts.{amounts_are}
+use Rattle.prices.specs.Blocking.{ArePrices, gain, revenue}
+use Rattle.prices.specs.Raised.{column_in_parts, raised_column, raised_cost}
+use Rattle.prices.proofs.BlockingFacts.{amounts_are}
+use Rattle.prices.proofs.WeightFacts.{spread}
 
 some_same : (x y : ℤ) → Some x ≡ Some y → x ≡ y
 some_same x y e = cc
@@ -62,10 +59,12 @@ amount_small lots book c h = amount_in (bid_of book c) (λ x e. (bid_within lots
 -- ---------- gains ----------
 
 -- the total is the revenue and the gains
-pub total_parts : (lots : Lots) (book : Book) (first : List Choice) (price : ℕ → ℕ) → ArePrices book first price
-    → total lots book first ≡ revenue lots book first price + sum_by (gain book price) first
-total_parts lots book first price prices =
-    let e = amounts_are book price first (recursion_from_All (λ c. price c.bidder ≤ amount_of book c) first prices) in
+pub total_is : (lots : Lots) (book : Book) (first : List Choice) (parts : ℕ) (price : ℕ → ℕ) → ArePrices book first parts price
+    → parts * total lots book first ≡ revenue lots book first parts price + sum_by (gain book parts price) first
+total_is lots book first parts price prices =
+    let e = amounts_are parts book price first (recursion_from_All (λ c. price c.bidder ≤ parts * amount_of book c) first prices) in
+    let unsold : ℕ = worth lots (left lots.supply (loads lots book first)) in
+    let whole : parts * total lots book first ≡ parts * sum_by (amount_of book) first + parts * unsold = spread parts (sum_by (amount_of book) first) unsold in
     omega arith
 
 nothing : (t : Bool) (n : ℕ) → ◌≡◌ {A = ℕ} (cond t 1 0) 0 → cond t n 0 ≡ 0
@@ -122,6 +121,32 @@ module _ (f : Choice → ℕ) (b : ℕ) where
       sum_by-cons (λ (x : Choice). cond (x.bidder == b) 1 0) c xs in
       omega arith
 
+counted : (b : ℕ) (xs : List Choice) (i : ℕ) (d : Choice) → i < length xs → (slice_index_or xs i d).bidder ≡ b
+    → 1 ≤ count_by (λ c. c.bidder == b) xs
+counted b [] i d l e = absurd (omega arith)
+counted b (c ∷ xs) zero d l e =
+    let s : count_by (λ c. c.bidder == b) (c ∷ xs) ≡ cond (c.bidder == b) 1 0 + count_by (λ c. c.bidder == b) xs =
+    sum_by-cons (λ (x : Choice). cond (x.bidder == b) 1 0) c xs in
+    let n : ℕ = cond (c.bidder == b) 1 0 in
+    let one : n ≡ 1 = cond-true (c.bidder == b) 1 0 (eq-eqb c.bidder b e) in
+    omega arith
+counted b (c ∷ xs) (suc i) d l e =
+    let s : count_by (λ c. c.bidder == b) (c ∷ xs) ≡ cond (c.bidder == b) 1 0 + count_by (λ c. c.bidder == b) xs =
+    sum_by-cons (λ (x : Choice). cond (x.bidder == b) 1 0) c xs in
+    let later = counted b xs i d (omega arith) e in
+    omega arith
+
+-- one that is first and another that is at a place later are two
+pub found_twice : (b : ℕ) (c : Choice) (xs : List Choice) (i : ℕ) (d : Choice) → i < length xs → (slice_index_or xs i d).bidder ≡ b
+    → (c.bidder == b) ≡ true → count_by (λ c. c.bidder == b) (c ∷ xs) ≤ 1 → ⊥
+found_twice b c xs i d l e t h =
+    let s : count_by (λ c. c.bidder == b) (c ∷ xs) ≡ cond (c.bidder == b) 1 0 + count_by (λ c. c.bidder == b) xs =
+    sum_by-cons (λ (x : Choice). cond (x.bidder == b) 1 0) c xs in
+    let n : ℕ = cond (c.bidder == b) 1 0 in
+    let one : n ≡ 1 = cond-true (c.bidder == b) 1 0 t in
+    let some = counted b xs i d l e in
+    omega arith
+
 -- the one at a place, after which there is none
 pub found_at : (f : Choice → ℕ) (b : ℕ) (xs : List Choice) (i : ℕ) (d : Choice) → i < length xs → (slice_index_or xs i d).bidder ≡ b
     → count_by (λ c. c.bidder == b) (drop i xs) ≤ 1 → of_bidder f b (drop i xs) ≡ f (slice_index_or xs i d)
@@ -130,14 +155,29 @@ found_at f b xs i d l e h =
     ap (of_bidder f b) next ∙ found_here f b (slice_index_or xs i d) (drop (suc i) xs) (eq-eqb (slice_index_or xs i d).bidder b e)
     (subst (λ (ys : List Choice). count_by (λ c. c.bidder == b) ys ≤ 1) next h)
 
--- those so far and the next one, in an equal list
-pub one_more : {X : Type 0} (P : X → Type 0) (xs ys : List X) (i : ℕ) (d : X) → ys ≡ xs → i < length ys → All P (take i xs)
-    → P (slice_index_or ys i d) → All P (take (i + 1) xs)
-one_more P xs ys i d e l all here =
-    All-more P xs i d (subst (λ (zs : List _). i < length zs) e l) all (subst (λ (zs : List _). P (slice_index_or zs i d)) e here)
+-- the one at a place, of whom there is no other
+pub found_in : (f : Choice → ℕ) (b : ℕ) (xs : List Choice) (i : ℕ) (d : Choice) → i < length xs → (slice_index_or xs i d).bidder ≡ b
+    → count_by (λ c. c.bidder == b) xs ≤ 1 → of_bidder f b xs ≡ f (slice_index_or xs i d)
+found_in f b [] i d l e h = absurd (omega arith)
+found_in f b (c ∷ xs) zero d l e h = found_here f b c xs (eq-eqb c.bidder b e) h
+found_in f b (c ∷ xs) (suc i) d l e h =
+    let few = fewer_later f b c xs h in
+    let later = found_in f b xs i d (omega arith) e few in
+    ⊎_elim
+    (λ t. absurd (found_twice b c xs i d (omega arith) e t h))
+    (λ t. found_later f b c xs t ∙ later)
+    (cases_Bool (c.bidder == b))
 
-pub all_of : {X : Type 0} (P : X → Type 0) (xs ys : List X) (i : ℕ) → ys ≡ xs → length ys ≤ i → All P (take i xs) → All P xs
-all_of P xs ys i e l all = subst (All P) (take_all i xs (subst (λ (zs : List _). length zs ≤ i) e l)) all
+-- ---------- errors ----------
+
+-- what holds of an error holds of each that a result can be
+pub if-err-of : {V E : Type 0} (P : E → Type 0) (r : Result V E) (e : E) → IsErrAnd r (λ y. y ≡ e) → P e → IfErr r P
+if-err-of P (Ok x) e is holds = tt
+if-err-of P (Err y) e is holds = subst P (sym is) holds
+
+pub if-err-weaker : {V E : Type 0} (P Q : E → Type 0) (r : Result V E) → ((e : E) → P e → Q e) → IfErr r P → IfErr r Q
+if-err-weaker P Q (Ok x) weaker holds = tt
+if-err-weaker P Q (Err y) weaker holds = weaker y holds
 
 -- ---------- costs ----------
 
@@ -154,15 +194,42 @@ cost_pushed f cs i costs new z parsed l e h =
     ∙ ap (λ (xs : List TableColumn). costs ++ map f xs) (sym next)
     ∙ h
 
--- other costs, made of the columns themselves, raise them
-pub costed_is_raised : (raise : ℕ → ℕ) (cs : List TableColumn) → costed cs (map (raised_cost raise) cs) ≡ map (raised_column raise) cs
-costed_is_raised raise [] = refl
-costed_is_raised raise (c ∷ cs) = ap (λ (xs : List TableColumn). raised_column raise c ∷ xs) (costed_is_raised raise cs)
+-- other costs, made of the columns themselves, are those of the raised program
+pub costed_is_raised : (raise : ℕ → ℕ) (parts : ℕ) (cs : List TableColumn)
+    → costed cs (map (λ c. raised_cost raise (column_in_parts parts c)) cs) ≡ map (raised_column raise) (map (column_in_parts parts) cs)
+costed_is_raised raise parts [] = refl
+costed_is_raised raise parts (c ∷ cs) =
+    ap (λ (xs : List TableColumn). raised_column raise (column_in_parts parts c) ∷ xs) (costed_is_raised raise parts cs)
 
-pub small_costs : (lots : Lots) (book : Book) (group : ℕ → Bool) → IsLots lots → IsBook lots book
-    → AllByRecursion (λ c. IsSmall c.cost) (program_of lots (kept_of lots book group)).columns
-small_costs lots book group l h = all_agree IsSmallColumn (λ c. IsSmall c.cost) (program_of lots (kept_of lots book group)).columns
-    (λ c e. e.0) (built_is_legal lots (kept_of lots book group) l (kept_are_offers lots book group h)).writable.numbers
+abbrev is_small_cost : (ℕ → ℕ) → ℕ → TableColumn → Bool
+is_small_cost raise parts c = nat_le (unsigned_abs (raised_cost raise (column_in_parts parts c))) (10 ^ 18)
+
+pub small_is : (raise : ℕ → ℕ) (parts : ℕ) (cs : List TableColumn)
+    → list_all (is_small_cost raise parts) cs ≡ list_all (λ c. nat_le (unsigned_abs c.cost) (10 ^ 18)) (map (raised_column raise) (map (column_in_parts parts) cs))
+small_is raise parts [] = refl
+small_is raise parts (c ∷ cs) = ap (λ (b : Bool). is_small_cost raise parts c && b) (small_is raise parts cs)
+
+-- those from a place on decide
+small_step : (p : TableColumn → Bool) (f : TableColumn → ℤ) (cs : List TableColumn) (i : ℕ) (z : ℤ) → i < length cs
+    → option_map f (slice_get cs i) ≡ Some z → ((c : TableColumn) → f c ≡ z → p c ≡ nat_le (unsigned_abs z) (10 ^ 18))
+    → list_all p (drop i cs) ≡ (nat_le (unsigned_abs z) (10 ^ 18) && list_all p (drop (i + 1) cs))
+small_step p f cs i z l parsed same =
+    let (x, at, next) = item_at cs i l in
+    let is : f x ≡ z = some_same (f x) z (sym (ap (option_map f) at) ∙ parsed) in
+    ap (list_all p) next ∙ ap (λ (b : Bool). b && list_all p (drop (i + 1) cs)) (same x is)
+
+module _ (raise : ℕ → ℕ) (parts : ℕ) (cs : List TableColumn) (i : ℕ) (z : ℤ) (all : Bool) (l : i < length cs)
+    (parsed : option_map (λ c. raised_cost raise (column_in_parts parts c)) (slice_get cs i) ≡ Some z)
+    (so_far : list_all (is_small_cost raise parts) (drop i cs) ≡ all) where
+  step : list_all (is_small_cost raise parts) (drop i cs) ≡ (nat_le (unsigned_abs z) (10 ^ 18) && list_all (is_small_cost raise parts) (drop (i + 1) cs))
+  step = small_step (is_small_cost raise parts) (λ c. raised_cost raise (column_in_parts parts c)) cs i z l parsed
+      (λ c e. ap (λ (y : ℤ). nat_le (unsigned_abs y) (10 ^ 18)) e)
+
+  pub small_passes : nat_le (unsigned_abs z) (10 ^ 18) ≡ true → list_all (is_small_cost raise parts) (drop (i + 1) cs) ≡ all
+  small_passes e = sym (step ∙ ap (λ (b : Bool). b && list_all (is_small_cost raise parts) (drop (i + 1) cs)) e) ∙ so_far
+
+  pub small_fails : nat_le (unsigned_abs z) (10 ^ 18) ≡ false → all ≡ false
+  small_fails e = sym so_far ∙ step ∙ ap (λ (b : Bool). b && list_all (is_small_cost raise parts) (drop (i + 1) cs)) e
 
 -- minus a number of at most 127 bits
 pub negated : (n m : ℕ) → n ≡ m → n ≤ 2 ^ 127 - 1 → to_z w128 (of_z w128 (pos 0 -ℤ to_z w128 n)) ≡ neg_ℤ (pos m)

@@ -1,32 +1,36 @@
--- There is an allocation of greatest total without any group, and so no allocation blocks prices that cover every group.
-use Rattle.std.proofs.Common.{◌≡◌, ℕ, zero, suc, ◌+◌, ◌≤◌, Bool, true, false, not, ◌&&◌, ◌||◌, ◌==◌, cond, List, [], ◌∷◌}
+-- There is an allocation of greatest total without any group, and so no allocation blocks prices that suffice.
+use Rattle.std.proofs.Common.{◌≡◌, ℕ, zero, suc, ◌+◌, ◌*◌, ◌≤◌, Bool, true, false, not, ◌&&◌, ◌||◌, ◌==◌, cond, List, [], ◌∷◌}
 use Rattle.std.proofs.Common.{is_some, length, refl, sym, ap, ◌∙◌, arith, ⊎_elim, inl, inr, le_refl, eqb-true, eq-eqb, ℤ}
 use Rattle.std.proofs.Common.{pos, ◌-ℤ◌, ◌≤ℤ◌}
-use Rattle.std.specs.Prelude.{sum_by, ◌⊎◌}
+use Rattle.std.specs.Prelude.{sum_by, ◌⊎◌, ◌*ℤ◌}
 use Rattle.std.specs.List.{AllByRecursion, enumerate_from, list_all, list_any}
 use Rattle.std.proofs.lemmas.Bool.{and_from, and_parts, both_ways, cases_Bool, cond-true, cond-false, cond_both}
 use Rattle.std.proofs.lemmas.Bool.{false_from_ne_true, not_from_false, or_from, or_left, or_right}
 use Rattle.std.proofs.lemmas.Int.{ints, by_lt_z}
+use Rattle.std.proofs.Math.Nat.{mul-le-mul_left}
 use Rattle.std.proofs.lemmas.List.Sums.{sum_by-cons}
 use Rattle.std.proofs.lemmas.List.Elements.{recursion_from_All, All-from_recursion, All-nil}
 use Rattle.auction_terms.specs.declared.choices.Choice.{Choice}
 use Rattle.auction_terms.specs.Groups.{has}
-use Rattle.auction_terms.specs.Packages.{Lots}
-use Rattle.auction_terms.specs.Allocations.{Book, bid_of, total, is_eligible, IsFeasible, IsSized}
+use Rattle.auction_terms.specs.Packages.{Lots, left, worth}
+use Rattle.auction_terms.specs.Allocations.{Book, amount_of, bid_of, loads, total, is_eligible, IsFeasible, IsSized}
 use Rattle.auction_terms.specs.Keeping.{kept_of}
 use Rattle.auction_terms.specs.Limits.{IsBook}
 use Rattle.auction_terms.proofs.AllocationFacts.{feasible_from}
 use Rattle.auction_terms.proofs.LimitFacts.{sized}
 use Rattle.auction_terms.proofs.OfferFacts.{all_agree, sum_plus}
-use Rattle.outcome.specs.Report.{amounts_of_group, cost}
+use Rattle.outcome.specs.Report.{amounts_of_group}
 use Rattle.program_rows.specs.Program.{Table, TableRow, TableColumn}
 use Rattle.program_rows.specs.Points.{AreAllowed, IsPoint, allows, meets, objective, row_sum}
 use Rattle.program_rows.specs.Rows.{program_of}
 use Rattle.program_rows.specs.Faithful.{IsGreatest, back}
 use Rattle.program_rows.proofs.FaithfulFacts.{least_is_greatest, presolved_is_faithful}
 use Rattle.optimality.proofs.ColumnSumFacts.{allowed-length}
-use Rattle.prices.specs.Prices.{ArePrices, CoversEveryGroup, CoversIffNoneBlocks, EveryGroupHasACost, NoneBlocks, gain, paid_by_group, revenue, surplus_of}
-use Rattle.prices.proofs.CoverFacts.{added, unblocked_covers, parts, surplus_is}
+use Rattle.prices.specs.Blocking.{ArePrices, NoneBlocks, SufficeIffNoneBlocks, gain, revenue, surplus_of}
+use Rattle.prices.specs.Parts.{Suffice}
+use Rattle.prices.specs.Prices.{EveryGroupHasACost, paid_by_group}
+use Rattle.prices.proofs.BlockingFacts.{added, parted_sums, surplus_is, times_difference, unblocked_suffice}
+use Rattle.prices.proofs.WeightFacts.{spread}
 
 -- ---------- the least of finitely many values ----------
 
@@ -269,29 +273,34 @@ without_missing lots book first a f = record {
   fit = f.fit;
 }
 
-blocked_by : (t w f g p r n m : ℕ) → t ≤ w → (pos w -ℤ (pos f -ℤ pos g)) ≤ℤ pos p → r + n + g ≡ p + f → n ≤ m → t ≤ r + m
-blocked_by t w f g p r n m low cost sums more = omega (arith, ints)
+blocked_by : (parts t w f g p r n m : ℕ) → t ≤ w → (pos parts *ℤ (pos w -ℤ (pos f -ℤ pos g))) ≤ℤ pos p → r + n + parts * g ≡ p + parts * f → n ≤ m → parts * t ≤ r + m
+blocked_by parts t w f g p r n m low cost sums more =
+    let e = times_difference parts w f g in
+    let scaled : parts * t ≤ parts * w = mul-le-mul_left parts low in
+    omega (arith, ints)
 
-pub covers_leaves_none : (lots : Lots) (book : Book) (first : List Choice) (price : ℕ → ℕ) → IsBook lots book → ArePrices book first price
-    → CoversEveryGroup lots book first price → NoneBlocks lots book first price
-covers_leaves_none lots book first price within prices covers a f =
+pub sufficing_leaves_none : (reserves : List ℕ) (lots : Lots) (book : Book) (first : List Choice) (parts : ℕ) (price : ℕ → ℕ) → IsBook lots book
+    → ArePrices book first parts price → Suffice reserves lots book first parts price → NoneBlocks lots book first parts price
+sufficing_leaves_none reserves lots book first parts price within prices suffice a f =
     let group = missing a first in
-    let outer : Choice → ℕ = λ d. cond (not (has group d.bidder)) (gain book price d) 0 in
+    let outer : Choice → ℕ = λ d. cond (not (has group d.bidder)) (gain book parts price d) 0 in
     let here = without_missing lots book first a f in
     let best = there_is_a_greatest lots book (has group) within a here in
     let low = best.1.greatest a here in
-    let costs = covers group best.0 best.1 in
-    let sums = parts lots book first price prices group in
-    let small = sums_at_most outer (λ d. cond (occurs a d.bidder) (gain book price d) 0) first
+    let costs = suffice.covers group best.0 best.1 in
+    let sums = parted_sums lots book first parts price prices group in
+    let small = sums_at_most outer (λ d. cond (occurs a d.bidder) (gain book parts price d) 0) first
     (all_agree (λ d. occurs a d.bidder ≡ false → has group d.bidder ≡ true)
-    (λ d. outer d ≤ cond (occurs a d.bidder) (gain book price d) 0) first (λ d h. outer_is a group (gain book price) d h)
+    (λ d. outer d ≤ cond (occurs a d.bidder) (gain book parts price d) 0) first (λ d h. outer_is a group (gain book parts price) d h)
     (are_missing a first)) in
-    let back = exchange_back a (gain book price) first in
-    let e = surplus_is book first price a in
-    blocked_by (total lots book a) (total lots book best.0) (total lots book first) (amounts_of_group book group first)
-    (paid_by_group price group first) (revenue lots book first price) (sum_by outer first) (surplus_of book first price a)
+    let back = exchange_back a (gain book parts price) first in
+    let e = surplus_is parts book first price a in
+    let unsold : ℕ = worth lots (left lots.supply (loads lots book first)) in
+    let whole : parts * total lots book first ≡ parts * sum_by (amount_of book) first + parts * unsold = spread parts (sum_by (amount_of book) first) unsold in
+    blocked_by parts (total lots book a) (total lots book best.0) (total lots book first) (amounts_of_group book group first)
+    (paid_by_group price group first) (revenue lots book first parts price) (sum_by outer first) (surplus_of book first parts price a)
     low costs (omega arith) (omega arith)
 
-pub covers_iff_none_blocks : CoversIffNoneBlocks
-covers_iff_none_blocks lots book first price within feasible prices =
-    (covers_leaves_none lots book first price within prices, unblocked_covers lots book first price feasible prices)
+pub suffice_iff_none_blocks : SufficeIffNoneBlocks
+suffice_iff_none_blocks reserves lots book first parts price within feasible some prices meet =
+    (sufficing_leaves_none reserves lots book first parts price within prices, unblocked_suffice reserves lots book first parts price feasible some prices meet)

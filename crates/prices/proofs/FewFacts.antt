@@ -1,36 +1,45 @@
 -- How much the winners of an allocation can pay, and a group can cost.
-use Rattle.std.proofs.Common.{◌≡◌, ℕ, Bool, leb-true, le-leb, zero, suc, ◌+◌, ◌*◌, ◌-◌, ◌<◌, ◌≤◌, ◌^◌, true, false, not}
+use Rattle.std.proofs.Common.{◌≡◌, ℕ, Bool, eqb-true, eq-eqb, le_refl, ⊎_elim, zero, suc, ◌+◌, ◌*◌, ◌-◌, ◌<◌, ◌≤◌, ◌^◌, true, false, not}
 use Rattle.std.proofs.Common.{cond, List, [], ◌∷◌, Some, length, slice_index_or, refl, sym, ap, ◌∙◌, subst, arith, ℤ, drop}
-use Rattle.std.proofs.Common.{ap₂, negsuc, pos, neg_ℤ, ◌+ℤ◌, ◌-ℤ◌, ◌≤ℤ◌}
-use Rattle.std.specs.Prelude.{sum_by, All, nat_le, ◌&&◌, ◌*ℤ◌}
-use Rattle.std.specs.List.{AllByRecursion, AllZip, list_all, zip}
-use Rattle.std.proofs.lemmas.Bool.{and_parts}
-use Rattle.std.proofs.lemmas.Int.{ints, to_z-of_z}
+use Rattle.std.proofs.Common.{ap₂, negsuc, pos, neg_ℤ, ◌≤ℤ◌}
+use Rattle.std.specs.Prelude.{count_by, sum_by, unsigned_abs, All, ◌==◌, ◌*ℤ◌}
+use Rattle.std.specs.List.{AllByRecursion, AllZip, zip}
+use Rattle.std.specs.Int.{int_max}
+use Rattle.std.proofs.lemmas.Bool.{both_ways, cases_Bool, false_from_ne_true, or_from, or_left}
+use Rattle.std.proofs.lemmas.Int.{clamps, ints, to_z-of_z}
+use lib.Dec.{T}
+use lib.Signed.{non_neg}
+use lib.IntN.{nat_abs}
 use mir.Syntax.{w128}
 use mir.Val.{SFits, to_z, of_z}
+use Rattle.std.proofs.Common.{Fits, w64}
 use Rattle.std.proofs.lemmas.List.Filters.{sum_by-filter_both}
 use Rattle.std.proofs.lemmas.List.Sums.{sum_by-cons}
-use Rattle.std.proofs.lemmas.List.Elements.{All-from_recursion, recursion_from_All}
-use native.Mathlib.Nat.{mul-le-mul_left}
+use Rattle.std.proofs.lemmas.List.Elements.{recursion_from_All}
+use Rattle.std.proofs.Math.Nat.{mul-le-mul_left, le_of_mul-le-mul_left}
 use Rattle.auction_terms.specs.declared.limits.TheConstants.{GREATEST_AMOUNT, MOST_BIDDERS}
 use Rattle.auction_terms.specs.declared.bids.Bid.{Bid}
 use Rattle.auction_terms.specs.declared.choices.Choice.{Choice}
 use Rattle.auction_terms.specs.Groups.{has}
-use Rattle.auction_terms.specs.Packages.{Lots}
-use Rattle.auction_terms.specs.Allocations.{Book, amount_of, bid_at, bid_of, form_of, is_eligible, weighed_choice, IsFeasible}
-use Rattle.auction_terms.specs.Limits.{IsBook}
+use Rattle.auction_terms.specs.Packages.{Lots, left, weighed}
+use Rattle.auction_terms.specs.Allocations.{Book, amount_of, bid_at, bid_of, form_of, is_eligible, loads, total, weighed_choice, IsFeasible}
+use Rattle.auction_terms.specs.Limits.{IsBook, IsLots}
 use Rattle.auction_terms.proofs.AllocationFacts.{value_of}
-use Rattle.auction_terms.proofs.OfferFacts.{all_agree}
+use Rattle.auction_terms.proofs.OfferFacts.{all_agree, sum_agree, sum_filter}
+use Rattle.program_rows.proofs.EachFacts.{each}
+use Rattle.program_rows.proofs.LegalFacts.{worth_limit}
 use Rattle.outcome.specs.PointAllocation.{HasRisingBidders}
 use Rattle.outcome.specs.Report.{amounts_of_group, cost}
 use Rattle.outcome.proofs.CostFacts.{costs_are_bounded}
 use Rattle.program_rows.specs.Faithful.{IsGreatest}
-use Rattle.prices.specs.Listed.{weighted}
 use Rattle.prices.specs.inside.Weighing.{weight_by}
-use Rattle.outcome.specs.Pricing.{paid}
-use Rattle.prices.specs.Prices.{ArePrices, MeetReserves}
-use Rattle.prices.specs.Weights.{Weighted, weight_on, weighted_costs}
-use Rattle.prices.proofs.CodeFacts.{amount_small}
+use Rattle.prices.specs.Alone.{AreCostsAlone}
+use Rattle.prices.specs.Blocking.{ArePrices}
+use Rattle.prices.specs.Parts.{Suffice}
+use Rattle.prices.specs.Prices.{paid_by_group}
+use Rattle.prices.specs.Weights.{Weighted, weight_on, weighted}
+use Rattle.prices.proofs.CodeFacts.{amount_small, found_in}
+use Rattle.prices.proofs.ExistFacts.{every_group_has_a_cost}
 
 -- ---------- few winners ----------
 
@@ -43,6 +52,12 @@ within_book (form ∷ book) (suc b) j x e = let h = within_book book b j x e in 
 bidder_there : (book : Book) (b j : ℕ) (x : Bid) → bid_at (form_of book b) j ≡ Some x → b ≤ length book
 bidder_there book zero j x e = omega arith
 bidder_there book (suc b) j x e = let h = within_book book b j x e in omega arith
+
+-- a bidder with a bid is one of the book's
+pub bidder_at : (book : Book) (b j : ℕ) (x : Bid) → bid_at (form_of book b) j ≡ Some x → (1 ≤ b) × (b ≤ length book)
+bidder_at book zero zero x e = cc
+bidder_at book zero (suc j) x e = cc
+bidder_at book (suc b) j x e = (omega arith, bidder_there book (suc b) j x e)
 
 rising_few : (a : List Choice) (low most : ℕ) → AllByRecursion (λ c. low ≤ c.bidder) a → AllByRecursion (λ c. c.bidder ≤ most) a
     → HasRisingBidders a → length a ≤ (most + 1) - low
@@ -93,23 +108,6 @@ amounts_few lots book a within f rising =
     let both = at_most_all (length a) (MOST_BIDDERS + 1) few in
     omega arith
 
-prices_few : (book : Book) (price : ℕ → ℕ) (a : List Choice) → AllByRecursion (λ c. price c.bidder ≤ amount_of book c) a
-    → paid price a ≤ sum_by (amount_of book) a
-prices_few book price [] h = omega arith
-prices_few book price (c ∷ a) h =
-    let s = sum_by-cons (λ (x : Choice). price x.bidder) c a in
-    let t = sum_by-cons (amount_of book) c a in
-    let here = h.0 in
-    let later = prices_few book price a h.1 in
-    omega arith
-
-pub paid_few : (lots : Lots) (book : Book) (price : ℕ → ℕ) (a : List Choice) → IsBook lots book → IsFeasible lots book (λ b. false) a
-    → HasRisingBidders a → ArePrices book a price → paid price a ≤ 2 ^ 48
-paid_few lots book price a within f rising prices =
-    let low = prices_few book price a (recursion_from_All (λ c. price c.bidder ≤ amount_of book c) a prices) in
-    let high = amounts_few lots book a within f rising in
-    omega arith
-
 group_few : (book : Book) (group : List ℕ) (a : List Choice) → amounts_of_group book group a ≤ sum_by (amount_of book) a
 group_few book group a = let e = sum_by-filter_both (λ (c : Choice). has group c.bidder) (λ (c : Choice). not (has group c.bidder))
     (λ x. refl) (amount_of book) a in omega arith
@@ -133,6 +131,9 @@ fits_between (negsuc n) low high = record { sfits = omega (arith, ints) }
 
 pub exact : (z : ℤ) → neg_ℤ (pos (2 ^ 124)) ≤ℤ z → z ≤ℤ pos (2 ^ 124) → to_z w128 (of_z w128 z) ≡ z
 exact z low high = to_z-of_z w128 z (fits_between z low high)
+
+pub wide : (z : ℤ) → neg_ℤ (pos (2 ^ 100)) ≤ℤ z → z ≤ℤ pos (2 ^ 100) → to_z w128 (of_z w128 z) ≡ z
+wide z low high = exact z (omega (arith, ints)) (omega (arith, ints))
 
 -- a product of a weight and a cost
 pub product_few : (w : ℕ) (cost : ℤ) → w ≤ 2 ^ 64 → pos 0 ≤ℤ cost → cost ≤ℤ pos (2 ^ 48) → (pos 0 ≤ℤ (pos w *ℤ cost)) × ((pos w *ℤ cost) ≤ℤ pos (2 ^ 112))
@@ -158,12 +159,39 @@ module _ (a k : ℤ) (w : ℕ) (cost : ℤ) (e : a ≡ pos w) (f : k ≡ cost) (
   pub product_is : to_z w128 (of_z w128 (to_z w128 (of_z w128 a) *ℤ to_z w128 (of_z w128 k))) ≡ pos w *ℤ cost
   product_is = to_z-of_z w128 (to_z w128 (of_z w128 a) *ℤ to_z w128 (of_z w128 k)) product_fits ∙ factors
 
-pub sum_is : (s n : ℤ) (place : ℕ) → pos 0 ≤ℤ s → s ≤ℤ pos (place * 2 ^ 112) → pos 0 ≤ℤ n → n ≤ℤ pos (2 ^ 112) → place < 1024
-    → (to_z w128 (of_z w128 (s +ℤ to_z w128 (of_z w128 n))) ≡ s +ℤ n) × (pos 0 ≤ℤ (s +ℤ n)) × ((s +ℤ n) ≤ℤ pos ((place + 1) * 2 ^ 112))
-sum_is s n place ls hs ln hn few =
-    let right : to_z w128 (of_z w128 n) ≡ n = exact n (omega (arith, ints)) (omega (arith, ints)) in
-    let whole : to_z w128 (of_z w128 (s +ℤ n)) ≡ s +ℤ n = exact (s +ℤ n) (omega (arith, ints)) (omega (arith, ints)) in
-    (ap (λ (z : ℤ). to_z w128 (of_z w128 (s +ℤ z))) right ∙ whole, omega (arith, ints), omega (arith, ints))
+-- a cost as the code has it, within the same bounds
+pub between : (k cost : ℤ) → k ≡ cost → pos 0 ≤ℤ cost → cost ≤ℤ pos (2 ^ 48)
+    → (pos 0 ≤ℤ to_z w128 (of_z w128 k)) × (to_z w128 (of_z w128 k) ≤ℤ pos (2 ^ 48))
+between k cost e low high =
+    let same : to_z w128 (of_z w128 k) ≡ cost = exact k (rw e (omega (arith, ints))) (rw e (omega (arith, ints))) ∙ e in
+    (rw same low, rw same high)
+
+-- the greater of a cost and a reserve
+pub record Greater (m : ℤ) (cost : ℤ) (reserve : ℕ) : Type 0 where
+  pub is : to_z w128 (of_z w128 m) ≡ int_max cost (pos reserve)
+  pub not_negative : T (non_neg (to_z w128 (of_z w128 m)))
+  pub fits : Fits w64 (nat_abs (to_z w128 (of_z w128 m)))
+
+natural_fits : (z : ℤ) → pos 0 ≤ℤ z → z ≤ℤ pos (2 ^ 64 - 1) → T (non_neg z) × Fits w64 (nat_abs z)
+natural_fits (pos n) low high = (tt, record { fits = omega (arith, ints) })
+natural_fits (negsuc n) low high = absurd (omega (arith, ints))
+
+pub greater_is : (m k f : ℤ) (r : ℕ) (cost : ℤ) (reserve : ℕ) → m ≡ int_max (to_z w128 (of_z w128 k)) (to_z w128 (of_z w128 f))
+    → k ≡ cost → f ≡ pos r → r ≡ reserve → pos 0 ≤ℤ cost → cost ≤ℤ pos (2 ^ 48) → r < 2 ^ 64 → Greater m cost reserve
+greater_is m k f r cost reserve e is_cost is_reserve same low high small =
+    let left : to_z w128 (of_z w128 k) ≡ cost = exact k (rw is_cost (omega (arith, ints))) (rw is_cost (omega (arith, ints))) ∙ is_cost in
+    let right : to_z w128 (of_z w128 f) ≡ pos reserve = exact f (rw is_reserve (omega (arith, ints))) (rw is_reserve (omega (arith, ints))) ∙ is_reserve ∙ ap pos same in
+    let value : m ≡ int_max cost (pos reserve) = e ∙ ap₂ int_max left right in
+    let least : pos 0 ≤ℤ int_max cost (pos reserve) = omega (arith, ints, clamps) in
+    let most : int_max cost (pos reserve) ≤ℤ pos (2 ^ 64 - 1) = omega (arith, ints, clamps) in
+    let whole : to_z w128 (of_z w128 m) ≡ m = exact m (rw value (omega (arith, ints))) (rw value (omega (arith, ints))) in
+    let both = natural_fits (int_max cost (pos reserve)) least most in
+    let all : to_z w128 (of_z w128 m) ≡ int_max cost (pos reserve) = whole ∙ value in
+    record {
+      is = all;
+      not_negative = subst (λ (z : ℤ). T (non_neg z)) (sym all) both.0;
+      fits = subst (λ (z : ℤ). Fits w64 (nat_abs z)) (sym all) both.1;
+    }
 
 -- ---------- weights, listed with the groups ----------
 
@@ -204,39 +232,6 @@ weights_preserved groups weights bidder i sum n all l m e h =
     let next : i + 1 ≡ suc i = omega arith in
     subst (λ (k : ℕ). (sum + n) + weight_by (drop k groups) (drop k weights) bidder ≡ all) (sym next) (omega arith)
 
--- one more cost
-cost_step : (lots : Lots) (book : Book) (first : List Choice) (groups : List (List ℕ)) (won : List (List Choice)) (weights : List ℕ) (i : ℕ)
-    (d : List Choice) → i < length groups → i < length won → i < length weights
-    → weighted_costs lots book first (weighted (drop i groups) (drop i won) (drop i weights))
-    ≡ pos (slice_index_or weights i 0) *ℤ cost lots book first (slice_index_or groups i []) (slice_index_or won i d) +ℤ weighted_costs lots
-    book first (weighted (drop (suc i) groups) (drop (suc i) won) (drop (suc i) weights))
-cost_step lots book first [] won weights i d l m n = absurd (omega arith)
-cost_step lots book first (g ∷ groups) [] weights i d l m n = absurd (omega arith)
-cost_step lots book first (g ∷ groups) (w ∷ won) [] i d l m n = absurd (omega arith)
-cost_step lots book first (g ∷ groups) (w ∷ won) (y ∷ weights) zero d l m n = refl
-cost_step lots book first (g ∷ groups) (w ∷ won) (y ∷ weights) (suc i) d l m n =
-    cost_step lots book first groups won weights i d (omega arith) (omega arith) (omega arith)
-
-added_cost : (s n next here rest whole all : ℤ) → n ≡ here → next ≡ s +ℤ n → whole ≡ here +ℤ rest → s +ℤ whole ≡ all → next +ℤ rest ≡ all
-added_cost s n next here rest whole all e f g h = omega (arith, ints)
-
-pub costs_preserved : (lots : Lots) (book : Book) (first : List Choice) (groups : List (List ℕ)) (won : List (List Choice))
-    (weights : List ℕ) (i k : ℕ) (g : List ℕ) (w : List Choice) (s n next all : ℤ)
-    → i < length groups → i < length won → i < length weights → k ≡ i → g ≡ slice_index_or groups k [] → w ≡ slice_index_or won i w
-    → n ≡ pos (slice_index_or weights i 0) *ℤ cost lots book first g w → next ≡ s +ℤ n
-    → s +ℤ weighted_costs lots book first (weighted (drop i groups) (drop i won) (drop i weights)) ≡ all
-    → next +ℤ weighted_costs lots book first (weighted (drop (i + 1) groups) (drop (i + 1) won) (drop (i + 1) weights)) ≡ all
-costs_preserved lots book first groups won weights i k g w s n next all l m r e f j product sum h =
-    let step = cost_step lots book first groups won weights i w l m r in
-    let after : i + 1 ≡ suc i = omega arith in
-    let group : g ≡ slice_index_or groups i [] = f ∙ ap (λ (x : ℕ). slice_index_or groups x []) e in
-    let here : n ≡ pos (slice_index_or weights i 0) *ℤ cost lots book first (slice_index_or groups i []) (slice_index_or won i w) =
-    product ∙ ap₂ (λ (x : List ℕ) (y : List Choice). pos (slice_index_or weights i 0) *ℤ cost lots book first x y) group j in
-    subst (λ (x : ℕ). next +ℤ weighted_costs lots book first (weighted (drop x groups) (drop x won) (drop x weights)) ≡ all) (sym after)
-    (added_cost s n next (pos (slice_index_or weights i 0) *ℤ cost lots book first (slice_index_or groups i []) (slice_index_or won i w))
-    (weighted_costs lots book first (weighted (drop (suc i) groups) (drop (suc i) won) (drop (suc i) weights)))
-    (weighted_costs lots book first (weighted (drop i groups) (drop i won) (drop i weights))) all here sum step h)
-
 -- an allocation at a place, without the group there
 pub greatest_at : (lots : Lots) (book : Book) (groups : List (List ℕ)) (won : List (List Choice)) (i k : ℕ) (g : List ℕ) (w : List Choice)
     → AllZip (λ group a. IsGreatest lots book (has group) a) groups won
@@ -256,50 +251,113 @@ as_many_won lots book [] (w ∷ won) h = absurd h
 as_many_won lots book (g ∷ groups) [] h = absurd h
 as_many_won lots book (g ∷ groups) (w ∷ won) h = ap suc (as_many_won lots book groups won h.1)
 
--- ---------- what weights show, by the numbers that are compared ----------
+-- ---------- prices, reserves and costs alone ----------
 
--- a reserve that a price meets is at most the amount
-pub reserves_few : (lots : Lots) (book : Book) (reserves : List ℕ) (price : ℕ → ℕ) (a : List Choice) → IsBook lots book
-    → ArePrices book a price → MeetReserves reserves book a price
-    → All (λ c. weighed_choice reserves book c ≤ GREATEST_AMOUNT) a
-reserves_few lots book reserves price a within prices meets k d l =
-    let met = meets k d l in
-    let most = prices k d l in
-    let small = amount_small lots book (slice_index_or a k d) within in
+few_parts : (parts amount price : ℕ) → parts ≤ 10 ^ 6 → amount ≤ GREATEST_AMOUNT → price ≤ parts * amount → price ≤ 10 ^ 18
+few_parts parts amount price few small most =
+    let a : parts * amount ≤ parts * GREATEST_AMOUNT = mul-le-mul_left parts small in
     omega arith
 
-both_true : (b c : Bool) → b ≡ true → c ≡ true → (b && c) ≡ true
-both_true b c h g = rw (h, g) refl
+whole_few : (parts reserve amount price : ℕ) → 1 ≤ parts → parts * reserve ≤ price → price ≤ parts * amount → amount ≤ GREATEST_AMOUNT
+    → reserve ≤ GREATEST_AMOUNT
+whole_few parts reserve amount price some met most small =
+    let scaled : parts * reserve ≤ parts * amount = omega arith in
+    let less : reserve ≤ amount = le_of_mul-le-mul_left scaled some in
+    omega arith
 
-module _ (groups : List (List ℕ)) (won : List (List Choice)) (weights : List ℕ) (many : length won ≡ length groups) (own : ℕ → ℕ) (scale : ℕ) where
-  -- whether the weights on the winners are within the scale, by the sums of the code
-  pub within_reported : (a : List Choice) → All (λ c. weight_by groups weights c.bidder + own c.bidder ≤ scale) a
-      → list_all (λ c. nat_le (weight_on (weighted groups won weights) c.bidder + own c.bidder) scale) a ≡ true
-  within_reported a h = by a (recursion_from_All _ a h)
-    where
-      by : (xs : List Choice) → AllByRecursion (λ c. weight_by groups weights c.bidder + own c.bidder ≤ scale) xs
-          → list_all (λ c. nat_le (weight_on (weighted groups won weights) c.bidder + own c.bidder) scale) xs ≡ true
-      by [] h = refl
-      by (c ∷ xs) h = both_true _ _ (le-leb _ _ (subst (λ (n : ℕ). n + own c.bidder ≤ scale)
-          (sym (weights_are groups won weights c.bidder many)) h.0)) (by xs h.1)
+not_above : (parts paid price amount : ℕ) (cost : ℤ) → 1 ≤ parts → (pos parts *ℤ cost) ≤ℤ pos paid → paid ≡ price → price ≤ parts * amount → cost ≤ℤ pos amount
+not_above parts paid price amount (pos n) some covered pays most =
+    let scaled : parts * n ≤ parts * amount = omega (arith, ints) in
+    let less : n ≤ amount = le_of_mul-le-mul_left scaled some in
+    omega (arith, ints)
+not_above parts paid price amount (negsuc n) some covered pays most = omega (arith, ints)
 
-  pub within_asked : (a : List Choice) → list_all (λ c. nat_le (weight_on (weighted groups won weights) c.bidder + own c.bidder) scale) a
-      ≡ true → All (λ c. weight_by groups weights c.bidder + own c.bidder ≤ scale) a
-  within_asked a h = All-from_recursion _ a (by a h)
-    where
-      by : (xs : List Choice) → list_all (λ c. nat_le (weight_on (weighted groups won weights) c.bidder + own c.bidder) scale) xs ≡ true
-          → AllByRecursion (λ c. weight_by groups weights c.bidder + own c.bidder ≤ scale) xs
-      by [] h = tt
-      by (c ∷ xs) h =
-          let parts = and_parts (nat_le (weight_on (weighted groups won weights) c.bidder + own c.bidder) scale)
-          (list_all (λ c. nat_le (weight_on (weighted groups won weights) c.bidder + own c.bidder) scale) xs) h in
-          (subst (λ (n : ℕ). n + own c.bidder ≤ scale) (weights_are groups won weights c.bidder many) (leb-true _ _ parts.0), by xs parts.1)
+size_few : (z : ℤ) → pos 0 ≤ℤ z → z ≤ℤ pos GREATEST_AMOUNT → unsigned_abs z ≤ GREATEST_AMOUNT
+size_few (pos n) low high = omega (arith, ints)
+size_few (negsuc n) low high = absurd (omega (arith, ints))
 
--- where they aren't, nothing is shown
-pub not_within : (b c : Bool) → (b ≡ true → ⊥) → false ≡ (b && c)
-not_within true c h = absurd (h refl)
-not_within false c h = refl
+greater_few : (parts alone reserve amount price paid : ℕ) (cost : ℤ) → alone ≡ unsigned_abs (int_max cost (pos reserve)) → 1 ≤ parts
+    → reserve ≤ GREATEST_AMOUNT → (pos parts *ℤ cost) ≤ℤ pos paid → paid ≡ price → price ≤ parts * amount → amount ≤ GREATEST_AMOUNT
+    → alone ≤ GREATEST_AMOUNT
+greater_few parts alone reserve amount price paid cost e some low covered pays most small =
+    let less : cost ≤ℤ pos amount = not_above parts paid price amount cost some covered pays most in
+    let both : int_max cost (pos reserve) ≤ℤ pos GREATEST_AMOUNT = omega (arith, ints, clamps) in
+    let not_below : pos 0 ≤ℤ int_max cost (pos reserve) = omega (arith, ints, clamps) in
+    subst (λ (n : ℕ). n ≤ GREATEST_AMOUNT) (sym e) (size_few (int_max cost (pos reserve)) not_below both)
 
--- where they are, the numbers say it
-pub is_shown : (b : Bool) (r : Bool) (c d : Bool) → b ≡ true → r ≡ c → c ≡ d → r ≡ (b && d)
-is_shown b r c d e f g = rw e (f ∙ g)
+-- a bidder of one choice is what a group of that bidder alone pays for
+one_of : (b : ℕ) (x : ℕ) → has (b ∷ []) x ≡ (x == b)
+one_of b x = ⊎_elim
+    (λ e. let f = eqb-true x b e in rw (e, f) (or_left (b == b) false (eq-eqb b b refl)))
+    (λ e. rw e (or_from (b == x) false (false_from_ne_true (b == x) (λ t. both_ways (x == b) e (eq-eqb x b (sym (eqb-true b x t))))) refl))
+    (cases_Bool (x == b))
+
+paid_alone : (first : List Choice) (price : ℕ → ℕ) (k : ℕ) (d : Choice) → k < length first
+    → count_by (λ c. c.bidder == (slice_index_or first k d).bidder) first ≤ 1
+    → paid_by_group price ((slice_index_or first k d).bidder ∷ []) first ≡ price (slice_index_or first k d).bidder
+paid_alone first price k d l one =
+    let b : ℕ = (slice_index_or first k d).bidder in
+    sum_filter (λ (c : Choice). price c.bidder) (λ c. has (b ∷ []) c.bidder) first
+    ∙ sum_agree (λ (c : Choice). cond (has (b ∷ []) c.bidder) (price c.bidder) 0) (λ (c : Choice). cond (c.bidder == b) (price c.bidder) 0) first
+    (each _ first (λ c. ap (λ (t : Bool). cond t (price c.bidder) 0) (one_of b c.bidder)))
+    ∙ sym (sum_filter (λ (c : Choice). price c.bidder) (λ c. c.bidder == b) first)
+    ∙ found_in (λ (c : Choice). price c.bidder) b first k d l refl one
+
+module _ (lots : Lots) (book : Book) (first : List Choice) (parts : ℕ) (price : ℕ → ℕ) (within : IsBook lots book) (prices : ArePrices book first parts price) where
+  pub prices_few : parts ≤ 10 ^ 6 → All (λ c. price c.bidder ≤ 10 ^ 18) first
+  prices_few few k d l =
+      let most = prices k d l in
+      let small = amount_small lots book (slice_index_or first k d) within in
+      few_parts parts (amount_of book (slice_index_or first k d)) (price (slice_index_or first k d).bidder) few small most
+
+  -- a reserve that a price meets is at most the amount
+  pub reserves_few : (reserves : List ℕ) → Suffice reserves lots book first parts price → All (λ c. weighed_choice reserves book c ≤ GREATEST_AMOUNT) first
+  reserves_few reserves suffice k d l =
+      let met = suffice.meet k d l in
+      let most = prices k d l in
+      let small = amount_small lots book (slice_index_or first k d) within in
+      whole_few parts (weighed_choice reserves book (slice_index_or first k d)) (amount_of book (slice_index_or first k d))
+      (price (slice_index_or first k d).bidder) suffice.some met most small
+
+  -- what a group of one pays is that bidder's price, and so it costs no more than the bidder's amount
+  pub alone_few : (reserves : List ℕ) (alone : ℕ → ℕ) → Suffice reserves lots book first parts price → IsFeasible lots book (λ b. false) first
+      → AreCostsAlone reserves lots book first alone → All (λ c. alone c.bidder ≤ GREATEST_AMOUNT) first
+  alone_few reserves alone suffice feasible costs k d l =
+      let c : Choice = slice_index_or first k d in
+      let there = every_group_has_a_cost lots book (c.bidder ∷ []) within in
+      let is = costs k d l there.0 there.1 in
+      let reserve = reserves_few reserves suffice k d l in
+      let covered = suffice.covers (c.bidder ∷ []) there.0 there.1 in
+      let pays = paid_alone first price k d l (feasible.one_bid_each c.bidder) in
+      let most = prices k d l in
+      let small = amount_small lots book c within in
+      greater_few parts (alone c.bidder) (weighed_choice reserves book c) (amount_of book c) (price c.bidder)
+      (paid_by_group price (c.bidder ∷ []) first) (cost lots book first (c.bidder ∷ []) there.0)
+      is suffice.some reserve covered pays most small
+
+-- ---------- totals ----------
+
+left_no_more : (w n q : List ℕ) → weighed w (left n q) ≤ weighed w n
+left_no_more [] n q = le_refl 0
+left_no_more (k ∷ w) [] q = le_refl 0
+left_no_more (k ∷ w) (m ∷ n) [] = let later = left_no_more w n [] in omega arith
+left_no_more (k ∷ w) (m ∷ n) (x ∷ q) =
+    let later = left_no_more w n q in
+    let here : k * (m - x) ≤ k * m = mul-le-mul_left k (omega arith) in
+    omega arith
+
+pub total_few : (lots : Lots) (book : Book) (a : List Choice) → IsLots lots → IsBook lots book → IsFeasible lots book (λ b. false) a
+    → HasRisingBidders a → total lots book a ≤ 2 ^ 60
+total_few lots book a small within f rising =
+    let amounts = amounts_few lots book a within f rising in
+    let less = left_no_more lots.values lots.supply (loads lots book a) in
+    let most = worth_limit lots small in
+    omega arith
+
+pub total_in_parts_few : (parts n : ℕ) → parts ≤ 10 ^ 6 → n ≤ 2 ^ 60 → parts * n ≤ 2 ^ 90
+total_in_parts_few parts n few small =
+    let a : parts * n ≤ parts * (2 ^ 60) = mul-le-mul_left parts small in
+    omega arith
+
+pub product_of : (a b m n : ℕ) → a ≡ m → b ≡ n → a * b ≡ m * n
+product_of a b m n e f = ap₂ (λ (x y : ℕ). x * y) e f

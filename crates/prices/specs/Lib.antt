@@ -1,5 +1,10 @@
 pub mod Prices
+pub mod Parts
+pub mod Blocking
 pub mod Raised
+pub mod Alone
 pub mod Weights
-pub mod Listed
+pub mod Rule
+pub mod Rounding
+pub mod Following
 pub mod inside

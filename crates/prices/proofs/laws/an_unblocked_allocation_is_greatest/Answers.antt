@@ -1,4 +1,4 @@
-use Rattle.prices.proofs.CoverFacts.{unblocked_is_greatest}
+use Rattle.prices.proofs.BlockingFacts.{unblocked_is_greatest}
 use Rattle.prices.proofs.laws.an_unblocked_allocation_is_greatest.Goals as goal
 
 pub returns : goal.returns

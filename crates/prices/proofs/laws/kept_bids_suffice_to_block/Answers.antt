@@ -1,4 +1,4 @@
-use Rattle.prices.proofs.CoverFacts.{kept_bids_suffice}
+use Rattle.prices.proofs.BlockingFacts.{kept_bids_suffice}
 use Rattle.prices.proofs.laws.kept_bids_suffice_to_block.Goals as goal
 
 pub returns : goal.returns

@@ -1,0 +1,20 @@
+-- Prices in parts of a pound, each rounded up to whole pounds: what the winners are to pay.
+use Rattle.std.specs.Prelude.{◌≡◌, ℕ, All, List}
+use Rattle.auction_terms.specs.declared.choices.Choice.{Choice}
+use Rattle.auction_terms.specs.Packages.{Lots}
+use Rattle.auction_terms.specs.Allocations.{Book}
+use Rattle.outcome.specs.Pricing.{in_pounds}
+use Rattle.prices.specs.Parts.{AreThePrices, Suffice}
+use Rattle.prices.specs.Prices.{CoversEveryGroup, MeetReserves}
+
+-- prices that suffice cover every group and meet the reserves, once they are rounded up
+abbrev pub RoundedUpSuffice : Type 0
+RoundedUpSuffice = (reserves : List ℕ) (lots : Lots) (book : Book) (first : List Choice) (parts : ℕ) (price : ℕ → ℕ)
+    → Suffice reserves lots book first parts price
+    → CoversEveryGroup lots book first (in_pounds parts price) × MeetReserves reserves book first (in_pounds parts price)
+
+-- and what is rounded up from the prices of the rule is the same, whoever finds them
+abbrev pub RoundedUpIsOne : Type 0
+RoundedUpIsOne = (reserves : List ℕ) (lots : Lots) (book : Book) (first : List Choice) (alone : ℕ → ℕ) (parts parts' : ℕ) (price price' : ℕ → ℕ)
+    → AreThePrices reserves lots book first alone parts price → AreThePrices reserves lots book first alone parts' price'
+    → All (λ c. in_pounds parts price c.bidder ≡ in_pounds parts' price' c.bidder) first
