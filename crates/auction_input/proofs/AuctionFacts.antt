@@ -69,7 +69,7 @@ pub record Rest : Type 0 where
   pub ties : List (List ℕ)
   pub prices : List (List ℕ)
   pub covers : List (List ℕ)
-  pub weights : List (List ℕ)
+  pub rule_texts : List (List ℕ)
 
 abbrev pub rest_in : List Part → Rest
 rest_in parts = record {
@@ -79,7 +79,7 @@ rest_in parts = record {
   ties = parts_named (codes "%tie") parts;
   prices = parts_named (codes "%prices") parts;
   covers = parts_named (codes "%cover") parts;
-  weights = parts_named (codes "%weights") parts;
+  rule_texts = parts_named (codes "%rule") parts;
 }
 
 abbrev pub rest_held : Beside → Rest
@@ -92,11 +92,11 @@ rest_held beside = record {
   prices = bytes_of beside.prices.items;
   covers = bytes_of
       beside.covers.items;
-  weights = bytes_of beside.weights.items;
+  rule_texts = bytes_of beside.rule_texts.items;
 }
 
 pub rest-same : (beside : Beside) (parts : List Part) → HoldTexts parts beside → rest_in parts ≡ rest_held beside
-rest-same beside parts hold = rw (hold.solutions, hold.certificates, hold.uniques, hold.ties, hold.prices, hold.covers, hold.weights) refl
+rest-same beside parts hold = rw (hold.solutions, hold.certificates, hold.uniques, hold.ties, hold.prices, hold.covers, hold.rule_texts) refl
 
 -- the auction that forms leave, with groups and these texts
 abbrev auction_of : Terms → List Offers → List (List ℕ) → Rest → Auction
@@ -112,7 +112,7 @@ auction_of t forms groups rest = record {
   ties = rest.ties;
   prices = rest.prices;
   covers = rest.covers;
-  weights = rest.weights;
+  rule_texts = rest.rule_texts;
 }
 
 module _ (asked : Request) (input : Input) (last_wins : Bool) (same : input.last_wins ≡ last_wins) (parts : List Part)
@@ -215,8 +215,8 @@ sold t sale bidders groups rest = record {
   ties = rest.ties;
   prices = rest.prices;
   covers = rest.covers;
-  weights =
-      rest.weights;
+  rule_texts =
+      rest.rule_texts;
 }
 
 -- the auction that a settled book and groups are, with the texts after them

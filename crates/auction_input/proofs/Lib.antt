@@ -1,14 +1,16 @@
-pub mod GivenNumbersFacts
+pub mod PriceTextFacts
 pub mod StepFacts
 pub mod AnswerFacts
 pub mod AuctionFacts
 mod CallFacts
 mod BidderNameFacts
+mod BookFacts
 pub mod FaultFacts
 mod FileFacts
 pub mod FormStageFacts
 pub mod FormTextFacts
 pub mod InputTextFacts
+pub mod LastFormFacts
 pub mod LimitFacts
 pub mod LotFacts
 pub mod PartFacts

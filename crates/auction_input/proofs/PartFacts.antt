@@ -2,7 +2,7 @@
 use Rattle.std.proofs.Common.{◌≡◌, ◌≤◌, ◌<◌, ◌+◌, ◌∷◌, ◌++◌, ◌∙◌, Bool, true, false, ℕ, zero, suc, List, [], drop, take}
 use Rattle.std.proofs.Common.{length, refl, Result, Err, Vec, Global, ap, append_assoc, subst, sym, arith, ◌⊎◌, inl, inr}
 use Rattle.std.proofs.Common.{◌==◌, ◌||◌, Option, None, Some, count_by, filter, find, map, slice_index, slice_index_or, not}
-use Rattle.std.proofs.Common.{Bor, bytes_eq}
+use Rattle.std.proofs.Common.{Bor, bytes_eq, codes}
 use Rattle.auction_terms.specs.FirstFault.{first_fault}
 use Rattle.auction_terms.proofs.FirstFaultFacts.{CheckedSoFar}
 use Rattle.auction_input.proofs.CallFacts.{first-append}
@@ -21,7 +21,7 @@ use Rattle.auction_input.specs.declared.request.Target.{Target}
 use Rattle.memchr.specs.Find.{FindsNeedle, OccursAt}
 use Rattle.auction_input.specs.Parts.{Part, TellsParts, bytes_before, onto_first_line, cut_lines, has_bytes_before}
 use Rattle.auction_input.specs.Parts.{heads_part, input_fault, name_of, names_for, part_fault, part_names, parts_from}
-use Rattle.auction_input.specs.Parts.{parts_held, parts_in, parts_named, input_parts, text_numbers}
+use Rattle.auction_input.specs.Parts.{parts_held, parts_in, parts_named, input_parts, text_numbers, unknown_part}
 use Rattle.auction_input.specs.Input.{Given, Input}
 use Rattle.auction_input.specs.ParsedParts.{only_text}
 use Rattle.auction_input.specs.inside.Parts.{HaveAdded, IsFaultAfter, is_held, kind_named, kinds_for, known_kinds, part}
@@ -122,8 +122,17 @@ known-part asked before p k is = rw (named-so p.name asked (Some k) is).1 refl
 
 -- a part of no known kind
 pub unknown-part : (asked : Request) (before : List Part) (p : Part) → kind_named asked p.name ≡ None
-    → part_fault asked before p ≡ Some (fault.PartName (length before + 1))
+    → part_fault asked before p ≡ Some (unknown_part (length before + 1) p.name)
 unknown-part asked before p is = rw (named-so p.name asked None is) refl
+
+-- it is the first fault of parts
+pub unknown-is : (asked : Request) (old parts : List Part) (n : ℕ) (name : List ℕ)
+    → first_fault (part_fault asked) old parts ≡ Some (unknown_part n name) → IsFaultAfter asked old parts (unknown_part n name)
+unknown-is asked old parts n name found = by (bytes_eq name (codes "%weights")) refl
+  where
+    by : (b : Bool) → bytes_eq name (codes "%weights") ≡ b → IsFaultAfter asked old parts (unknown_part n name)
+    by true e = rw e (rw e at found)
+    by false e = rw e (rw e at found)
 
 abbrev held_part : declared.Part → Part
 held_part p = record { text = p.text; name = name_of p.kind; bytes = p.bytes.now }
@@ -207,6 +216,8 @@ text-refused asked input before more rest fault.BeforeFirst none so_far found =
     fault-of-parts asked input none ∙ text-fault asked (input_parts input) before more rest [] so_far fault.BeforeFirst found
 text-refused asked input before more rest (fault.PartName n) none so_far found =
     fault-of-parts asked input none ∙ text-fault asked (input_parts input) before more rest [] so_far (fault.PartName n) found
+text-refused asked input before more rest (fault.OfVersion1 n) none so_far found =
+    fault-of-parts asked input none ∙ text-fault asked (input_parts input) before more rest [] so_far (fault.OfVersion1 n) found
 
 -- the text that is next, and those after it
 pub next-text : (texts : List Given) (place : ℕ) (d : Given) → place < length texts

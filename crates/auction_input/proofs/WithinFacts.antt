@@ -42,7 +42,7 @@ auction-within asked input auction parsed =
       prices = parts_named (codes "%prices") parts;
       covers = parts_named
           (codes "%cover") parts;
-      weights = parts_named (codes "%weights") parts;
+      rule_texts = parts_named (codes "%rule") parts;
     } in
     let is : whole ≡ auction = (unless-ok _ whole auction (ok-refused_as refusal.CallLimit _ auction more_calls)).1 in
     let each = subst (λ (fs : List Offers). each_in_turn (parsed_form t) 1 (parts_named (codes "%form") parts) ≡ Ok fs) same read_are in

@@ -49,5 +49,5 @@ not_covered : line (refusal.Cover (record { line = 3; kind = certificate.NotShow
 unfolding digits
 not_covered = refl
 
-no_scale : line (refusal.Weights price.NoScale) ≡ codes "wdp: weights: 9 NoScale\n"
-no_scale = refl
+no_scales : line (refusal.Rule price.NoScales) ≡ codes "wdp: rule: 9 NoScales\n"
+no_scales = refl

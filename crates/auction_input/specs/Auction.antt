@@ -18,7 +18,7 @@ use Rattle.bid_forms.specs.Offers.{Offers}
 
 -- the rules, the sale by them, the bidder of each form in the order of the input, the groups that are left out of the sale, and the texts
 -- of solutions and of certificates; what is claimed of other outcomes: texts of certificates that there is none as good, and of solutions
--- that are; and texts of prices, of certificates that they cover every group, and of weights
+-- that are; and texts of prices, of certificates that they cover every group, and of the rule
 pub record Auction : Type 0 where
   pub rules : Terms
   pub sale : Sale
@@ -30,7 +30,7 @@ pub record Auction : Type 0 where
   pub ties : List (List ℕ)
   pub prices : List (List ℕ)
   pub covers : List (List ℕ)
-  pub weights : List (List ℕ)
+  pub rule_texts : List (List ℕ)
 
 abbrev pub parsed_auction : Request → Input → Result Auction Refusal
 parsed_auction asked input =
@@ -50,5 +50,5 @@ parsed_auction asked input =
       ties = parts_named (codes "%tie") parts;
       prices = parts_named (codes "%prices") parts;
       covers = parts_named (codes "%cover") parts;
-      weights = parts_named (codes "%weights") parts;
+      rule_texts = parts_named (codes "%rule") parts;
     }))))))))

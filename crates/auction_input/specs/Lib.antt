@@ -1,4 +1,4 @@
-pub mod GivenNumbers
+pub mod PriceTexts
 pub mod PriceFaultText
 pub mod Requests
 pub mod Auction
@@ -8,6 +8,7 @@ pub mod FileTexts
 pub mod FileWords
 pub mod FormTexts
 pub mod Input
+pub mod LastForms
 pub mod Line
 pub mod Parts
 pub mod ParsedParts

@@ -36,11 +36,13 @@ refusal_text (refusal.Groups groups.OutOfMemory) = codes "out of memory"
 refusal_text (refusal.Solution n solution.OutOfMemory) = codes "out of memory"
 refusal_text (refusal.Tie solution.OutOfMemory) = codes "out of memory"
 refusal_text (refusal.Prices price.OutOfMemory) = codes "out of memory"
-refusal_text (refusal.Weights price.OutOfMemory) = codes "out of memory"
+refusal_text (refusal.Rule price.OutOfMemory) = codes "out of memory"
 refusal_text (refusal.Input input.ReadFailed) = codes "input: read failed"
 refusal_text (refusal.Input input.TooLarge) = codes "input: too large"
 refusal_text (refusal.Parts part.BeforeFirst) = codes "input: bytes before the first part"
 refusal_text (refusal.Parts (part.PartName place)) = codes "input: part " ++ (decimal place ++ codes " not known")
+refusal_text (refusal.Parts (part.OfVersion1 place)) =
+    codes "input: part " ++ (decimal place ++ codes " not known: %weights is of version 1, and wdp-office prices makes %rule in its place")
 refusal_text (refusal.PartCount kind_of_part.Rules) = codes "input: wrong number of rules"
 refusal_text (refusal.PartCount kind_of_part.Form) = codes "input: wrong number of forms"
 refusal_text (refusal.PartCount kind_of_part.Groups) = codes "input: wrong number of groups"
@@ -48,7 +50,7 @@ refusal_text (refusal.PartCount kind_of_part.Solution) = codes "input: wrong num
 refusal_text (refusal.PartCount kind_of_part.Certificate) = codes "input: wrong number of certificates"
 refusal_text (refusal.PartCount kind_of_part.Prices) = codes "input: wrong number of prices"
 refusal_text (refusal.PartCount kind_of_part.Cover) = codes "input: wrong number of covers"
-refusal_text (refusal.PartCount kind_of_part.Weights) = codes "input: wrong number of weights"
+refusal_text (refusal.PartCount kind_of_part.Rule) = codes "input: wrong number of price rules"
 refusal_text (refusal.PartCount claimed) = codes "input: wrong number of unique and tie"
 refusal_text (refusal.Rules f) = codes "rules: " ++ rules_fault_text f
 refusal_text (refusal.Form n f) = (codes "form " ++ (decimal n ++ codes ": ")) ++ form_fault_text f
@@ -78,7 +80,8 @@ refusal_text refusal.SameTie = codes "tie: same winners as group 1"
 refusal_text (refusal.Prices f) = codes "prices: " ++ price_fault_text f
 refusal_text (refusal.MissingPrice name) = codes "prices: 6 MissingWinner " ++ name
 refusal_text (refusal.Cover f) = elim (f.kind) [ certificate.OutOfMemory ↦ codes "out of memory" | k ↦ codes "cover: " ++ certificate_fault_text f.line f.kind ]
-refusal_text (refusal.Weights f) = codes "weights: " ++ price_fault_text f
+refusal_text (refusal.Rule f) = codes "rule: " ++ price_fault_text f
+refusal_text (refusal.NoGroupAlone name) = codes "rule: 13 NoGroupAlone " ++ name
 refusal_text (refusal.Write (write.Sink written)) = codes "write failed after " ++ (decimal written ++ codes " bytes")
 
 -- and its line

@@ -68,17 +68,21 @@ has_bytes_before given = not (length (bytes_before (cut_lines given.bytes)) == 0
 -- names no command, which ignores them
 abbrev pub names_for : Option Target → List (List ℕ)
 names_for (Some target.Verify) = codes "%rules" ∷ codes "%form" ∷ codes "%groups" ∷ codes "%solution" ∷ codes "%certificate" ∷ codes
-    "%unique" ∷ codes "%tie" ∷ codes "%prices" ∷ codes "%cover" ∷ codes "%weights" ∷ []
+    "%unique" ∷ codes "%tie" ∷ codes "%prices" ∷ codes "%cover" ∷ codes "%rule" ∷ []
 names_for None = codes "%rules" ∷ codes "%form" ∷ codes "%groups" ∷ codes "%solution" ∷ codes "%certificate" ∷ codes "%unique" ∷ codes
-    "%tie" ∷ codes "%prices" ∷ codes "%cover" ∷ codes "%weights" ∷ []
+    "%tie" ∷ codes "%prices" ∷ codes "%cover" ∷ codes "%rule" ∷ []
 names_for (Some command) = codes "%rules" ∷ codes "%form" ∷ codes "%groups" ∷ codes "%solution" ∷ []
 
 abbrev pub part_names : Request → List (List ℕ)
 part_names asked = names_for (target_of asked)
 
+-- the fault of the part of this number, whose name isn't among them
+abbrev pub unknown_part : ℕ → List ℕ → PartFault
+unknown_part n name = if bytes_eq name (codes "%weights") then fault.OfVersion1 n else fault.PartName n
+
 -- a part of no such name, given the parts before it
 abbrev pub part_fault : Request → List Part → Part → Option PartFault
-part_fault asked before p = if list_any (bytes_eq p.name) (part_names asked) then None else Some (fault.PartName (length before + 1))
+part_fault asked before p = if list_any (bytes_eq p.name) (part_names asked) then None else Some (unknown_part (length before + 1) p.name)
 
 -- the first fault of the input
 abbrev pub input_fault : Request → Input → Option PartFault
@@ -105,7 +109,7 @@ name_of kind.Unique = codes "%unique"
 name_of kind.Tie = codes "%tie"
 name_of kind.Prices = codes "%prices"
 name_of kind.Cover = codes "%cover"
-name_of kind.Weights = codes "%weights"
+name_of kind.Rule = codes "%rule"
 
 -- what is held of parts, by the names of their kinds
 abbrev pub parts_held : List declared.Part → List Part

@@ -43,6 +43,7 @@ counted_as (refusal.Solution n solution.OutOfMemory) = None
 counted_as (refusal.Tie solution.OutOfMemory) = None
 counted_as (refusal.Parts part.BeforeFirst) = Some (counted.BytesBefore, 1)
 counted_as (refusal.Parts (part.PartName n)) = Some (counted.Parts, n)
+counted_as (refusal.Parts (part.OfVersion1 n)) = Some (counted.Parts, n)
 counted_as (refusal.Rules f) = Some (counted.Kind kind_of_part.Rules, 1)
 counted_as (refusal.Form n f) = Some (counted.Kind kind_of_part.Form, n)
 counted_as (refusal.AnotherForm f) = Some (counted.Kind kind_of_part.Form, f.form)
@@ -73,6 +74,7 @@ spot_of texts r = if nat_le (length texts) 1 then None else spot_by texts (count
 -- a refusal, with another number of its part
 abbrev pub with_number : ℕ → Refusal → Refusal
 with_number n (refusal.Parts (part.PartName m)) = refusal.Parts (part.PartName n)
+with_number n (refusal.Parts (part.OfVersion1 m)) = refusal.Parts (part.OfVersion1 n)
 with_number n (refusal.Form m f) = refusal.Form n f
 with_number n (refusal.CallLimit m) = refusal.CallLimit n
 with_number n (refusal.Solution m f) = refusal.Solution n f

@@ -1,4 +1,4 @@
--- The words on a fault of prices or of weights.
+-- The words on a fault of prices or of the rule.
 use Rattle.std.specs.Prelude.{◌++◌, ℕ, List, codes, decimal}
 use Rattle.auction_input.specs.declared.price_fault.PriceFault.{PriceFault}
 use Rattle.auction_input.specs.declared.price_fault.PriceFault.TheVariants as fault
@@ -11,5 +11,10 @@ price_fault_text (fault.RepeatedName place) = codes "4 RepeatedName at line " ++
 price_fault_text (fault.NumberText place) = codes "5 NumberText at line " ++ decimal place
 price_fault_text (fault.AboveAmount place) = codes "7 AboveAmount at line " ++ decimal place
 price_fault_text (fault.BelowReserve place) = codes "8 BelowReserve at line " ++ decimal place
-price_fault_text fault.NoScale = codes "9 NoScale"
+price_fault_text fault.NoScales = codes "9 NoScales"
+price_fault_text (fault.DenominatorRange place) = codes "10 DenominatorRange at line " ++ decimal place
+price_fault_text (fault.PriceRange place) = codes "11 PriceRange at line " ++ decimal place
+price_fault_text (fault.TooManyParts place) = codes "12 TooManyParts at line " ++ decimal place
+price_fault_text fault.NotLeast = codes "14 NotLeast"
+price_fault_text fault.NotNearest = codes "15 NotNearest"
 price_fault_text fault.OutOfMemory = codes "out of memory"

@@ -1,6 +1,6 @@
 -- The numbers that a request may have, and the command as which it takes parts.
-use Rattle.std.specs.Prelude.{◌≤◌, ⊤, ℕ, List, Option, None, Some, bytes_eq, codes, if◌then◌else◌}
-use Rattle.auction_input.specs.declared.request.Request.TheVariants.{Check, Compile, Explain, Map, Report, Text, Verify}
+use Rattle.std.specs.Prelude.{◌≤◌, ⊤, ℕ, Bool, List, Option, None, Some, bytes_eq, codes, false, if◌then◌else◌, true}
+use Rattle.auction_input.specs.declared.request.Request.TheVariants.{Check, Compile, Explain, Forms, Map, Report, Text, Verify}
 use Rattle.auction_input.specs.declared.request.Request.{Request}
 use Rattle.auction_input.specs.declared.request.Target.TheVariants as target
 use Rattle.auction_input.specs.declared.request.Target.{Target}
@@ -24,6 +24,12 @@ target_of (Explain bids command) = command
 target_of (Map group) = Some target.Map
 target_of (Report workers) = Some target.Report
 target_of (Verify workers) = Some target.Verify
+target_of Forms = None
+
+-- whether parts of groups and of solutions may be there in any number, as none of them is read
+abbrev pub ignores_others : Request → Bool
+ignores_others Forms = true
+ignores_others asked = false
 
 -- the command of this name, among those that take parts
 abbrev pub target_named : List ℕ → Option Target

@@ -35,7 +35,7 @@ held auction = record {
   prices = bytes_of auction.prices.items;
   covers = bytes_of
       auction.covers.items;
-  weights = bytes_of auction.weights.items;
+  rule_texts = bytes_of auction.rule_texts.items;
 }
 
 -- the auction, which the request reads, is accepted, and yet a wrong answer of the desk is reported: that it gave one isn't said, since

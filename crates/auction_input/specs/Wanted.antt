@@ -32,7 +32,7 @@ numbers_in parts groups =
       ties = count part.Tie;
       prices = count part.Prices;
       covers = count part.Cover;
-      weights = count part.Weights;
+      rule_texts = count part.Rule;
     }
 
 -- of an auction
@@ -46,7 +46,7 @@ numbers_of auction = record {
   ties = length auction.ties;
   prices = length auction.prices;
   covers = length auction.covers;
-  weights = length auction.weights;
+  rule_texts = length auction.rule_texts;
 }
 
 -- ---- what is wanted: each test, and what is unmet where it fails
@@ -65,12 +65,12 @@ has_certificates n = n.certificates == n.groups
 abbrev pub claims_once : Numbers → Bool
 claims_once n = nat_le n.uniques 1 && nat_le n.ties (1 - n.uniques)
 
--- of prices: one text at most, a cover with it, and weights only beside them
+-- of prices: one text at most, a cover with it, and a rule only beside them
 abbrev pub pricing_wants : Numbers → List (Bool × Unmet)
 pricing_wants n =
     (nat_le n.prices 1, unmet.Number part.Prices n.prices 1) ∷
     (n.covers == n.prices, unmet.Number part.Cover n.covers n.prices) ∷
-    (nat_le n.weights n.prices, unmet.Number part.Weights n.weights n.prices) ∷ []
+    (nat_le n.rule_texts n.prices, unmet.Number part.Rule n.rule_texts n.prices) ∷ []
 
 -- of what shows a report to be true
 abbrev pub proof_wants : Numbers → List (Bool × Unmet)

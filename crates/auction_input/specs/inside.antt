@@ -5,3 +5,4 @@ pub mod Parts
 pub mod Places
 pub mod Submissions
 pub mod ParsedTexts
+pub mod Prices

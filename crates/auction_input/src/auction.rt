@@ -31,7 +31,7 @@ use std::thread::Threads;
 /// A settled auction, the bidder of each form in the order of the input, the groups that are left out of it, and the texts of
 /// solutions and of certificates; what is claimed of
 /// other outcomes: texts of certificates that there is none as good, and of solutions that are; and texts of prices, of
-/// certificates that they cover every group, and of weights.
+/// certificates that they cover every group, and of the rule.
 #[derive(Drop)]
 pub struct Auction<'t> {
     pub book: ClosedBook,
@@ -43,11 +43,11 @@ pub struct Auction<'t> {
     pub ties: Vec<&'t [u8]>,
     pub prices: Vec<&'t [u8]>,
     pub covers: Vec<&'t [u8]>,
-    pub weights: Vec<&'t [u8]>,
+    pub rule_texts: Vec<&'t [u8]>,
 }
 
-// The parts of an input, as many as the request takes.
-fn read_parts<'t>(
+/// The parts of an input, as many as the request takes.
+pub(crate) fn read_parts<'t>(
     alloc: Global,
     request: &Request,
     input: &'t Input,
@@ -72,7 +72,7 @@ struct Beside<'t> {
     ties: Vec<&'t [u8]>,
     prices: Vec<&'t [u8]>,
     covers: Vec<&'t [u8]>,
-    weights: Vec<&'t [u8]>,
+    rule_texts: Vec<&'t [u8]>,
 }
 
 fn texts_beside<'t>(alloc: Global, parts: &[Part<'t>]) -> Result<Beside<'t>, AllocError>
@@ -85,12 +85,12 @@ fn texts_beside<'t>(alloc: Global, parts: &[Part<'t>]) -> Result<Beside<'t>, All
         ties: texts_of(alloc, parts, PartKind::Tie)?,
         prices: texts_of(alloc, parts, PartKind::Prices)?,
         covers: texts_of(alloc, parts, PartKind::Cover)?,
-        weights: texts_of(alloc, parts, PartKind::Weights)?,
+        rule_texts: texts_of(alloc, parts, PartKind::Rule)?,
     })
 }
 
-// The rules in a text, with a fault as a refusal.
-fn rules_in(alloc: Global, text: &[u8]) -> Result<Rules, Refusal>
+/// The rules in a text, with a fault as a refusal.
+pub(crate) fn rules_in(alloc: Global, text: &[u8]) -> Result<Rules, Refusal>
     ensures parsed { IfOk result (λ rules. parsed_terms text.now ≡ Ok rules) }
     ensures refuses { IfErr result (Refuses (parsed_terms text.now)) }
 {
@@ -105,8 +105,8 @@ fn groups_in(alloc: Global, text: &[u8], rules: &Rules) -> Result<Groups, Refusa
     Ok(read_groups(alloc, text, rules)?)
 }
 
-// Tests that each bidder's forms are in one text, unless its last one counts in whichever text it is.
-fn check_texts(
+/// Tests that each bidder's forms are in one text, unless its last one counts in whichever text it is.
+pub(crate) fn check_texts(
     alloc: Global,
     parts: &[Part<'_>],
     rules: &Rules,
@@ -221,7 +221,7 @@ pub fn read_auction<'t, R: Threads + Wait + Sync + AllocGlobal>(
         ties,
         prices,
         covers,
-        weights,
+        rule_texts,
     } = beside;
     Ok(Auction {
         book,
@@ -233,6 +233,6 @@ pub fn read_auction<'t, R: Threads + Wait + Sync + AllocGlobal>(
         ties,
         prices,
         covers,
-        weights,
+        rule_texts,
     })
 }

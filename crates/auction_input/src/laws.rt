@@ -1,14 +1,20 @@
 //! Laws over the definitions alone: which part of the input, which form in another text, and which form beyond the call limit, is
-//! refused; and the limit of an input.
+//! refused; of which forms the book is; and the limit of an input.
 
-ghost use Rattle.std.specs.Prelude.{◌≡◌};
+ghost use Rattle.std.specs.Prelude.{◌≡◌, ◌↔◌, Err, List, Ok};
 ghost use Rattle.auction_terms.specs.FirstFault.{TellsTheFirst};
+ghost use Rattle.auction_input.specs.Auction.{Auction, parsed_auction};
 ghost use Rattle.auction_input.specs.Calls.{one_too_many};
 ghost use Rattle.auction_input.specs.FormTexts.{another_form};
-ghost use Rattle.auction_input.specs.Parts.{part_fault};
+ghost use Rattle.auction_input.specs.Input.{Input};
+ghost use Rattle.auction_input.specs.LastForms.{FormParts, IsOfAuction, parsed_forms};
+ghost use Rattle.auction_input.specs.ParsedParts.{parsed_parts};
+ghost use Rattle.auction_input.specs.Parts.{Part, part_fault};
 ghost use Rattle.auction_input.specs.declared.input.TheConstants.{INPUT_LIMIT};
 ghost use Rattle.auction_terms.specs.Terms.{Terms};
+ghost use Rattle.auction_input.specs.declared.refusal.Refusal.{Refusal};
 ghost use Rattle.auction_input.specs.declared.request.Request.{Request};
+ghost use Rattle.auction_input.specs.declared.request.Request.TheVariants as request;
 
 /// The parts of an input have the fault of the first of them with a fault.
 pub fn parts_tell_their_first_fault()
@@ -23,6 +29,20 @@ pub fn forms_tell_the_first_in_another_text()
 /// The form that meets the call limit is the first for which its bidder has no call left.
 pub fn forms_tell_the_first_beyond_the_call_limit()
     ensures { TellsTheFirst one_too_many }
+{}
+
+/// An input that describes an auction to any command has rules and forms for `forms`, too: the bytes of the rules describe the
+/// auction's rules, and those of each bidder's last form just the bids that the book has of it.
+pub fn last_forms_are_those_of_the_book()
+    ensures { (asked : Request) (input : Input) (auction : Auction)
+        → parsed_auction asked input ≡ Ok auction
+        → (read : FormParts) × (parsed_forms input ≡ Ok read) × IsOfAuction read auction }
+{}
+
+/// If `text` takes an input's parts, `forms` refuses it if `text` does, and for the same.
+pub fn forms_are_refused_as_by_text()
+    ensures { (input : Input) (parts : List Part) → parsed_parts request.Text input ≡ Ok parts
+        → (r : Refusal) → (parsed_forms input ≡ Err r) ↔ (parsed_auction request.Text input ≡ Err r) }
 {}
 
 /// An input has at most so many bytes.

@@ -9,9 +9,9 @@ mod calls;
 mod files;
 mod form_texts;
 mod given;
-mod given_numbers;
 mod input;
 mod job;
+mod last_forms;
 pub mod laws;
 mod message;
 mod name;
@@ -25,6 +25,8 @@ mod reading;
 mod refusal;
 mod request;
 mod round;
+mod rule_reading;
+mod rule_weights;
 mod source;
 mod wanted;
 
@@ -34,10 +36,8 @@ pub use calls::Calls;
 pub use files::{FileFault, FileKind, FilePlace, FileRefusal, Files, Output};
 pub use form_texts::{AnotherForm, FormTexts};
 pub use given::{Given, Input};
-pub use given_numbers::{
-    GivenNumber, Subject, given_to, number_given, numbers_of_bidders, numbers_of_groups,
-};
 pub use input::{INPUT_LIMIT, InputFault, Unread, is_standard_input, read_inputs};
+pub use last_forms::{FormParts, LastForm, LastForms, read_last_forms};
 pub use message::Message;
 pub use name::Name;
 pub use part_kind::PartKind;
@@ -45,10 +45,15 @@ pub use parts::{Part, PartFault, count_of, split_parts, text_numbers_of, text_of
 pub use places::{Counted, Places, Spot, spot_of};
 pub use price_fault::PriceFault;
 pub use price_names::Known;
-pub use price_reading::read_given;
+pub use price_reading::{GivenPrice, GivenPrices, price_given, prices_in_parts, read_prices};
 pub use reading::{miscounted, only_text};
 pub use refusal::Refusal;
 pub use request::{Request, Target};
 pub use round::RoundFault;
+pub use rule_reading::read_rule_lines;
+pub use rule_weights::{
+    Aim, GivenWeights, RuleLine, Scales, Subject, weight_given, weights_of_bidders,
+    weights_of_groups,
+};
 pub use source::{ReadFailed, Source};
 pub use wanted::{Numbers, Unmet, check_wanted, proof_wants, solution_wants};

@@ -82,6 +82,11 @@ fn in_parts(fault: PartFault) -> Message<'static>
     Message::only(match fault {
         PartFault::BeforeFirst => Wording::Words("input: bytes before the first part"),
         PartFault::PartName { part } => Wording::Between("input: part ", part as u64, " not known"),
+        PartFault::OfVersion1 { part } => Wording::Between(
+            "input: part ",
+            part as u64,
+            " not known: %weights is of version 1, and wdp-office prices makes %rule in its place",
+        ),
         PartFault::OutOfMemory => Wording::Words(OUT_OF_MEMORY),
     })
 }
@@ -99,7 +104,7 @@ fn in_count(kind: PartKind) -> Message<'static>
         PartKind::Unique | PartKind::Tie => "input: wrong number of unique and tie",
         PartKind::Prices => "input: wrong number of prices",
         PartKind::Cover => "input: wrong number of covers",
-        PartKind::Weights => "input: wrong number of weights",
+        PartKind::Rule => "input: wrong number of price rules",
     }))
 }
 
@@ -116,7 +121,7 @@ impl Refusal {
         ensures { with_number result self.now ≡ self.now }
     {
         match self {
-            Refusal::Parts(PartFault::PartName { part }) => *part,
+            Refusal::Parts(PartFault::PartName { part } | PartFault::OfVersion1 { part }) => *part,
             Refusal::Form { form, .. } | Refusal::CallLimit { form } => *form,
             Refusal::Solution { solution, .. }
             | Refusal::BoundBroken { solution, .. }
@@ -169,11 +174,14 @@ impl Refusal {
                     ..
                 },
             )
-            | Refusal::Weights(PriceFault::OutOfMemory)
+            | Refusal::Rule(PriceFault::OutOfMemory)
             | Refusal::OutOfMemory => Message::only(Wording::Words(OUT_OF_MEMORY)),
             Refusal::Input(fault) => in_input(*fault),
             Refusal::Parts(PartFault::PartName { .. }) => {
                 in_parts(PartFault::PartName { part: number })
+            }
+            Refusal::Parts(PartFault::OfVersion1 { .. }) => {
+                in_parts(PartFault::OfVersion1 { part: number })
             }
             Refusal::Parts(fault) => in_parts(*fault),
             Refusal::PartCount(kind) => in_count(*kind),
@@ -250,7 +258,12 @@ impl Refusal {
                 name: bidder.as_slice(),
             },
             Refusal::Cover(fault) => Message::in_part("cover: ", fault.wording()),
-            Refusal::Weights(fault) => Message::in_part("weights: ", fault.wording()),
+            Refusal::Rule(fault) => Message::in_part("rule: ", fault.wording()),
+            Refusal::NoGroupAlone { bidder } => Message {
+                part: Wording::Words("rule: "),
+                fault: Wording::Words("13 NoGroupAlone "),
+                name: bidder.as_slice(),
+            },
             Refusal::Write(WriteFault::Sink { written }) => Message::only(Wording::Between(
                 "write failed after ",
                 *written,

@@ -18,7 +18,7 @@ pub enum PartKind {
     Tie,
     Prices,
     Cover,
-    Weights,
+    Rule,
 }
 
 // What every command knows.
@@ -40,7 +40,7 @@ const OF_VERIFY: [PartKind; 10] = [
     PartKind::Tie,
     PartKind::Prices,
     PartKind::Cover,
-    PartKind::Weights,
+    PartKind::Rule,
 ];
 
 impl PartKind {
@@ -58,7 +58,7 @@ impl PartKind {
             PartKind::Tie => b"%tie".as_slice(),
             PartKind::Prices => b"%prices".as_slice(),
             PartKind::Cover => b"%cover".as_slice(),
-            PartKind::Weights => b"%weights".as_slice(),
+            PartKind::Rule => b"%rule".as_slice(),
         }
     }
 }

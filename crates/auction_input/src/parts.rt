@@ -3,7 +3,7 @@
 ghost use Rattle.std.specs.Prelude.{◌≡◌, ◌≤◌, ◌<◌, ◌++◌, ◌∷◌, ◌⊎◌, ℕ, [], IfErr, IfOk, OnOk, drop, filter, find, length, map, take, true};
 ghost use Rattle.std.specs.List.{list_any};
 ghost use Rattle.std.specs.Option.{option_copied};
-ghost use Rattle.auction_input.specs.Parts.{TellsParts, heads_part, bytes_before, cut_lines, has_bytes_before, name_of};
+ghost use Rattle.auction_input.specs.Parts.{TellsParts, heads_part, bytes_before, cut_lines, has_bytes_before, name_of, unknown_part};
 ghost use Rattle.auction_input.specs.Parts.{parts_held, parts_in, parts_named, text_numbers};
 ghost use Rattle.auction_input.specs.ParsedParts.{only_text};
 ghost use Rattle.auction_terms.specs.Lines.{bytes_of};
@@ -29,6 +29,8 @@ pub struct Part<'t> {
 pub enum PartFault {
     BeforeFirst,
     PartName { part: usize },
+    /// A `%weights`, which an audit of version 1 has, and `%rule` takes the place of.
+    OfVersion1 { part: usize },
     OutOfMemory,
 }
 
@@ -128,6 +130,17 @@ fn add_part<'t>(parts: &mut Vec<Part<'t>>, part: Part<'t>) -> Result<(), AllocEr
     Ok(())
 }
 
+// The fault of the part of that number, whose name no command knows.
+fn unknown(part: usize, name: &[u8]) -> PartFault
+    ensures { result ≡ unknown_part part name.now }
+{
+    if name == b"%weights".as_slice() {
+        PartFault::OfVersion1 { part }
+    } else {
+        PartFault::PartName { part }
+    }
+}
+
 // Adds the parts of the text of that number, which begins with its first part.
 fn add_parts<'t>(
     parts: &mut Vec<Part<'t>>,
@@ -145,9 +158,7 @@ fn add_parts<'t>(
     while !rest.is_empty() {
         let first = first_part(rest);
         let Some(kind) = kind_named(request, head_name(first.head)) else {
-            return Err(PartFault::PartName {
-                part: parts.len() + 1,
-            });
+            return Err(unknown(parts.len() + 1, head_name(first.head)));
         };
         let part = Part {
             text: number,

@@ -1,4 +1,4 @@
-//! What is wrong with a text of prices or of weights.
+//! What is wrong with a text of prices or of the rule.
 
 ghost use Rattle.std.specs.Prelude.{◌≡◌, Some};
 ghost use Rattle.auction_terms.specs.Wording.{wording_text};
@@ -9,25 +9,35 @@ use std::alloc::AllocError;
 use std::fmt;
 use thiserror::Error;
 
-/// What is wrong with a text of prices or of weights. A place is the number of a line, from 1.
+/// What is wrong with a text of prices or of the rule. A place is the number of a line, from 1.
 #[derive(Clone, Copy, Debug, PartialEq, Eq, Error)]
 pub enum PriceFault {
-    /// The line hasn't two fields; in weights one field is a scale.
+    /// The line of prices hasn't two fields, or the line of the rule hasn't three.
     Fields { place: usize },
-    /// The name isn't a bidder's; in weights it isn't the number of a group either.
+    /// The name isn't a bidder's; in the rule it isn't the number of a group either.
     UnknownName { place: usize },
     /// The bidder wins nothing in group 1's solution.
     NotWinner { place: usize },
-    /// An earlier line has the same name or number, or is a scale too.
+    /// An earlier line has the same name or number.
     RepeatedName { place: usize },
-    /// The number isn't 1 to 18 digits.
+    /// The number isn't 1 to 18 digits; a price may have two such numbers with a slash between them.
     NumberText { place: usize },
     /// The price is above the amount of the winner's bid.
     AboveAmount { place: usize },
     /// The price is below the reserve of the winner's lots.
     BelowReserve { place: usize },
-    /// The weights have no scale.
-    NoScale,
+    /// The rule has no line of scales and push.
+    NoScales,
+    /// The number after the slash isn't from 1 to 1,000,000.
+    DenominatorRange { place: usize },
+    /// The price is above the greatest amount, £1,000,000,000,000.
+    PriceRange { place: usize },
+    /// The prices so far are whole only in more than 1,000,000 parts of a pound.
+    TooManyParts { place: usize },
+    /// The weights don't show that no prices that suffice have a lower sum.
+    NotLeast,
+    /// The weights and the push don't show that of the prices of that sum these are the nearest.
+    NotNearest,
     /// Memory was refused.
     OutOfMemory,
 }
@@ -63,7 +73,21 @@ impl PriceFault {
                 "8 BelowReserve at line ",
                 place as u64,
             ),
-            PriceFault::NoScale => Wording::Words("9 NoScale"),
+            PriceFault::NoScales => Wording::Words("9 NoScales"),
+            PriceFault::DenominatorRange { place } => Wording::Number(
+                "10 DenominatorRange at line ",
+                place as u64,
+            ),
+            PriceFault::PriceRange { place } => Wording::Number(
+                "11 PriceRange at line ",
+                place as u64,
+            ),
+            PriceFault::TooManyParts { place } => Wording::Number(
+                "12 TooManyParts at line ",
+                place as u64,
+            ),
+            PriceFault::NotLeast => Wording::Words("14 NotLeast"),
+            PriceFault::NotNearest => Wording::Words("15 NotNearest"),
             PriceFault::OutOfMemory => Wording::Words("out of memory"),
         }
     }

@@ -8,7 +8,7 @@ ghost use Rattle.auction_input.specs.inside.InputTexts.{AreAdded, IsAnswer, IsFi
 ghost use Rattle.auction_terms.specs.Lines.{bytes_of};
 ghost use Rattle.auction_input.specs.Parts.{parts_held};
 ghost use Rattle.auction_input.specs.ParsedParts.{only_text};
-ghost use Rattle.auction_input.specs.Plan.{miscounted, takes};
+ghost use Rattle.auction_input.specs.Plan.{miscounted, taken_by, takes};
 ghost use Rattle.auction_input.specs.inside.ParsedTexts.{HaveMore, parsed_more};
 ghost use Rattle.auction_input.specs.ParsedTexts.{parsed_form};
 ghost use Rattle.auction_terms.specs.Stages.{each_in_turn};
@@ -36,13 +36,23 @@ fn takes(command: Option<Target>, groups: usize, solutions: usize) -> (bool, boo
     }
 }
 
+// Whether a request does: any number, if it ignores them.
+fn taken_by(request: &Request, groups: usize, solutions: usize) -> (bool, bool)
+    ensures { result ≡ taken_by request.now groups solutions }
+{
+    if request.ignores_others() {
+        return (true, true);
+    }
+    takes(request.target(), groups, solutions)
+}
+
 /// The first kind of which there are too few parts or too many: one with rules, and as many with groups and with solutions as the command takes.
 pub fn miscounted(request: &Request, parts: &[Part<'_>]) -> Option<PartKind>
     ensures { result ≡ miscounted request.now (parts_held parts.now) }
 {
     let groups = count_of(parts, PartKind::Groups);
     let solutions = count_of(parts, PartKind::Solution);
-    let (takes_groups, takes_solutions) = takes(request.target(), groups, solutions);
+    let (takes_groups, takes_solutions) = taken_by(request, groups, solutions);
     if count_of(parts, PartKind::Rules) != 1 {
         return Some(PartKind::Rules);
     }

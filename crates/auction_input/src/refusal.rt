@@ -86,8 +86,12 @@ pub enum Refusal {
     },
     /// What is to show that the prices cover every group.
     Cover(CertificateFault),
-    /// A line of the weights.
-    Weights(PriceFault),
+    /// A line of the rule, or that the rule doesn't show what it is to.
+    Rule(PriceFault),
+    /// The winner of that name is no group by itself, so that what it costs alone isn't known.
+    NoGroupAlone {
+        bidder: Name,
+    },
     Write(WriteFault),
     OutOfMemory,
 }
@@ -124,7 +128,9 @@ impl Refusal {
             )
             | Refusal::Tie(SolutionFault::OutOfMemory) => return None,
             Refusal::Parts(PartFault::BeforeFirst) => return Some((Counted::BytesBefore, 1)),
-            Refusal::Parts(PartFault::PartName { part }) => return Some((Counted::Parts, *part)),
+            Refusal::Parts(PartFault::PartName { part } | PartFault::OfVersion1 { part }) => {
+                return Some((Counted::Parts, *part));
+            }
             Refusal::Rules(_) => (PartKind::Rules, 1),
             Refusal::Form { form, .. } | Refusal::CallLimit { form } => (PartKind::Form, *form),
             Refusal::AnotherForm(another) => (PartKind::Form, another.form),

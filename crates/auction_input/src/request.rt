@@ -1,7 +1,7 @@
 //! What is asked of an input.
 
 ghost use Rattle.std.specs.Prelude.{◌≡◌};
-ghost use Rattle.auction_input.specs.Requests.{target_named, target_of};
+ghost use Rattle.auction_input.specs.Requests.{ignores_others, target_named, target_of};
 
 /// A command that takes the parts of an input.
 #[derive(Clone, Copy)]
@@ -47,22 +47,31 @@ pub enum Request {
     Report { workers: usize },
     /// The same, where certificates show that nobody wins more, by so many workers.
     Verify { workers: usize },
+    /// The digests of the texts of the rules and of each bidder's last form.
+    Forms,
 }
 
 impl Request {
     /// The command as which a request takes the parts of an input: itself, or the one that `explain` names; none where `explain`
-    /// names none, nor for `check`, whose input has no parts.
+    /// names none, nor for `check`, whose input has no parts, nor for `forms`, which takes the parts of every command.
     pub fn target(&self) -> Option<Target>
         ensures { result ≡ target_of self.now }
     {
         match *self {
             Request::Text => Some(Target::Text),
-            Request::Check => None,
+            Request::Check | Request::Forms => None,
             Request::Compile { workers: _ } => Some(Target::Compile),
             Request::Explain { bids: _, target } => target,
             Request::Map { group: _ } => Some(Target::Map),
             Request::Report { workers: _ } => Some(Target::Report),
             Request::Verify { workers: _ } => Some(Target::Verify),
         }
+    }
+
+    /// Whether parts of groups and of solutions may be there in any number, as none of them is read.
+    pub fn ignores_others(&self) -> bool
+        ensures { result ≡ ignores_others self.now }
+    {
+        matches!(self, Request::Forms)
     }
 }

@@ -24,14 +24,14 @@ pub struct Numbers {
     pub ties: usize,
     pub prices: usize,
     pub covers: usize,
-    pub weights: usize,
+    pub rule_texts: usize,
 }
 
 /// What a command wants and an input hasn't got.
 #[derive(Clone, Copy)]
 pub enum Unmet {
     FirstGroupNotEmpty,
-    /// There are `count` parts of a kind, and another number is wanted: by how many groups there are, of covers and weights by how
+    /// There are `count` parts of a kind, and another number is wanted: by how many groups there are, of covers and rules by how
     /// many prices, of unique by how many ties.
     Number {
         kind: PartKind,
@@ -66,7 +66,7 @@ impl Numbers {
             ties: count_of(parts, PartKind::Tie),
             prices: count_of(parts, PartKind::Prices),
             covers: count_of(parts, PartKind::Cover),
-            weights: count_of(parts, PartKind::Weights),
+            rule_texts: count_of(parts, PartKind::Rule),
         }
     }
 
@@ -83,7 +83,7 @@ impl Numbers {
             ties: auction.ties.len(),
             prices: auction.prices.len(),
             covers: auction.covers.len(),
-            weights: auction.weights.len(),
+            rule_texts: auction.rule_texts.len(),
         }
     }
 }
@@ -121,7 +121,7 @@ pub fn proof_wants(numbers: &Numbers) -> [(bool, Unmet); 5]
         ties,
         prices,
         covers,
-        weights,
+        rule_texts,
         ..
     } = *numbers;
     [
@@ -139,7 +139,7 @@ pub fn proof_wants(numbers: &Numbers) -> [(bool, Unmet); 5]
         ),
         number_wanted(prices <= 1, PartKind::Prices, prices, 1),
         number_wanted(covers == prices, PartKind::Cover, covers, prices),
-        number_wanted(weights <= prices, PartKind::Weights, weights, prices),
+        number_wanted(rule_texts <= prices, PartKind::Rule, rule_texts, prices),
     ]
 }
 

@@ -127,7 +127,7 @@ auction_in parts t forms groups = record {
   ties = parts_named (codes "%tie") parts;
   prices = parts_named (codes "%prices") parts;
   covers = parts_named (codes "%cover") parts;
-  weights = parts_named (codes "%weights") parts;
+  rule_texts = parts_named (codes "%rule") parts;
 }
 
 -- what the texts in parts describe

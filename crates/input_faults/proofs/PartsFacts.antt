@@ -24,6 +24,7 @@ pub part-reported : (asked : Request) (input : Input) (f : PartFault) → TellsP
 part-reported asked input part_fault.OutOfMemory reported other = absurd (other refl)
 part-reported asked input part_fault.BeforeFirst reported other = reported
 part-reported asked input (part_fault.PartName n) reported other = reported
+part-reported asked input (part_fault.OfVersion1 n) reported other = reported
 
 module _ (asked : Request) (input : Input) where
   pub parts-unknown : (f : PartFault) → input_fault asked input ≡ Some f → faults_of_parts asked input ≡ found 0 (fault.Parts f) ∷ []

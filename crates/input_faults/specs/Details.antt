@@ -84,8 +84,8 @@ unmet_message (unmet.Number part.Certificate count by) = pair_message (codes " c
 unmet_message (unmet.Number part.Unique count by) = pair_message (codes " unique and ") count by ++ codes " tie in place of 1 at most"
 unmet_message (unmet.Number part.Prices count by) = one_message (codes " prices in place of 1 at most") count
 unmet_message (unmet.Number part.Cover count by) = pair_message (codes " covers, and ") count by ++ (codes " prices want " ++ decimal by)
-unmet_message (unmet.Number part.Weights count by) =
-    pair_message (codes " weights, and ") count by ++ (codes " prices want " ++ (decimal by ++ codes " at most"))
+unmet_message (unmet.Number part.Rule count by) =
+    pair_message (codes " price rules, and ") count by ++ (codes " prices want " ++ (decimal by ++ codes " at most"))
 unmet_message (unmet.Number kind count by) = []
 
 -- ---------- rules ----------

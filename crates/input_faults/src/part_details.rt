@@ -116,8 +116,8 @@ fn number_detail(kind: PartKind, count: usize, by: usize) -> Detail<'static>
             pair(" covers, and ", count, by),
             Wording::Number(" prices want ", by as u64),
         ),
-        PartKind::Weights => Detail::Both(
-            pair(" weights, and ", count, by),
+        PartKind::Rule => Detail::Both(
+            pair(" price rules, and ", count, by),
             Wording::Between(" prices want ", by as u64, " at most"),
         ),
         _ => Detail::Nothing,

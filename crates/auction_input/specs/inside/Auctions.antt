@@ -29,7 +29,7 @@ pub record HoldTexts (parts : List Part) (beside : Beside) : Type 0 where
   pub ties : bytes_of beside.ties.items ≡ parts_named (codes "%tie") parts
   pub prices : bytes_of beside.prices.items ≡ parts_named (codes "%prices") parts
   pub covers : bytes_of beside.covers.items ≡ parts_named (codes "%cover") parts
-  pub weights : bytes_of beside.weights.items ≡ parts_named (codes "%weights") parts
+  pub rule_texts : bytes_of beside.rule_texts.items ≡ parts_named (codes "%rule") parts
 
 -- parts describe these rules, forms and groups, each bidder's forms are in one text, or its last one is to count, and each form has a call of its bidder's left
 pub record Tell (last_wins : Bool) (parts : List Part) (t : Terms) (forms : List Offers) (groups : List (List ℕ)) : Type 0 where

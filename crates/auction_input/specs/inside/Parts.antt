@@ -29,8 +29,8 @@ is_held k part = bytes_eq (name_of part.kind) (name_of k)
 -- the kinds that a request knows
 abbrev pub kinds_for : Option Target → List PartKind
 kinds_for (Some target.Verify) = kind.Rules ∷ kind.Form ∷ kind.Groups ∷ kind.Solution ∷ kind.Certificate ∷ kind.Unique ∷ kind.Tie ∷
-    kind.Prices ∷ kind.Cover ∷ kind.Weights ∷ []
-kinds_for None = kind.Rules ∷ kind.Form ∷ kind.Groups ∷ kind.Solution ∷ kind.Certificate ∷ kind.Unique ∷ kind.Tie ∷ kind.Prices ∷ kind.Cover ∷ kind.Weights ∷ []
+    kind.Prices ∷ kind.Cover ∷ kind.Rule ∷ []
+kinds_for None = kind.Rules ∷ kind.Form ∷ kind.Groups ∷ kind.Solution ∷ kind.Certificate ∷ kind.Unique ∷ kind.Tie ∷ kind.Prices ∷ kind.Cover ∷ kind.Rule ∷ []
 kinds_for (Some command) = kind.Rules ∷ kind.Form ∷ kind.Groups ∷ kind.Solution ∷ []
 
 abbrev pub known_kinds : Request → List PartKind

@@ -1,8 +1,8 @@
 use Rattle.std.proofs.Common.{rules, ◌≡◌, ◌∷◌, [], ◌++◌, ◌+◌, ◌∙◌, List, ap, sym, arith, refl, subst, length, None, Some}
 use Rattle.std.proofs.lemmas.List.{length-map}
 use Rattle.auction_input.specs.inside.Parts.{kind_named, part_name, part}
-use Rattle.auction_input.specs.Parts.{Part, cut_lines, parts_held, parts_in}
-use Rattle.auction_input.proofs.PartFacts.{CheckedAfter, after-all, after-fault, after-more, held-more, known-part, none-left, starts-so, unknown-part}
+use Rattle.auction_input.specs.Parts.{Part, cut_lines, parts_held, parts_in, unknown_part}
+use Rattle.auction_input.proofs.PartFacts.{CheckedAfter, after-all, after-fault, after-more, held-more, known-part, none-left, starts-so, unknown-is, unknown-part}
 use Rattle.auction_input.proofs.parts.add_parts.Goals as goal
 
 pub loop-rest-init : goal.loop-rest-init
@@ -43,9 +43,12 @@ returns-in_default-clause-fault c =
     let kind : kind_named asked (part_name first.result.head.now) ≡ None = rw c.head_name.ensures at (sym c.kind_named.ensures ∙ c.in_default.is) in
     let length-is : c.len.result ≡ length held = search rules in
     let count : c.len.result ≡ length (parts_held held) = length-is ∙ sym (length-map held _) in
-    rw count (after-fault asked old (parts_in number (cut_lines c.args.text.now)) (parts_held held)
-    (parts_in number (cut_lines c.loop-rest.rest.now)) (parts_in number (cut_lines first.result.rest.now)) p _ so_far
-    (first.ensures.parts number) (unknown-part asked (parts_held held) p kind))
+    let name = part_name first.result.head.now in
+    let found = after-fault asked old (parts_in number (cut_lines c.args.text.now)) (parts_held held)
+    (parts_in number (cut_lines c.loop-rest.rest.now)) (parts_in number (cut_lines first.result.rest.now)) p
+    (unknown_part (length (parts_held held) + 1) name) so_far (first.ensures.parts number) (unknown-part asked (parts_held held) p kind) in
+    let is = unknown-is asked old (parts_in number (cut_lines c.args.text.now)) (length (parts_held held) + 1) name found in
+    rw (c.unknown.ensures, c.head_name-in_default.ensures, count) is
 
 pub returns-clause-added : goal.returns-clause-added
 returns-clause-added c =

@@ -1,6 +1,0 @@
-use Rattle.std.proofs.Common.{ap, arith, length}
-use Rattle.auction_terms.proofs.LineCountFacts.{lines-within}
-use Rattle.auction_input.proofs.price_reading.read_given.Goals as goal
-
-pub overflow_add-place : goal.overflow_add-place
-overflow_add-place c = omega (arith, c.loop-line.invariant.1, lines-within c.args.text.now, ap length c.in-Some.ensures)
