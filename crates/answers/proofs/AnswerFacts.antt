@@ -16,10 +16,12 @@ use Rattle.auction_terms.specs.Stages.{and_then}
 use Rattle.auction_input.specs.declared.request.Request.{Request}
 use Rattle.auction_input.specs.declared.request.Request.TheVariants as request
 
--- every command but `check` answers by the auction
-by-auction : (asked : Request) (input : Input) → asked ≢ request.Check → answer asked input ≡ and_then (parsed_auction asked input) (output_of asked)
-by-auction request.Check input some = absurd (some refl)
-by-auction asked input some = refl
+-- every command but `check` and `forms` answers by the auction
+by-auction : (asked : Request) (input : Input) → asked ≢ request.Check → asked ≢ request.Forms
+    → answer asked input ≡ and_then (parsed_auction asked input) (output_of asked)
+by-auction request.Check input some settled = absurd (some refl)
+by-auction request.Forms input some settled = absurd (settled refl)
+by-auction asked input some settled = refl
 
 meets-limit : (asked : Request) (input : Input) (auction : Auction) (r : Refusal) → parsed_auction asked input ≡ Ok auction
     → IsBeyondLimit asked auction r → MeetsLimit asked input r
@@ -29,19 +31,20 @@ meets-limit asked input auction r parsed beyond = absurd beyond
 -- the auction that was read, with texts that are faithful to it
 pub has-sold : (asked : Request) (input : Input) (auction : Auction) → IsSold asked input auction → HasSold asked input
 has-sold request.Check input auction sold = tt
+has-sold request.Forms input auction sold = tt
 has-sold asked input auction sold = (auction, sold, faithful-without asked input auction sold.parsed)
 
-module _ (asked : Request) (input : Input) (some : asked ≢ request.Check) where
+module _ (asked : Request) (input : Input) (some : asked ≢ request.Check) (settled : asked ≢ request.Forms) where
   -- the auction isn't there
   pub no-auction : (before : SinkState) (r : Refusal) → RefusesAuction asked input r → IsUnwritten asked input before before r
   no-auction before r (inl refused) =
-      inl (by_refusal (refuses-as _ _ r (by-auction asked input some) (stop (parsed_auction asked input) (output_of asked) r refused)) refl)
+      inl (by_refusal (refuses-as _ _ r (by-auction asked input some settled) (stop (parsed_auction asked input) (output_of asked) r refused)) refl)
   no-auction before r (inr unsettled) = inr (inl unsettled, refl)
 
   -- it is, and what is reported of it is what the input describes
   module _ (auction : Auction) (parsed : parsed_auction asked input ≡ Ok auction) where
     is-parsed : answer asked input ≡ output_of asked auction
-    is-parsed = by-auction asked input some ∙ ap (λ (t : Result Auction Refusal). and_then t (output_of asked)) parsed
+    is-parsed = by-auction asked input some settled ∙ ap (λ (t : Result Auction Refusal). and_then t (output_of asked)) parsed
 
     pub written : {T E : Type 0} (result : Result T E) (taken taken' : Option (List ℕ))
         → OnOk result (Writes (output_of asked auction) taken taken') → OnOk result (Writes (answer asked input) taken taken')

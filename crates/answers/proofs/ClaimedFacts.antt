@@ -164,22 +164,22 @@ module _ (auction : Auction) (first : List Choice) (text : List ℕ) (point : Li
   abbrev judged : Option (ℕ × CertificateFaultKind) → Result Uniqueness Refusal
   judged found = unless (option_map unique_refused found) (Ok (only_or_rival auction.sale first))
 
-  goes-on : parsed_claims auction first (text ∷ []) [] ≡ judged (only_fault (first_program auction) point text)
+  goes-on : parsed_claims auction first (text ∷ []) [] ≡ judged (only_fault (first_program auction) point [] text)
   goes-on = next _ point _ _ (ap (λ (r : Result (List Bool) _). refused_as (solution_refused (first_program auction) 1) r) solved) refl
 
-  pub only-parsed : only_fault (first_program auction) point text ≡ None → parsed_claims auction first (text ∷ []) [] ≡ Ok (only_or_rival auction.sale first)
+  pub only-parsed : only_fault (first_program auction) point [] text ≡ None → parsed_claims auction first (text ∷ []) [] ≡ Ok (only_or_rival auction.sale first)
   only-parsed none = goes-on ∙ ap judged none
 
-  refused-so : (line : ℕ) (k : CertificateFaultKind) → IsLimit k ⊎ (only_fault (first_program auction) point text ≡ Some (line, k))
-      → (k ≡ kind.TooLarge → IsLargeOnlyAt (first_program auction) point text line) → auction.uniques ≡ text ∷ [] → auction.ties ≡ []
+  refused-so : (line : ℕ) (k : CertificateFaultKind) → IsLimit k ⊎ (only_fault (first_program auction) point [] text ≡ Some (line, k))
+      → (k ≡ kind.TooLarge → IsLargeOnlyAt (first_program auction) point [] text line) → auction.uniques ≡ text ∷ [] → auction.ties ≡ []
       → Refuses (parsed_claims auction first (text ∷ []) []) (refusal.Unique (record { line = line; kind = k }))
       ⊎ IsTooWideClaim auction (refusal.Unique (record { line = line; kind = k }))
   refused-so line k (inl (inl memory)) large one alone = inl (inr (rw memory refl))
   refused-so line k (inl (inr wide)) large one alone = inr (text, line, one, alone, (point, solved, large wide), rw wide refl)
   refused-so line k (inr found) large one alone = inl (inl (goes-on ∙ ap judged found))
 
-  pub only-refused : (f : CertificateFault) → IsLimit f.kind ⊎ (only_fault (first_program auction) point text ≡ Some (f.line, f.kind))
-      → (f.kind ≡ kind.TooLarge → IsLargeOnlyAt (first_program auction) point text f.line) → auction.uniques ≡ text ∷ [] → auction.ties ≡ []
+  pub only-refused : (f : CertificateFault) → IsLimit f.kind ⊎ (only_fault (first_program auction) point [] text ≡ Some (f.line, f.kind))
+      → (f.kind ≡ kind.TooLarge → IsLargeOnlyAt (first_program auction) point [] text f.line) → auction.uniques ≡ text ∷ [] → auction.ties ≡ []
       → Refuses (parsed_claims auction first (text ∷ []) []) (refusal.Unique f) ⊎ IsTooWideClaim auction (refusal.Unique f)
   only-refused f found large one alone = refused-so f.line f.kind found large one alone
 

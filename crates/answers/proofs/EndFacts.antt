@@ -1,11 +1,12 @@
 -- How reports and allocations end: with a digit and a line feed.
-use Rattle.std.proofs.Common.{◌≡◌, ◌≤◌, ◌+◌, ◌/◌, ◌%◌, ◌++◌, ◌∷◌, ◌∙◌, [], ℕ, zero, suc, Bool, true, false, Some, flat_map}
+use Rattle.std.proofs.Common.{◌≡◌, ◌≤◌, ◌+◌, ◌*◌, ◌/◌, ◌%◌, ◌++◌, ◌∷◌, ◌∙◌, [], ℕ, zero, suc, Bool, true, false, Some, flat_map}
 use Rattle.std.proofs.Common.{List, append_assoc, ap, arith, length, lt-ltb, refl, subst, sym, ℤ, pos, negsuc, ◌==◌, codes}
-use Rattle.std.proofs.Common.{decimal, zip, append-nil, inl, inr}
+use Rattle.std.proofs.Common.{decimal, zip, append-nil, inl, inr, if◌then◌else◌}
 use Rattle.std.proofs.lemmas.Bool.{cases_Bool}
 use Rattle.std.specs.Fmt.{digit_glyph, digits, digits_onto, signed_decimal}
 use Rattle.auction_terms.specs.declared.choices.Choice.{Choice}
-use Rattle.outcome.specs.Pricing.{Priced, least_line, price_line, pricing_text, sum_line}
+use Rattle.auction_terms.specs.Fractions.{fraction_text, gcd}
+use Rattle.outcome.specs.Pricing.{Priced, amount_text, exact_text, in_pounds, paid, price_in, price_line, pricing_text, rule_line, sum_line}
 use Rattle.outcome.specs.Report.{allocation_text, cost, group_report, heading, in_turn, report_text}
 use Rattle.bid_desk.specs.Sale.{Sale}
 
@@ -67,6 +68,35 @@ signed-ends : (before : List ℕ) (z : ℤ) → EndsInDigit (before ++ (signed_d
 signed-ends before (pos n) = number-ends before n
 signed-ends before (negsuc n) = after-more before (45 ∷ (decimal (suc n) ++ 10 ∷ [])) (number-ends (45 ∷ []) (suc n))
 
+-- ---- amounts, with the exact one after what is paid
+
+-- a number, then nothing or more that ends so
+ends-after : (before : List ℕ) (n : ℕ) (more : List ℕ) → EndsInDigit (before ++ (decimal n ++ (more ++ 10 ∷ [])))
+    → EndsInDigit (before ++ ((decimal n ++ more) ++ 10 ∷ []))
+ends-after before n more ends = subst (λ (xs : List ℕ). EndsInDigit (before ++ xs)) (sym (append_assoc (decimal n) more (10 ∷ []))) ends
+
+abbrev denominator_text : Bool → ℕ → List ℕ
+denominator_text whole d = if whole then [] else 47 ∷ decimal d
+
+denominator-ends : (before : List ℕ) (n d : ℕ) (whole : Bool) → EndsInDigit (before ++ ((decimal n ++ denominator_text whole d) ++ 10 ∷ []))
+denominator-ends before n d true = ends-after before n [] (number-ends before n)
+denominator-ends before n d false =
+    ends-after before n (47 ∷ decimal d) (after-more before _ (after-more (decimal n) _ (number-ends (47 ∷ []) d)))
+
+fraction-ends : (before : List ℕ) (parts n : ℕ) → EndsInDigit (before ++ (fraction_text parts n ++ 10 ∷ []))
+fraction-ends before parts n = denominator-ends before (n / gcd n parts) (parts / gcd n parts) (parts / gcd n parts == 1)
+
+abbrev exact_or : Bool → ℕ → ℕ → List ℕ
+exact_or same parts exact = if same then [] else 32 ∷ fraction_text parts exact
+
+exact-ends : (before : List ℕ) (parts pounds exact : ℕ) (same : Bool) → EndsInDigit (before ++ ((decimal pounds ++ exact_or same parts exact) ++ 10 ∷ []))
+exact-ends before parts pounds exact true = ends-after before pounds [] (number-ends before pounds)
+exact-ends before parts pounds exact false =
+    ends-after before pounds (32 ∷ fraction_text parts exact) (after-more before _ (after-more (decimal pounds) _ (fraction-ends (32 ∷ []) parts exact)))
+
+amount-ends : (before : List ℕ) (parts pounds exact : ℕ) → EndsInDigit (before ++ (amount_text parts pounds exact ++ 10 ∷ []))
+amount-ends before parts pounds exact = exact-ends before parts pounds exact (parts * pounds == exact)
+
 -- ---- allocations and reports
 
 allocation-ends : (sale : Sale) (a : List Choice) → EndsInDigit (allocation_text sale a)
@@ -119,43 +149,84 @@ pub no-tie : (sale : Sale) (report prices : List ℕ) (other : List Choice) (bef
 no-tie sale report prices other before is =
     not-so before _ is (after-more report _ (after-more prices _ (after-more (codes "tie\n") _ (allocation-ends sale other))))
 
--- nor do the lines of a least sum
-not-least : (before front : List ℕ) → before ++ codes "unique\n" ≡ front ++ codes "least\n" → ⊥
-not-least before front is =
-    let one = before ++ 117 ∷ 110 ∷ 105 ∷ 113 ∷ 117 ∷ [] in
-    let other = front ++ 108 ∷ 101 ∷ 97 ∷ 115 ∷ [] in
-    let split : before ++ codes "unique\n" ≡ one ++ 101 ∷ 10 ∷ [] = sym (append_assoc before (117 ∷ 110 ∷ 105 ∷ 113 ∷ 117 ∷ []) (101 ∷ 10 ∷ [])) in
-    let apart : front ++ codes "least\n" ≡ other ++ 116 ∷ 10 ∷ [] = sym (append_assoc front (108 ∷ 101 ∷ 97 ∷ 115 ∷ []) (116 ∷ 10 ∷ [])) in
-    let same : 101 ≡ 116 = sym (second-last-is one 101 10) ∙ ap second_last (sym split ∙ is ∙ apart) ∙ second-last-is other 116 10 in
+-- the last byte but two
+abbrev third_last : List ℕ → ℕ
+third_last [] = 0
+third_last (a ∷ []) = 0
+third_last (a ∷ b ∷ []) = 0
+third_last (a ∷ b ∷ c ∷ []) = a
+third_last (a ∷ b ∷ c ∷ d ∷ more) = third_last (b ∷ c ∷ d ∷ more)
+
+third-last-is : (xs : List ℕ) (a b c : ℕ) → third_last (xs ++ a ∷ b ∷ c ∷ []) ≡ a
+third-last-is [] a b c = refl
+third-last-is (x ∷ []) a b c = refl
+third-last-is (x ∷ y ∷ []) a b c = refl
+third-last-is (x ∷ y ∷ z ∷ []) a b c = refl
+third-last-is (x ∷ y ∷ z ∷ w ∷ xs) a b c = third-last-is (y ∷ z ∷ w ∷ xs) a b c
+
+-- nor does the line of the rule
+not-rule : (before front : List ℕ) → before ++ codes "unique\n" ≡ front ++ codes "by the rule\n" → ⊥
+not-rule before front is =
+    let one = before ++ codes "uniq" in
+    let other = front ++ codes "by the ru" in
+    let split : before ++ codes "unique\n" ≡ one ++ 117 ∷ 101 ∷ 10 ∷ [] = sym (append_assoc before (codes "uniq") (117 ∷ 101 ∷ 10 ∷ [])) in
+    let apart : front ++ codes "by the rule\n" ≡ other ++ 108 ∷ 101 ∷ 10 ∷ [] = sym (append_assoc front (codes "by the ru") (108 ∷ 101 ∷ 10 ∷ [])) in
+    let same : 117 ≡ 108 = sym (third-last-is one 117 101 10) ∙ ap third_last (sym split ∙ is ∙ apart) ∙ third-last-is other 108 101 10 in
     omega (arith, same)
 
 -- nor do prices
 module _ (sale : Sale) (report : List ℕ) (first : List Choice) (p : Priced) (before : List ℕ) where
   abbrev lines : List ℕ
-  lines = flat_map (price_line sale p.prices) first
+  lines = flat_map (price_line sale p) first
 
   abbrev sum : List ℕ
-  sum = sum_line p.prices first
+  sum = sum_line p first
 
   abbrev with-end : List ℕ → List ℕ
   with-end end = report ++ (codes "prices\n" ++ (lines ++ (sum ++ end)))
 
   no-sum : before ++ codes "unique\n" ≡ with-end [] → ⊥
   no-sum is = not-so before _ is (after-more report _ (after-more (codes "prices\n") _
-      (after-more lines _ (subst EndsInDigit (sym (append-nil sum)) (number-ends (codes "sum ") _)))))
+      (after-more lines _ (subst EndsInDigit (sym (append-nil sum)) (amount-ends (codes "sum ") p.parts (paid (in_pounds p.parts (price_in p.prices)) first) (paid (price_in p.prices) first))))))
 
-  no-least : before ++ codes "unique\n" ≡ with-end (codes "least\n") → ⊥
-  no-least is =
-      let end = codes "least\n" in
+  no-rule : before ++ codes "unique\n" ≡ with-end (codes "by the rule\n") → ⊥
+  no-rule is =
+      let end = codes "by the rule\n" in
       let apart : with-end end ≡ (report ++ (codes "prices\n" ++ (lines ++ sum))) ++ end =
       ap (λ (xs : List ℕ). report ++ (codes "prices\n" ++ xs)) (sym (append_assoc lines sum end))
       ∙ ap (λ (xs : List ℕ). report ++ xs) (sym (append_assoc (codes "prices\n") (lines ++ sum) end))
       ∙ sym (append_assoc report (codes "prices\n" ++ (lines ++ sum)) end) in
-      not-least before (report ++ (codes "prices\n" ++ (lines ++ sum))) (is ∙ apart)
+      not-rule before (report ++ (codes "prices\n" ++ (lines ++ sum))) (is ∙ apart)
 
-  by-end : (least : Bool) → before ++ codes "unique\n" ≡ with-end (least_line least) → ⊥
+  by-end : (by_rule : Bool) → before ++ codes "unique\n" ≡ with-end (rule_line by_rule) → ⊥
   by-end false is = no-sum is
-  by-end true is = no-least is
+  by-end true is = no-rule is
 
   pub no-pricing : before ++ codes "unique\n" ≡ report ++ (pricing_text sale first (Some p) ++ []) → ⊥
-  no-pricing is = by-end p.is_least (is ∙ ap (λ (xs : List ℕ). report ++ xs) (append-nil (pricing_text sale first (Some p))))
+  no-pricing is = by-end p.by_rule (is ∙ ap (λ (xs : List ℕ). report ++ xs) (append-nil (pricing_text sale first (Some p))))
+
+-- the line of the rule is no such end, either
+
+not-rule-so : (before text : List ℕ) → before ++ codes "by the rule\n" ≡ text → EndsInDigit text → ⊥
+not-rule-so before text is ends =
+    let front = before ++ codes "by the rul" in
+    let split : before ++ codes "by the rule\n" ≡ front ++ 101 ∷ 10 ∷ [] = sym (append_assoc before (codes "by the rul") (101 ∷ 10 ∷ [])) in
+    let same : 101 ≡ ends.digit = sym (second-last-is front 101 10) ∙ ap second_last (sym split ∙ is ∙ ends.is) ∙ second-last-is ends.front ends.digit 10 in
+    let small = ends.small in
+    omega arith
+
+pub no-rule-after-report : (sale : Sale) (groups : List (List ℕ)) (won : List (List Choice)) (before : List ℕ) → 1 ≤ length (zip groups won)
+    → before ++ codes "by the rule\n" ≡ report_text sale groups won → ⊥
+no-rule-after-report sale [] won before some is = absurd (omega arith)
+no-rule-after-report sale (group ∷ groups) [] before some is = absurd (omega arith)
+no-rule-after-report sale (group ∷ groups) (a ∷ won) before some is = not-rule-so before _ is (groups-end sale a 1 (group, a) (zip groups won))
+
+-- if prices aren't called those of the rule
+pub no-rule-after-prices : (sale : Sale) (report : List ℕ) (first : List Choice) (p : Priced) (before : List ℕ) → p.by_rule ≡ false
+    → before ++ codes "by the rule\n" ≡ report ++ pricing_text sale first (Some p) → ⊥
+no-rule-after-prices sale report first p before so is =
+    let lines = flat_map (price_line sale p) first in
+    let sum = sum_line p first in
+    let ends = after-more report _ (after-more (codes "prices\n") _ (after-more lines _ (subst EndsInDigit (sym (append-nil sum))
+    (amount-ends (codes "sum ") p.parts (paid (in_pounds p.parts (price_in p.prices)) first) (paid (price_in p.prices) first))))) in
+    not-rule-so before _ (is ∙ ap (λ (b : Bool). report ++ (codes "prices\n" ++ (lines ++ (sum ++ rule_line b)))) so) ends

@@ -1,5 +1,5 @@
 -- What commands refuse, and what `explain` prints for them.
-use Rattle.std.proofs.Common.{◌≡◌, ◌≤◌, ◌+◌, ◌-◌, ◌&&◌, ◌∷◌, ◌++◌, ◌∙◌, ℕ, Bool, true, false, List, [], Option, None, Some}
+use Rattle.std.proofs.Common.{◌≡◌, ◌≤◌, ◌+◌, ◌-◌, ◌*◌, ◌&&◌, ◌∷◌, ◌++◌, ◌∙◌, ℕ, Bool, true, false, List, [], Option, None, Some}
 use Rattle.std.proofs.Common.{Result, Ok, Err, ap, arith, inl, inr, length, map, refl, subst, sym, IfErr, IsErr, ◌⊎◌}
 use Rattle.std.proofs.Common.{true≢false}
 use Rattle.std.proofs.lemmas.Bool.{leb-true}
@@ -27,9 +27,21 @@ use Rattle.bid_desk.specs.Sale.{Sale}
 use Rattle.auction_terms.specs.declared.choices.Choice.{Choice}
 use Rattle.answers.specs.Certified.{bounds_of, certified, shown}
 use Rattle.answers.specs.Claimed.{parsed_claims, first_program, of_tie, only_or_rival, parsed_tie, tied}
-use Rattle.answers.specs.Pricing.{covered, known_by_prices, known_by_weights, parsed_least, parsed_prices, parsed_weights}
-use Rattle.answers.specs.Pricing.{price_fault, priced, priced_by, pricing_counts, parsed_pricing, scaled, weights_of}
+use Rattle.answers.specs.Pricing.{InParts, alone_refused, covered, in_parts_of, known_alone, known_by, parsed_by_rule, parsed_prices, parsed_rule}
+use Rattle.answers.specs.Pricing.{price_fault, priced, priced_by, pricing_counts, parsed_pricing, rule_of, unshown_refused}
 use Rattle.answers.specs.Pricing.{winner_fault, winners_fault}
+use Rattle.auction_terms.specs.Fractions.{in_parts}
+use Rattle.auction_input.specs.PriceTexts.{parsed_price_text, parsed_rule_lines, common_parts, price_given}
+use Rattle.auction_input.specs.declared.price_reading.GivenPrice.{GivenPrice}
+use Rattle.auction_input.specs.declared.rule_weights.RuleLine.{RuleLine}
+use Rattle.auction_input.specs.declared.rule_weights.RuleLine.TheVariants as line
+use Rattle.outcome.specs.Pricing.{price_in}
+use Rattle.prices.specs.Alone.{costs_alone}
+use Rattle.prices.specs.Rule.{rule_fault}
+use Rattle.prices.specs.declared.alone.AloneFault.{AloneFault}
+use Rattle.prices.specs.declared.alone.AloneFault.TheVariants as alone
+use Rattle.prices.specs.declared.rule.RuleFault.{RuleFault}
+use Rattle.prices.specs.declared.rule.RuleFault.TheVariants as unshown
 use Rattle.answers.specs.Programs.{program_for}
 use Rattle.answers.specs.SolutionWinners.{solution_refused, winners_by, winners_of_groups}
 use Rattle.outcome.specs.Pricing.{Priced, pricing_text}
@@ -42,9 +54,6 @@ use Rattle.outcome.specs.declared.uniqueness.Uniqueness.{Uniqueness}
 use Rattle.auction_input.specs.ParsedParts.{only_text}
 use Rattle.auction_terms.specs.Allocations.{amount_of, total, weighed_choice}
 use Rattle.presolve.specs.Lines.{left_out_lines}
-use Rattle.auction_input.specs.GivenNumbers.{given_to, numbers_of_bidders, parsed_given}
-use Rattle.auction_input.specs.declared.given_numbers.GivenNumber.{GivenNumber}
-use Rattle.auction_input.specs.declared.given_numbers.Subject.TheVariants as subject
 use Rattle.auction_input.specs.declared.price_fault.PriceFault.TheVariants as price
 use Rattle.prices.specs.Prices.{reserves_in}
 use Rattle.presolve.specs.Reasons.{reasons_of}
@@ -52,7 +61,7 @@ use Rattle.program_rows.specs.declared.solution_fault.SolutionFault.TheVariants 
 use Rattle.program_rows.specs.declared.solution_fault.SolutionFault.{SolutionFault}
 use Rattle.program_rows.specs.Program.{Table}
 use Rattle.auction_input.specs.Requests.{target_of}
-use Rattle.auction_input.specs.declared.request.Request.TheVariants.{Check, Compile, Explain, Map, Report, Text, Verify}
+use Rattle.auction_input.specs.declared.request.Request.TheVariants.{Check, Compile, Explain, Forms, Map, Report, Text, Verify}
 use Rattle.auction_input.specs.declared.request.Request.{Request}
 use Rattle.auction_input.specs.declared.request.Target.TheVariants as target
 use Rattle.auction_input.specs.declared.request.Target.{Target}
@@ -174,45 +183,62 @@ two-checks false b r s first second = first
 two-checks true false r s first second = second
 two-checks true true r s first second = tt
 
-price-fault : (rules : Terms) (sale : Sale) (c : Choice) (given : Option GivenNumber) → IsFreeFault (price_fault rules sale c given)
-price-fault rules sale c None = λ never. never
-price-fault rules sale c (Some g) =
-    two-checks (nat_le g.number (amount_of sale.book c)) (nat_le (weighed_choice (reserves_in rules) sale.book c) g.number)
+price-fault : (rules : Terms) (sale : Sale) (parts : ℕ) (c : Choice) (given : Option GivenPrice) → IsFreeFault (price_fault rules sale parts c given)
+price-fault rules sale parts c None = λ never. never
+price-fault rules sale parts c (Some g) =
+    two-checks (nat_le (in_parts parts g.price) (parts * amount_of sale.book c))
+    (nat_le (parts * weighed_choice (reserves_in rules) sale.book c) (in_parts parts g.price))
     (refusal.Prices (price.AboveAmount g.place)) (refusal.Prices (price.BelowReserve g.place)) (λ never. never) (λ never. never)
 
-winners-fault : (rules : Terms) (sale : Sale) (given : List GivenNumber) (won : List Choice) → IsFreeFault (winners_fault rules sale given won)
+winners-fault : (rules : Terms) (sale : Sale) (given : List GivenPrice) (won : List Choice) → IsFreeFault (winners_fault rules sale given won)
 winners-fault rules sale given [] = tt
 winners-fault rules sale given (c ∷ more) = fault-or (winner_fault rules sale given c) (winners_fault rules sale given more)
-    (price-fault rules sale c (given_to given (subject.Bidder c.bidder))) (winners-fault rules sale given more)
+    (price-fault rules sale (common_parts given) c (price_given given c.bidder)) (winners-fault rules sale given more)
 
 free-prices : (auction : Auction) (first : List Choice) (text : List ℕ) → IsFree (parsed_prices auction first text)
 free-prices auction first text =
-    free-then (refused_as refusal.Prices (parsed_given (known_by_prices auction.rules first) text)) _
-    (free-as refusal.Prices (parsed_given (known_by_prices auction.rules first) text) (λ f never. never))
+    free-then (refused_as refusal.Prices (parsed_price_text (known_by auction first) text)) _
+    (free-as refusal.Prices (parsed_price_text (known_by auction first) text) (λ f never. never))
     (λ given is. free-found (winners_fault auction.rules auction.sale given first)
-    (Ok (numbers_of_bidders given (length auction.rules.bidders))) (winners-fault auction.rules auction.sale given first) tt)
+    (Ok (in_parts_of auction given)) (winners-fault auction.rules auction.sale given first) tt)
 
-free-scaled : (auction : Auction) (given : List GivenNumber) (scale : Option GivenNumber) → IsFree (scaled auction given scale)
-free-scaled auction given None = λ never. never
-free-scaled auction given (Some scale) = tt
+free-rule-of : (auction : Auction) (won : List (List Choice)) (given : List RuleLine) → IsFree (rule_of auction won given)
+free-rule-of auction won [] = λ never. never
+free-rule-of auction won (line.Weighted w ∷ more) = λ never. never
+free-rule-of auction won (line.Scaled scales ∷ more) = tt
 
-free-weights : (auction : Auction) (first : List Choice) (text : List ℕ) → IsFree (parsed_weights auction first text)
-free-weights auction first text =
-    free-then (refused_as refusal.Weights (parsed_given (known_by_weights auction first) text)) (weights_of auction)
-    (free-as refusal.Weights (parsed_given (known_by_weights auction first) text) (λ f never. never))
-    (λ given is. free-scaled auction given (given_to given subject.Scale))
+free-rule : (auction : Auction) (won : List (List Choice)) (first : List Choice) (text : List ℕ) → IsFree (parsed_rule auction won first text)
+free-rule auction won first text =
+    free-then (refused_as refusal.Rule (parsed_rule_lines (known_by auction first) text)) (rule_of auction won)
+    (free-as refusal.Rule (parsed_rule_lines (known_by auction first) text) (λ f never. never))
+    (λ given is. free-rule-of auction won given)
 
-free-least : (auction : Auction) (won : List (List Choice)) (first : List Choice) (prices : List ℕ) (texts : List (List ℕ))
-    → IsFree (parsed_least auction won first prices texts)
-free-least auction won first prices [] = tt
-free-least auction won first prices (text ∷ more) =
-    free-then (parsed_weights auction first text) _ (free-weights auction first text) (λ w is. tt)
+other-alone : (sale : Sale) (f : AloneFault) → IsOther (alone_refused sale f)
+other-alone sale (alone.NotListed b) = λ never. never
+other-alone sale alone.OutOfMemory = λ never. never
+
+other-unshown : (f : RuleFault) → IsOther (unshown_refused f)
+other-unshown unshown.NotLeast = λ never. never
+other-unshown unshown.NotNearest = λ never. never
+
+free-alone : (auction : Auction) (won : List (List Choice)) (first : List Choice) → IsFree (known_alone auction won first)
+free-alone auction won first = free-as (alone_refused auction.sale)
+    (costs_alone (reserves_in auction.rules) auction.sale.lots auction.sale.book first auction.groups won) (other-alone auction.sale)
+
+free-by-rule : (auction : Auction) (won : List (List Choice)) (first : List Choice) (p : InParts) (texts : List (List ℕ))
+    → IsFree (parsed_by_rule auction won first p texts)
+free-by-rule auction won first p [] = tt
+free-by-rule auction won first p (text ∷ more) =
+    free-then (parsed_rule auction won first text) _ (free-rule auction won first text) (λ rule is.
+    free-then (known_alone auction won first) _ (free-alone auction won first) (λ costs is.
+    free-unless unshown_refused (rule_fault (reserves_in auction.rules) auction.sale.lots auction.sale.book first (price_in costs) p.parts
+    (price_in p.prices) rule) (Ok true) other-unshown tt))
 
 free-priced : (auction : Auction) (won : List (List Choice)) (first : List Choice) (text cover : List ℕ) → IsFree (priced auction won first text cover)
 free-priced auction won first text cover =
     free-then (parsed_prices auction first text) _ (free-prices auction first text) (λ prices is.
     free-then (covered auction first prices cover) _ (free-unless _ _ (Ok tt) (λ f never. never) tt) (λ shown is.
-    free-then (parsed_least auction won first prices auction.weights) _ (free-least auction won first prices auction.weights) (λ least is. tt)))
+    free-then (parsed_by_rule auction won first prices auction.rule_texts) _ (free-by-rule auction won first prices auction.rule_texts) (λ by_rule is. tt)))
 
 free-priced-by : (auction : Auction) (won : List (List Choice)) (texts covers : List (List ℕ)) → IsFree (priced_by auction won texts covers)
 free-priced-by auction won [] covers = tt
@@ -359,6 +385,7 @@ explain-so bids (Some command) (Ok auction) r is = stopped (λ found. lines_of b
 refuses-so : (asked : Request) (command : Target) (input : Input) (r : Refusal) → target_of asked ≡ Some command
     → parsed_taken asked input ≡ Err r → RefusesSo asked input r
 refuses-so Check command input r is parsed = cc
+refuses-so Forms command input r is parsed = cc
 refuses-so Text command input r is parsed = stopped (output_of Text) (parsed_auction Text input) r (sym (onto-all (parsed_auction Text input)) ∙ parsed)
 refuses-so (Compile workers) command input r is parsed = stopped (output_of (Compile workers)) (parsed_auction (Compile workers) input) r
     (sym (onto-all (parsed_auction (Compile workers) input)) ∙ parsed)
@@ -421,6 +448,7 @@ taken-so asked (Err r) auction is = absurd (by (target_of asked) is)
     by None e = cc
     by (Some command) e = cc
 taken-so Check (Ok found) auction is = tt
+taken-so Forms (Ok found) auction is = tt
 taken-so Text (Ok found) auction is = tt
 taken-so (Compile workers) (Ok found) auction is = tt
 taken-so (Map group) (Ok found) auction is =
@@ -442,11 +470,19 @@ taken-so (Explain bids (Some command)) (Ok found) auction is =
 -- what a request for a command takes is what `explain` takes for it
 parsed-for : (bids : Bool) (asked : Request) (command : Target) (input : Input) → target_of asked ≡ Some command
     → parsed_taken asked input ≡ parsed_taken (Explain bids (Some command)) input
-parsed-for bids asked command input is = ap (λ (o : Option Target). parsed_taken (Explain bids o) input) is
+parsed-for bids Check command input is = cc
+parsed-for bids Forms command input is = cc
+parsed-for bids Text command input is = ap (λ (o : Option Target). parsed_taken (Explain bids o) input) is
+parsed-for bids (Compile workers) command input is = ap (λ (o : Option Target). parsed_taken (Explain bids o) input) is
+parsed-for bids (Map group) command input is = ap (λ (o : Option Target). parsed_taken (Explain bids o) input) is
+parsed-for bids (Report workers) command input is = ap (λ (o : Option Target). parsed_taken (Explain bids o) input) is
+parsed-for bids (Verify workers) command input is = ap (λ (o : Option Target). parsed_taken (Explain bids o) input) is
+parsed-for bids (Explain others whose) command input is = ap (λ (o : Option Target). parsed_taken (Explain bids o) input) is
 
 free-answer : (asked : Request) (command : Target) (input : Input) (auction : Auction) → target_of asked ≡ Some command
     → parsed_taken asked input ≡ Ok auction → IsFree (answer asked input)
 free-answer Check command input auction is parsed = cc
+free-answer Forms command input auction is parsed = cc
 free-answer asked command input auction is parsed = taken-so asked (parsed_auction asked input) auction parsed
 
 if-err-at : {A : Type 0} (parsed : Result A Refusal) (r : Refusal) → IsFree parsed → parsed ≡ Err r → IsOther r
@@ -467,6 +503,7 @@ is-err parsed r is = subst (λ (t : Result _ Refusal). IsErr t) (sym is) refl
 refused-so : (asked : Request) (input : Input) (r : Refusal) → RefusesSo asked input r → IsErr (answer asked input)
 refused-so (Verify workers) input r (first, is, other) = is-err _ first is
 refused-so Check input r is = is-err _ r is
+refused-so Forms input r is = is-err _ r is
 refused-so Text input r is = is-err _ r is
 refused-so (Compile workers) input r is = is-err _ r is
 refused-so (Map group) input r is = is-err _ r is
@@ -503,6 +540,7 @@ taken-for (Explain bids (Some command)) input before after (out, parsed, sent) =
     let (auction, has) = has-taken bids (Some command) (parsed_auction (Explain bids (Some command)) input) out parsed in
     (explains-for command input).taken bids auction has
 taken-for Check input before after writes = tt
+taken-for Forms input before after writes = tt
 taken-for Text input before after writes = tt
 taken-for (Compile workers) input before after writes = tt
 taken-for (Map group) input before after writes = tt

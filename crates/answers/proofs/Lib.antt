@@ -18,6 +18,7 @@ pub mod ExplainingFacts
 pub mod FaithfulFacts
 pub mod FeasibleFacts
 mod FileLineFacts
+mod FormsFacts
 pub mod GroupTextFacts
 mod LineFacts
 pub mod OnlyFacts
@@ -26,6 +27,7 @@ pub mod ProgramTextFacts
 pub mod RunFacts
 mod SizeFacts
 pub mod VerifiedFacts
+pub mod AwardFacts
 pub mod VerifyFacts
 mod WorkedGroups
 mod WorkedRefusals

@@ -1,7 +1,8 @@
 -- What is said of other outcomes holds.
-use Rattle.std.proofs.Common.{◌≡◌, ◌≤◌, ◌∷◌, [], ℕ, Bool, false, cond, List, Option, None, Some, Ok, leb-true, refl, subst}
+use Rattle.std.proofs.Common.{◌≡◌, ◌≤◌, ◌∷◌, [], ℕ, zero, suc, arith, Bool, false, cond, List, Option, None, Some, Ok, leb-true, refl, subst}
 use Rattle.std.proofs.Common.{sym, IsPermutation, nat_le, not, slice_index_or}
 use Rattle.std.specs.List.{AllZip}
+use Rattle.std.specs.Prelude.{Contains}
 use Rattle.rayon.proofs.ListFacts.{AllZip-weaken}
 use Rattle.std.specs.Option.{option_map, option_map_or}
 use Rattle.std.proofs.lemmas.Bool.{not-true}
@@ -34,6 +35,7 @@ use Rattle.outcome.specs.declared.uniqueness.Uniqueness.{Uniqueness}
 use Rattle.program_rows.proofs.FaithfulFacts.{same_choice}
 use Rattle.program_rows.proofs.OnlyPointFacts.{as-often, only_least_is_only}
 use Rattle.program_rows.specs.Faithful.{IsGreatest, back}
+use Rattle.program_rows.specs.Only.{AreOnlyLeast, IsOnlyLeast}
 use Rattle.program_rows.specs.Program.{Table}
 use Rattle.answers.specs.Claimed.{parsed_claims, first_program, of_tie, only_or_rival, parsed_tie, tied}
 use Rattle.answers.specs.SolutionWinners.{solution_refused, winners_by}
@@ -53,23 +55,31 @@ pub settled-costs : (sale : Sale) (first : List Choice) → IsOnly sale.lots sal
 settled-costs sale first only = AllZip-weaken (IsGreatestWithout sale) (IsSettledCost sale first)
     (λ group a greatest first' a' best best'. sym (only_first_settles_costs sale.lots sale.book group first first' a a' only best greatest best').1)
 
+-- one point is the only one among itself
+alone : (p : Table) (point : List Bool) → AreOnlyLeast p point [] → IsOnlyLeast p point
+alone p point only values is_point lower = same values (only values is_point lower)
+  where
+    same : (values : List Bool) → Contains (point ∷ []) values → values ≡ point
+    same values (zero, l, e) = sym e
+    same values (suc k, l, e) = absurd (omega arith)
+
 module _ (sale : Sale) (within : IsBook sale.lots sale.book) (first : List Choice) (best : IsGreatest sale.lots sale.book (λ b. false) first) where
   abbrev program : Table
   program = program_for sale []
 
   -- winners that a certificate shows to be the only ones of kept bids, where no bid does as well in a winner's place
   only-one : (solved text : List ℕ) (point : List Bool) → solution program solved ≡ Ok point → allocation_of program point ≡ first
-      → only_fault program point text ≡ None
+      → only_fault program point [] text ≡ None
       → first_rival sale.lots sale.book first ≡ None → IsOnly sale.lots sale.book (λ b. false) first
   only-one solved text point parsed is faultless none =
-      let (certificate, tells, shows) = (only-verdict program point text).0 faultless in
+      let (certificate, tells, shows) = (only-verdict program point [] text).0 faultless in
       let is_point = solutions_are_points program solved point parsed in
-      let least = shown-is-only program point certificate is_point shows in
+      let least = alone program point (shown-is-only program point [] certificate is_point (λ k d l. absurd (omega arith)) shows) in
       only_least_is_only sale.lots sale.book (λ b. false) point first within is_point least
       (subst (λ (a : List Choice). IsPermutation (back program.columns point) a) is (same-bids program point)) none
 
   only-or-rival : (solved text : List ℕ) (point : List Bool) → solution program solved ≡ Ok point → allocation_of program point ≡ first
-      → only_fault program point text ≡ None
+      → only_fault program point [] text ≡ None
       → (found : Option Choice) → first_rival sale.lots sale.book first ≡ found
       → Holds sale first (option_map_or (λ rival. uniqueness.Tie (with_bid rival first)) found uniqueness.Only)
   only-or-rival solved text point parsed is faultless None none = only-one solved text point parsed is faultless none
@@ -100,9 +110,9 @@ module _ (auction : Auction) (within : IsBook auction.sale.lots auction.sale.boo
       let (point, point_is, judged) = ok-after (refused_as (solution_refused p 1) (solution p solved)) _ claim parsed in
       let parsed_point = ok-refused_as (solution_refused p 1) (solution p solved) point point_is in
       let refuse = λ (f : ℕ × CertificateFaultKind). refusal.Unique (record { line = f.0; kind = f.1 }) in
-      let (none, is) = unless-ok (option_map refuse (only_fault p point text)) (only_or_rival sale first) claim judged in
+      let (none, is) = unless-ok (option_map refuse (only_fault p point [] text)) (only_or_rival sale first) claim judged in
       let holds = only-or-rival sale within first best solved text point parsed_point (wins point parsed_point)
-      (no-fault refuse (only_fault p point text) none) (first_rival sale.lots sale.book first) refl in
+      (no-fault refuse (only_fault p point [] text) none) (first_rival sale.lots sale.book first) refl in
       subst (λ (c : Uniqueness). Holds sale first c) is holds
 
   rises : (text : List ℕ) (other : List Choice) → winners_by p 1 text ≡ Ok other → HasRisingBidders other

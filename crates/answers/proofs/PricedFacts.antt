@@ -1,6 +1,6 @@
 -- Prices that are printed are true.
 use Rattle.std.proofs.Common.{◌≡◌, ◌∷◌, ◌∙◌, [], ℕ, Bool, true, false, List, Option, None, Some, Ok, length, refl, slice_index_or, subst}
-use Rattle.std.specs.Prelude.{IfSome, codes}
+use Rattle.std.specs.Prelude.{All, IfSome, ◌≤◌, codes, if◌then◌else◌, ℤ}
 use Rattle.std.specs.List.{AllZip}
 use Rattle.std.specs.Option.{option_map}
 use Rattle.std.proofs.lemmas.List.Elements.{All-from_recursion}
@@ -19,21 +19,35 @@ use Rattle.auction_input.specs.ParsedTexts.{parsed_form, parsed_groups, parsed_t
 use Rattle.auction_input.specs.declared.request.Request.{Request}
 use Rattle.auction_input.specs.declared.refusal.Refusal.TheVariants as refusal
 use Rattle.auction_input.proofs.AnswerFacts.{ok-after, ok-is, ok-refused_as, unless-ok, unless-parsed}
-use Rattle.answers.specs.Pricing.{cover_bound, cover_program, covered, parsed_least, parsed_prices, parsed_weights, priced}
-use Rattle.answers.specs.Pricing.{priced_by, pricing_counts, parsed_pricing}
-use Rattle.answers.proofs.PricingFacts.{parsed-hold}
-use Rattle.optimality.proofs.VerdictFacts.{verdict}
+use Rattle.answers.specs.Pricing.{InParts, alone_refused, covered, fault_of_cover, fault_of_rule, known_alone, known_by, parsed_by_rule, parsed_prices, parsed_rule, priced}
+use Rattle.answers.specs.Pricing.{priced_by, pricing_counts, parsed_pricing, rule_of, unshown_refused, weights_for}
+use Rattle.answers.proofs.PricingFacts.{parsed-hold, parsed-some}
 use Rattle.optimality.specs.Verdict.{certificate_fault}
+use Rattle.optimality.proofs.VerdictFacts.{verdict}
 use Rattle.outcome.specs.Pricing.{Priced, price_in}
+use Rattle.prices.proofs.AloneFacts.{listed_are_costs_alone}
+use Rattle.prices.proofs.RoundingFacts.{rounded_up_suffice}
+use Rattle.prices.proofs.RuleFacts.{shown_are_the_prices}
+use Rattle.prices.proofs.RaisedFacts.{shown_suffice}
+use Rattle.prices.specs.Alone.{costs_alone}
+use Rattle.prices.specs.Blocking.{ArePrices}
+use Rattle.prices.specs.Parts.{AreAtLeastReserves, Suffice}
+use Rattle.prices.specs.Raised.{has_small_costs, raised_bound, raised_program}
+use Rattle.prices.specs.Prices.{reserves_in}
+use Rattle.prices.specs.Rule.{Rule, rule_fault}
+use Rattle.prices.specs.Weights.{Weighted, weighted}
 use Rattle.prices.proofs.FewFacts.{all_greatest}
-use Rattle.prices.proofs.RaisedFacts.{shown_covers}
-use Rattle.prices.proofs.WeightFacts.{shown_is_least_sum}
-use Rattle.prices.specs.Listed.{weighted}
-use Rattle.prices.specs.Prices.{ArePrices, CoversEveryGroup, IsLeastSum, reserves_in}
-use Rattle.prices.specs.Weights.{Weighted, shows_least_sum}
+use Rattle.auction_input.specs.PriceTexts.{parsed_rule_lines, weights_of_groups}
+use Rattle.auction_input.specs.declared.rule_weights.Aim.{Aim}
+use Rattle.auction_input.specs.declared.rule_weights.Aim.TheVariants as aim
+use Rattle.auction_input.specs.declared.rule_weights.RuleLine.{RuleLine}
+use Rattle.auction_input.specs.declared.rule_weights.RuleLine.TheVariants as line
+use Rattle.auction_terms.specs.Stages.{refused_as}
+use Rattle.program_rows.specs.Program.{Table}
+use Rattle.program_rows.specs.declared.certificate_fault.CertificateFaultKind.TheVariants.{TooLarge}
 use Rattle.program_rows.specs.declared.certificate_fault.CertificateFaultKind.{CertificateFaultKind}
 use Rattle.program_rows.specs.Faithful.{IsGreatest}
-use Rattle.answers.specs.Verified.{AreTruePrices, IsGreatestWithout}
+use Rattle.answers.specs.Verified.{AreTruePrices, ArePricesOfRule, IsGreatestWithout}
 use Rattle.answers.proofs.OnlyFacts.{no-fault}
 
 -- a book has a form of each bidder of the rules
@@ -52,41 +66,95 @@ module _ (auction : Auction) (within : IsBook auction.sale.lots auction.sale.boo
     (won : List (List Choice)) (first : List Choice) (best : IsGreatest auction.sale.lots auction.sale.book (λ b. false) first)
     (greatest : AllZip (IsGreatestWithout auction.sale) auction.groups won) where
   -- a cover
-  cover-holds : (prices text : List ℕ) (u : Unit {0}) → ArePrices auction.sale.book first (price_in prices)
-      → covered auction first prices text ≡ Ok u → CoversEveryGroup auction.sale.lots auction.sale.book first (price_in prices)
-  cover-holds prices text u fine parsed =
-      let refuse = λ (f : ℕ × CertificateFaultKind). refusal.Cover (record { line = f.0; kind = f.1 }) in
-      let p = cover_program auction first prices in
-      let bound = cover_bound auction first prices in
-      let none = (unless-ok (option_map refuse (certificate_fault p bound text)) tt u parsed).0 in
-      let (certificate, tells, shows) = (verdict p bound text).0 (no-fault refuse (certificate_fault p bound text) none) in
-      shown_covers auction.sale.lots auction.sale.book first (price_in prices) certificate within best.feasible fine shows
+  abbrev raised : InParts → Table
+  raised p = raised_program auction.sale.lots auction.sale.book first p.parts (price_in p.prices)
 
-  -- weights
-  least-holds : (prices : List ℕ) (is_least : Bool) (texts : List (List ℕ)) → parsed_least auction won first prices texts ≡ Ok is_least → is_least ≡ true
-      → IsLeastSum (reserves_in auction.rules) auction.sale.lots auction.sale.book first (price_in prices)
-  least-holds prices is_least [] parsed so = cc
-  least-holds prices is_least (text ∷ more) parsed so =
-      let (w, w_is, shown) = ok-after (parsed_weights auction first text) _ is_least parsed in
-      let ws : List Weighted = weighted auction.groups won w.groups in
-      let is = ok-is _ (shows_least_sum (reserves_in auction.rules) auction.sale.lots auction.sale.book first (price_in prices) w.scale ws
-      (price_in w.own)) is_least refl shown in
-      shown_is_least_sum (reserves_in auction.rules) auction.sale.lots auction.sale.book first (price_in prices) w.scale ws (price_in w.own)
-      (All-from_recursion (λ (x : Weighted). IsGreatest auction.sale.lots auction.sale.book (has x.group) x.without) ws
-      (all_greatest auction.sale.lots auction.sale.book auction.groups won w.groups greatest)) (is ∙ so)
+  abbrev bound : InParts → ℤ
+  bound p = raised_bound auction.sale.lots auction.sale.book first p.parts (price_in p.prices)
+
+  covers : (p : InParts) (text : List ℕ) → 1 ≤ p.parts → ArePrices auction.sale.book first p.parts (price_in p.prices)
+      → AreAtLeastReserves (reserves_in auction.rules) auction.sale.book first p.parts (price_in p.prices)
+      → (small : Bool) → (if small then certificate_fault (raised p) (bound p) text else Some (0, TooLarge)) ≡ None
+      → Suffice (reserves_in auction.rules) auction.sale.lots auction.sale.book first p.parts (price_in p.prices)
+  covers p text some fine least true faultless =
+      let (certificate, tells, shows) = (verdict (raised p) (bound p) text).0 faultless in
+      shown_suffice (reserves_in auction.rules) auction.sale.lots auction.sale.book first p.parts (price_in p.prices) certificate within best.feasible
+      some fine least shows
+  covers p text some fine least false faultless = cc
+
+  cover-holds : (p : InParts) (text : List ℕ) (u : Unit {0}) → 1 ≤ p.parts → ArePrices auction.sale.book first p.parts (price_in p.prices)
+      → AreAtLeastReserves (reserves_in auction.rules) auction.sale.book first p.parts (price_in p.prices) → covered auction first p text ≡ Ok u
+      → Suffice (reserves_in auction.rules) auction.sale.lots auction.sale.book first p.parts (price_in p.prices)
+  cover-holds p text u some fine least parsed =
+      let refuse = λ (f : ℕ × CertificateFaultKind). refusal.Cover (record { line = f.0; kind = f.1 }) in
+      let none = (unless-ok (option_map refuse (fault_of_cover auction first p text)) tt u parsed).0 in
+      covers p text some fine least (has_small_costs (raised p)) (no-fault refuse (fault_of_cover auction first p text) none)
+
+  -- weights of groups with allocations of greatest total
+  weights-greatest : (given : List RuleLine) (a : Aim) (scale : ℕ)
+      → All (λ (x : Weighted). IsGreatest auction.sale.lots auction.sale.book (has x.group) x.without) (weights_for auction won given a scale).groups
+  weights-greatest given a scale =
+      let ws = weights_of_groups a given (length auction.groups) in
+      All-from_recursion (λ (x : Weighted). IsGreatest auction.sale.lots auction.sale.book (has x.group) x.without) (weighted auction.groups won ws)
+      (all_greatest auction.sale.lots auction.sale.book auction.groups won ws greatest)
+
+  -- a rule that lines give has weights of such groups
+  rule-greatest : (given : List RuleLine) (rule : Rule) → rule_of auction won given ≡ Ok rule
+      → All (λ (x : Weighted). IsGreatest auction.sale.lots auction.sale.book (has x.group) x.without) rule.least.groups
+      × All (λ (x : Weighted). IsGreatest auction.sale.lots auction.sale.book (has x.group) x.without) rule.nearest.groups
+  rule-greatest [] rule is = cc
+  rule-greatest (line.Weighted w ∷ more) rule is = cc
+  rule-greatest (line.Scaled scales ∷ more) rule is =
+      let given = line.Scaled scales ∷ more in
+      let made : Rule = record {
+        least = weights_for auction won given aim.Least scales.least;
+        nearest = weights_for auction won given aim.Nearest scales.nearest;
+        push = scales.push;
+      } in
+      let same : made ≡ rule = ok-is _ made rule refl is in
+      subst (λ (x : Rule). All (λ (y : Weighted). IsGreatest auction.sale.lots auction.sale.book (has y.group) y.without) x.least.groups
+      × All (λ (y : Weighted). IsGreatest auction.sale.lots auction.sale.book (has y.group) y.without) x.nearest.groups) same
+      (weights-greatest given aim.Least scales.least, weights-greatest given aim.Nearest scales.nearest)
+
+  -- the text of a rule
+  rule-holds : (p : InParts) (by_rule : Bool) (texts : List (List ℕ))
+      → Suffice (reserves_in auction.rules) auction.sale.lots auction.sale.book first p.parts (price_in p.prices)
+      → parsed_by_rule auction won first p texts ≡ Ok by_rule → by_rule ≡ true
+      → ArePricesOfRule auction first p.parts (price_in p.prices)
+  rule-holds p by_rule [] suffice parsed so = cc
+  rule-holds p by_rule (text ∷ more) suffice parsed so =
+      let (rule, rule_is, later) = ok-after (parsed_rule auction won first text) _ by_rule parsed in
+      let (costs, costs_are, rest) = ok-after (known_alone auction won first) _ by_rule later in
+      let (given, given_are, made) = ok-after (refused_as refusal.Rule (parsed_rule_lines (known_by auction first) text)) (rule_of auction won) rule rule_is in
+      let weights = rule-greatest given rule made in
+      let known = ok-refused_as (alone_refused auction.sale)
+      (costs_alone (reserves_in auction.rules) auction.sale.lots auction.sale.book first auction.groups won) costs costs_are in
+      let none = (unless-ok (fault_of_rule auction first p costs rule) true by_rule rest).0 in
+      let faultless = no-fault unshown_refused (rule_fault (reserves_in auction.rules) auction.sale.lots auction.sale.book first (price_in costs) p.parts
+      (price_in p.prices) rule) none in (
+        price_in costs,
+        listed_are_costs_alone (reserves_in auction.rules) auction.sale.lots auction.sale.book first auction.groups won costs best.feasible greatest known,
+        shown_are_the_prices (reserves_in auction.rules) auction.sale.lots auction.sale.book first (price_in costs) p.parts (price_in p.prices) rule
+            suffice weights.0 weights.1 faultless,
+      )
 
   priced-holds : (text cover : List ℕ) (p : Priced) → priced auction won first text cover ≡ Ok p → AreTruePrices auction first p
   priced-holds text cover p parsed =
-      let (prices, prices_are, more) = ok-after (parsed_prices auction first text) _ p parsed in
-      let (u, shown, rest) = ok-after (covered auction first prices cover) _ p more in
-      let (is_least, least_is, written) = ok-after (parsed_least auction won first prices auction.weights) _ p rest in
-      let is : record { prices = prices; is_least = is_least } ≡ p = ok-is _ (record { prices = prices; is_least = is_least }) p refl written in
-      let (fine, met) = parsed-hold auction first text prices count best.feasible prices_are in
+      let (given, given_are, more) = ok-after (parsed_prices auction first text) _ p parsed in
+      let (u, shown, rest) = ok-after (covered auction first given cover) _ p more in
+      let (by_rule, rule_is, written) = ok-after (parsed_by_rule auction won first given auction.rule_texts) _ p rest in
+      let made : Priced = record { parts = given.parts; prices = given.prices; by_rule = by_rule } in
+      let is : made ≡ p = ok-is _ made p refl written in
+      let (fine, least) = parsed-hold auction first text given count best.feasible given_are in
+      let some = parsed-some auction first text given given_are in
+      let suffice = cover-holds given cover u some fine least shown in
+      let rounded = rounded_up_suffice (reserves_in auction.rules) auction.sale.lots auction.sale.book first given.parts (price_in given.prices) suffice in
       subst (AreTruePrices auction first) is (record {
         at_most = fine;
-        at_least = met;
-        covers = cover-holds prices cover u fine shown;
-        least = least-holds prices is_least auction.weights least_is;
+        suffice = suffice;
+        covers = rounded.0;
+        at_least = rounded.1;
+        by_rule = rule-holds given by_rule auction.rule_texts suffice rule_is;
       })
 
 -- whatever comes of the texts

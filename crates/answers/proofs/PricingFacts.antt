@@ -1,5 +1,5 @@
 -- What prices that a text gives keep to.
-use Rattle.std.proofs.Common.{◌≡◌, ◌⊎◌, ◌≤◌, ◌<◌, ◌+◌, ◌∷◌, ◌∙◌, [], inl, inr, ap, drop, drop-cons, refl, sym, Result, Ok}
+use Rattle.std.proofs.Common.{◌≡◌, ◌⊎◌, ◌≤◌, ◌<◌, ◌+◌, ◌*◌, ◌∷◌, ◌∙◌, [], inl, inr, ap, drop, drop-cons, refl, sym, Result, Ok}
 use Rattle.std.proofs.Common.{Err, ℕ, zero, suc, Bool, true, false, List, Option, None, Some, arith, eqb-true, leb-true}
 use Rattle.std.proofs.Common.{nat_le, subst, length, slice_index_or}
 use Rattle.std.specs.List.{AllByRecursion, AllZip}
@@ -18,7 +18,8 @@ use Rattle.auction_input.specs.declared.refusal.Refusal.{Refusal}
 use Rattle.auction_input.specs.Auction.{Auction}
 use Rattle.auction_input.specs.Refused.{Refuses}
 use Rattle.auction_input.proofs.RecordFacts.{neither, none-failed}
-use Rattle.auction_input.proofs.AnswerFacts.{ok-after, ok-is, unless-ok}
+use Rattle.auction_input.proofs.AnswerFacts.{ok-after, ok-refused_as, unless-ok}
+use Rattle.auction_input.proofs.PriceTextFacts.{parts-some}
 use Rattle.auction_input.proofs.StageFacts.{after-ok, next, refuses-as, stop}
 use Rattle.auction_terms.specs.Stages.{and_then, refused_as, unless}
 use Rattle.optimality.specs.Answers.{IsLimit}
@@ -30,15 +31,19 @@ use Rattle.program_rows.specs.declared.certificate_fault.CertificateFaultKind.Th
 use Rattle.bid_desk.specs.Sale.{Sale}
 use Rattle.auction_terms.specs.FirstFault.{first_failed}
 use Rattle.outcome.specs.Pricing.{Priced, price_in}
-use Rattle.auction_input.specs.GivenNumbers.{Known, given_to, number_given, numbers_of_bidders, numbers_of_groups, parsed_given}
+use Rattle.auction_terms.specs.Fractions.{in_parts}
+use Rattle.auction_input.specs.PriceTexts.{parsed_price_text, common_parts, price_given, prices_in_parts}
 use Rattle.auction_input.specs.declared.price_fault.PriceFault.TheVariants as fault
-use Rattle.auction_input.specs.declared.given_numbers.GivenNumber.{GivenNumber}
-use Rattle.auction_input.specs.declared.given_numbers.Subject.TheVariants as subject
-use Rattle.prices.specs.Prices.{ArePrices, MeetReserves, reserves_in}
+use Rattle.auction_input.specs.declared.price_reading.GivenPrice.{GivenPrice}
+use Rattle.prices.specs.Blocking.{ArePrices}
+use Rattle.prices.specs.Parts.{AreAtLeastReserves}
+use Rattle.prices.specs.Prices.{reserves_in}
+use Rattle.prices.specs.Raised.{IsLargeCoverAt}
 use Rattle.program_rows.specs.Faithful.{IsGreatest}
-use Rattle.answers.specs.Pricing.{IsTooWideCover, ParsedWeights, cover_bound, cover_program, covered, known_by_prices}
-use Rattle.answers.specs.Pricing.{known_by_weights, parsed_least, parsed_prices, parsed_weights, price_fault, priced}
-use Rattle.answers.specs.Pricing.{priced_by, pricing_counts, parsed_pricing, scaled, winner_fault, winners_fault}
+use Rattle.answers.specs.Pricing.{InParts, IsTooWideCover, covered, fault_of_cover, fault_of_rule, in_parts_of, known_alone, known_by, parsed_by_rule}
+use Rattle.answers.specs.Pricing.{parsed_prices, parsed_rule}
+use Rattle.prices.specs.Rule.{Rule}
+use Rattle.answers.specs.Pricing.{price_fault, priced, priced_by, pricing_counts, parsed_pricing, winner_fault, winners_fault}
 
 -- ---- the bidders of a book
 
@@ -55,23 +60,27 @@ bidder-of book (suc b) j x e = let h = within book b j x e in (omega arith, omeg
 
 -- ---- the prices of winners without a fault
 
-module _ (rules : Terms) (sale : Sale) (given : List GivenNumber) where
+module _ (rules : Terms) (sale : Sale) (given : List GivenPrice) where
   abbrev price : ℕ → ℕ
-  price b = number_given given (subject.Bidder b)
+  price b = option_map_or (λ g. in_parts (common_parts given) g.price) (price_given given b) 0
 
   abbrev IsFine : Choice → Type 0
-  IsFine c = (weighed_choice (reserves_in rules) sale.book c ≤ price c.bidder) × (price c.bidder ≤ amount_of sale.book c)
+  IsFine c = (common_parts given * weighed_choice (reserves_in rules) sale.book c ≤ price c.bidder) × (price c.bidder ≤ common_parts given * amount_of sale.book c)
 
   fine : (c : Choice) → winner_fault rules sale given c ≡ None → IsFine c
-  fine c none = by (given_to given (subject.Bidder c.bidder)) none
+  fine c none = by (price_given given c.bidder) none
     where
-      by : (o : Option GivenNumber) → price_fault rules sale c o ≡ None
-          → (weighed_choice (reserves_in rules) sale.book c ≤ option_map_or (λ g. g.number) o 0)
-          × (option_map_or (λ g. g.number) o 0 ≤ amount_of sale.book c)
+      by : (o : Option GivenPrice) → price_fault rules sale (common_parts given) c o ≡ None
+          → (common_parts given * weighed_choice (reserves_in rules) sale.book c ≤ option_map_or (λ g. in_parts (common_parts given) g.price) o 0)
+          × (option_map_or (λ g. in_parts (common_parts given) g.price) o 0 ≤ common_parts given * amount_of sale.book c)
       by None h = cc
       by (Some g) h =
-          let checks : List (Bool × Refusal) = (nat_le g.number (amount_of sale.book c), refusal.Prices (fault.AboveAmount g.place)) ∷
-          (nat_le (weighed_choice (reserves_in rules) sale.book c) g.number, refusal.Prices (fault.BelowReserve g.place)) ∷ [] in
+          let checks : List (Bool × Refusal) =
+          (nat_le (in_parts (common_parts given) g.price) (common_parts given * amount_of sale.book c), refusal.Prices (fault.AboveAmount g.place)) ∷ (
+            nat_le (common_parts given * weighed_choice (reserves_in rules) sale.book c) (in_parts (common_parts given) g.price),
+            refusal.Prices
+                (fault.BelowReserve g.place),
+          ) ∷ [] in
           let each = none-failed checks h in
           (leb-true _ _ each.1.0, leb-true _ _ each.0)
 
@@ -81,18 +90,18 @@ module _ (rules : Terms) (sale : Sale) (given : List GivenNumber) where
       (fine c here, all-fine a later))
 
   -- the prices by a list
-  listed : (n b : ℕ) → 1 ≤ b → b ≤ n → price_in (numbers_of_bidders given n) b ≡ price b
+  listed : (n b : ℕ) → 1 ≤ b → b ≤ n → price_in (prices_in_parts (common_parts given) given n) b ≡ price b
   listed n zero some few = absurd (omega arith)
-  listed n (suc b) some few = get_or-map-range_with_len (λ (k : ℕ). number_given given (subject.Bidder k)) 1 n b (suc b) 0 (omega arith) (omega arith)
+  listed n (suc b) some few = get_or-map-range_with_len price 1 n b (suc b) 0 (omega arith) (omega arith)
 
   module _ (lots : Lots) (n : ℕ) (first : List Choice) (count : length sale.book ≡ n)
       (feasible : IsFeasible lots sale.book (λ b. false) first) (none : winners_fault rules sale given first ≡ None) where
     abbrev prices : List ℕ
-    prices = numbers_of_bidders given n
+    prices = prices_in_parts (common_parts given) given n
 
     each : (a : List Choice) → AllByRecursion (λ c. is_eligible sale.book (λ b. false) c ≡ true) a → AllByRecursion IsFine a
-        → AllByRecursion (λ c. price_in prices c.bidder ≤ amount_of sale.book c) a
-        × AllByRecursion (λ c. weighed_choice (reserves_in rules) sale.book c ≤ price_in prices c.bidder) a
+        → AllByRecursion (λ c. price_in prices c.bidder ≤ common_parts given * amount_of sale.book c) a
+        × AllByRecursion (λ c. common_parts given * weighed_choice (reserves_in rules) sale.book c ≤ price_in prices c.bidder) a
     each [] eligible fine = (tt, tt)
     each (c ∷ a) eligible fine =
         let v = value_of (bid_of sale.book c) eligible.0 in
@@ -101,19 +110,19 @@ module _ (rules : Terms) (sale : Sale) (given : List GivenNumber) where
         let (most, least) = each a eligible.1 fine.1 in
         ((rw is fine.0.1, most), (rw is fine.0.0, least))
 
-    both : AllByRecursion (λ c. price_in prices c.bidder ≤ amount_of sale.book c) first
-        × AllByRecursion (λ c. weighed_choice (reserves_in rules) sale.book c ≤ price_in prices c.bidder) first
+    both : AllByRecursion (λ c. price_in prices c.bidder ≤ common_parts given * amount_of sale.book c) first
+        × AllByRecursion (λ c. common_parts given * weighed_choice (reserves_in rules) sale.book c ≤ price_in prices c.bidder) first
     both = each first (recursion_from_All (λ c. is_eligible sale.book (λ b. false) c ≡ true) first feasible.eligible) (all-fine first none)
 
-    pub are-prices : ArePrices sale.book first (price_in prices)
+    pub are-prices : ArePrices sale.book first (common_parts given) (price_in prices)
     are-prices = All-from_recursion _ first both.0
 
-    pub meet-reserves : MeetReserves (reserves_in rules) sale.book first (price_in prices)
-    meet-reserves = All-from_recursion _ first both.1
+    pub at-least-reserves : AreAtLeastReserves (reserves_in rules) sale.book first (common_parts given) (price_in prices)
+    at-least-reserves = All-from_recursion _ first both.1
 
 -- ---- one winner after the other
 
-module _ (rules : Terms) (sale : Sale) (given : List GivenNumber) (all : List Choice) (i : ℕ) (d : Choice) (here : i < length all)
+module _ (rules : Terms) (sale : Sale) (given : List GivenPrice) (all : List Choice) (i : ℕ) (d : Choice) (here : i < length all)
     (so_far : winners_fault rules sale given all ≡ winners_fault rules sale given (drop i all)) where
   ahead : winners_fault rules sale given all ≡ option_or (winner_fault rules sale given (slice_index_or all i d))
       (winners_fault rules sale given (drop (suc i) all))
@@ -144,90 +153,94 @@ first-greatest lots book ((b ∷ group) ∷ groups) won starts greatest =
 
 -- ---- the cover
 
-module _ (auction : Auction) (first : List Choice) (prices text : List ℕ) where
+module _ (auction : Auction) (first : List Choice) (p : InParts) (text : List ℕ) where
   abbrev found : Option (ℕ × CertificateFaultKind)
-  found = certificate_fault (cover_program auction first prices) (cover_bound auction first prices) text
+  found = fault_of_cover auction first p text
+
+  abbrev IsLarge : ℕ → Type 0
+  IsLarge line = IsLargeCoverAt auction.sale.lots auction.sale.book first p.parts (price_in p.prices) text line
 
   abbrev judged : Option (ℕ × CertificateFaultKind) → Result (Unit {0}) Refusal
   judged o = unless (option_map (λ (f : ℕ × CertificateFaultKind). refusal.Cover (record { line = f.0; kind = f.1 })) o) (Ok tt)
 
-  pub cover-parsed : found ≡ None → covered auction first prices text ≡ Ok tt
+  pub cover-parsed : found ≡ None → covered auction first p text ≡ Ok tt
   cover-parsed none = ap judged none
 
+  too-wide : (line : ℕ) → (found ≡ Some (line, kind.TooLarge)) ⊎ IsLarge line
+      → Refuses (covered auction first p text) (refusal.Cover (record { line = line; kind = kind.TooLarge }))
+      ⊎ IsTooWideCover auction first p text (refusal.Cover (record { line = line; kind = kind.TooLarge }))
+  too-wide line (inl is) = inl (inl (ap judged is))
+  too-wide line (inr large) = inr (line, large, refl)
+
   by-kind : (line : ℕ) (k : CertificateFaultKind) → IsLimit k ⊎ (found ≡ Some (line, k))
-      → (k ≡ kind.TooLarge → IsLargeAt (cover_program auction first prices) (cover_bound auction first prices) text line)
-      → Refuses (covered auction first prices text) (refusal.Cover (record { line = line; kind = k }))
-      ⊎ IsTooWideCover auction first prices text (refusal.Cover (record { line = line; kind = k }))
+      → (k ≡ kind.TooLarge → (found ≡ Some (line, kind.TooLarge)) ⊎ IsLarge line)
+      → Refuses (covered auction first p text) (refusal.Cover (record { line = line; kind = k }))
+      ⊎ IsTooWideCover auction first p text (refusal.Cover (record { line = line; kind = k }))
   by-kind line k (inl (inl memory)) large = inl (inr (rw memory refl))
-  by-kind line k (inl (inr wide)) large = inr (line, large wide, rw wide refl)
+  by-kind line k (inl (inr wide)) large =
+      subst (λ (x : CertificateFaultKind). Refuses (covered auction first p text) (refusal.Cover (record { line = line; kind = x }))
+      ⊎ IsTooWideCover auction first p text (refusal.Cover (record { line = line; kind = x }))) (sym wide) (too-wide line (large wide))
   by-kind line k (inr is) large = inl (inl (ap judged is))
 
   pub cover-refused : (f : CertificateFault) → IsLimit f.kind ⊎ (found ≡ Some (f.line, f.kind))
-      → (f.kind ≡ kind.TooLarge → IsLargeAt (cover_program auction first prices) (cover_bound auction first prices) text f.line)
-      → Refuses (covered auction first prices text) (refusal.Cover f) ⊎ IsTooWideCover auction first prices text (refusal.Cover f)
+      → (f.kind ≡ kind.TooLarge → (found ≡ Some (f.line, kind.TooLarge)) ⊎ IsLarge f.line)
+      → Refuses (covered auction first p text) (refusal.Cover f) ⊎ IsTooWideCover auction first p text (refusal.Cover f)
   cover-refused f verdict large = by-kind f.line f.kind verdict large
 
 -- prices that a text gives are prices
-pub parsed-hold : (auction : Auction) (first : List Choice) (text prices : List ℕ) → length auction.sale.book ≡ length auction.rules.bidders
-    → IsFeasible auction.sale.lots auction.sale.book (λ b. false) first → parsed_prices auction first text ≡ Ok prices
-    → ArePrices auction.sale.book first (price_in prices) × MeetReserves (reserves_in auction.rules) auction.sale.book first (price_in prices)
-parsed-hold auction first text prices count feasible parsed =
-    let (given, given_is, taken) = ok-after (refused_as refusal.Prices (parsed_given (known_by_prices auction.rules first) text)) _ prices parsed in
+pub parsed-hold : (auction : Auction) (first : List Choice) (text : List ℕ) (p : InParts) → length auction.sale.book ≡ length auction.rules.bidders
+    → IsFeasible auction.sale.lots auction.sale.book (λ b. false) first → parsed_prices auction first text ≡ Ok p
+    → ArePrices auction.sale.book first p.parts (price_in p.prices)
+    × AreAtLeastReserves (reserves_in auction.rules) auction.sale.book first p.parts (price_in p.prices)
+parsed-hold auction first text p count feasible parsed =
+    let (given, given_is, taken) = ok-after (refused_as refusal.Prices (parsed_price_text (known_by auction first) text)) _ p parsed in
     let n : ℕ = length auction.rules.bidders in
-    let (none, is) = unless-ok (winners_fault auction.rules auction.sale given first) (numbers_of_bidders given n) prices taken in
-    subst (λ (xs : List ℕ). ArePrices auction.sale.book first (price_in xs) × MeetReserves (reserves_in auction.rules) auction.sale.book first (price_in xs)) is (
+    let (none, is) = unless-ok (winners_fault auction.rules auction.sale given first) (in_parts_of auction given) p taken in
+    subst (λ (x : InParts). ArePrices auction.sale.book first x.parts (price_in x.prices)
+    × AreAtLeastReserves (reserves_in auction.rules) auction.sale.book first x.parts (price_in x.prices)) is (
       are-prices auction.rules auction.sale given auction.sale.lots n first count feasible none,
-      meet-reserves auction.rules auction.sale
-          given auction.sale.lots n first count feasible none,
+      at-least-reserves auction.rules auction.sale given auction.sale.lots n first count feasible none,
     )
+
+-- they are whole in some parts
+pub parsed-some : (auction : Auction) (first : List Choice) (text : List ℕ) (p : InParts) → parsed_prices auction first text ≡ Ok p → 1 ≤ p.parts
+parsed-some auction first text p parsed =
+    let known = known_by auction first in
+    let (given, given_is, taken) = ok-after (refused_as refusal.Prices (parsed_price_text known text)) _ p parsed in
+    let (none, is) = unless-ok (winners_fault auction.rules auction.sale given first) (in_parts_of auction given) p taken in
+    let some = parts-some known text given (ok-refused_as refusal.Prices (parsed_price_text known text) given given_is) in
+    subst (λ (x : InParts). 1 ≤ x.parts) is some
+
+-- ---- the rule
+
+module _ (auction : Auction) (won : List (List Choice)) (first : List Choice) (p : InParts) (text : List ℕ) (more : List (List ℕ)) (rule : Rule)
+    (costs : List ℕ) (read : parsed_rule auction won first text ≡ Ok rule) (known : known_alone auction won first ≡ Ok costs) where
+  pub rule-shown : fault_of_rule auction first p costs rule ≡ None → parsed_by_rule auction won first p (text ∷ more) ≡ Ok true
+  rule-shown none = next _ rule _ _ read (next _ costs _ _ known (ap (λ (o : Option Refusal). unless o (Ok true)) none))
+
+  pub rule-unshown : (r : Refusal) → fault_of_rule auction first p costs rule ≡ Some r → Refuses (parsed_by_rule auction won first p (text ∷ more)) r
+  rule-unshown r found = after-ok _ rule _ r read (after-ok _ costs _ r known (inl (ap (λ (o : Option Refusal). unless o (Ok true)) found)))
 
 -- ---- all of it
 
-module _ (auction : Auction) (won : List (List Choice)) (first : List Choice) (text cover prices : List ℕ)
-    (parsed : parsed_prices auction first text ≡ Ok prices) where
-  pub pricing-covered : (is_least : Bool) → covered auction first prices cover ≡ Ok tt → parsed_least auction won first prices auction.weights ≡ Ok is_least
-      → priced auction won first text cover ≡ Ok (record { prices = prices; is_least = is_least })
-  pricing-covered is_least shown least = next _ prices _ _ parsed (next _ tt _ _ shown (next _ is_least _ _ least refl))
+module _ (auction : Auction) (won : List (List Choice)) (first : List Choice) (text cover : List ℕ) (p : InParts)
+    (parsed : parsed_prices auction first text ≡ Ok p) where
+  pub pricing-covered : (by_rule : Bool) → covered auction first p cover ≡ Ok tt → parsed_by_rule auction won first p auction.rule_texts ≡ Ok by_rule
+      → priced auction won first text cover ≡ Ok (record { parts = p.parts; prices = p.prices; by_rule = by_rule })
+  pricing-covered by_rule shown ruled = next _ p _ _ parsed (next _ tt _ _ shown (next _ by_rule _ _ ruled refl))
 
-  pub pricing-uncovered : (r : Refusal) → Refuses (covered auction first prices cover) r → Refuses (priced auction won first text cover) r
-  pricing-uncovered r refused = after-ok _ prices _ r parsed (stop _ _ r refused)
+  pub pricing-uncovered : (r : Refusal) → Refuses (covered auction first p cover) r → Refuses (priced auction won first text cover) r
+  pricing-uncovered r refused = after-ok _ p _ r parsed (stop _ _ r refused)
 
-  pub pricing-unweighed : (r : Refusal) → covered auction first prices cover ≡ Ok tt
-      → Refuses (parsed_least auction won first prices auction.weights) r → Refuses (priced auction won first text cover) r
-  pricing-unweighed r shown refused = after-ok _ prices _ r parsed (after-ok _ tt _ r shown (stop _ _ r refused))
+  pub pricing-unruled : (r : Refusal) → covered auction first p cover ≡ Ok tt
+      → Refuses (parsed_by_rule auction won first p auction.rule_texts) r → Refuses (priced auction won first text cover) r
+  pricing-unruled r shown refused = after-ok _ p _ r parsed (after-ok _ tt _ r shown (stop _ _ r refused))
 
-  pub not-covered : (slice text' : List ℕ) (r : Refusal) → slice ≡ prices → text' ≡ cover
-      → Refuses (covered auction first slice text') r ⊎ IsTooWideCover auction first slice text' r
-      → Refuses (priced auction won first text cover) r ⊎ ((xs : List ℕ) × (parsed_prices auction first text ≡ Ok xs) × IsTooWideCover auction first xs cover r)
-  not-covered slice text' r same is (inl refused) = inl (pricing-uncovered r
-      (subst (λ (x : List ℕ). Refuses (covered auction first prices x) r) is
-      (subst (λ (x : List ℕ). Refuses (covered auction first x text') r) same refused)))
-  not-covered slice text' r same is (inr wide) = inr (
-    prices,
-    parsed,
-    subst (λ (x : List ℕ). IsTooWideCover auction first prices x
-        r) is (subst (λ (x : List ℕ). IsTooWideCover auction first x text' r) same wide),
-  )
-
--- there is a weight for each group
-pub as-many : (auction : Auction) (first : List Choice) (text : List ℕ) (w : ParsedWeights) → parsed_weights auction first text ≡ Ok w
-    → length w.groups ≡ length auction.groups
-as-many auction first text w parsed =
-    let (given, given_is, scaled_is) = ok-after (refused_as refusal.Weights (parsed_given (known_by_weights auction first) text)) _ w parsed in
-    by given (given_to given subject.Scale) scaled_is
-  where
-    by : (given : List GivenNumber) (o : Option GivenNumber) → scaled auction given o ≡ Ok w → length w.groups ≡ length auction.groups
-    by given None is = cc
-    by given (Some g) is =
-        let made : ParsedWeights = record {
-          scale = g.number;
-          groups = numbers_of_groups given (length auction.groups);
-          own =
-              numbers_of_bidders given (length auction.rules.bidders);
-        } in
-        let same : made ≡ w = ok-is _ made w refl is in
-        subst (λ (x : ParsedWeights). length x.groups ≡ length auction.groups) same
-        (length-map-range_with_len (λ (k : ℕ). number_given given (subject.Group k)) 1 (length auction.groups))
+  pub not-covered : (text' : List ℕ) (r : Refusal) → text' ≡ cover
+      → Refuses (covered auction first p text') r ⊎ IsTooWideCover auction first p text' r
+      → Refuses (priced auction won first text cover) r ⊎ ((x : InParts) × (parsed_prices auction first text ≡ Ok x) × IsTooWideCover auction first x cover r)
+  not-covered text' r is (inl refused) = inl (pricing-uncovered r (subst (λ (x : List ℕ). Refuses (covered auction first p x) r) is refused))
+  not-covered text' r is (inr wide) = inr (p, parsed, subst (λ (x : List ℕ). IsTooWideCover auction first p x r) is wide)
 
 module _ (auction : Auction) (won : List (List Choice)) (fine : first_failed (pricing_counts auction) ≡ None) where
   counted : parsed_pricing auction won ≡ priced_by auction won auction.prices auction.covers

@@ -107,7 +107,7 @@ own-costs sale first best = AllZip-weaken (IsGreatestWithout sale) (IsOwnCost sa
   law = costs_are_bounded sale.lots sale.book group first a best greatest;
 })
 
-first-greatest : (sale : Sale) (groups : List (List ℕ)) (won : List (List Choice)) → starts_empty groups ≡ true → AllZip (IsGreatestWithout sale) groups won
+pub first-greatest : (sale : Sale) (groups : List (List ℕ)) (won : List (List Choice)) → starts_empty groups ≡ true → AllZip (IsGreatestWithout sale) groups won
     → IsGreatest sale.lots sale.book (λ b. false) (slice_index_or won 0 [])
 first-greatest sale [] won starts each = absurd (cc)
 first-greatest sale (group ∷ groups) [] starts each = absurd each
@@ -135,18 +135,18 @@ as-won auction allocations won certifies =
     ok-is _ allocations won refl same
 
 -- what `verify` goes by: these allocations, certified, and what comes of the claim and of the prices
-record Verdicts (auction : Auction) (out : List ℕ) : Type 0 where
-  won : List (List Choice)
-  claim : Uniqueness
-  pricing : Option Priced
-  wins : winners_of_groups auction ≡ Ok won
-  certifies : certified auction won ≡ Ok won
-  claims : parsed_claims auction (slice_index_or won 0 []) auction.uniques auction.ties ≡ Ok claim
-  prices : parsed_pricing auction won ≡ Ok pricing
-  text : out ≡ report_text auction.sale auction.groups won ++ (pricing_text auction.sale (slice_index_or won 0 []) pricing ++
+pub record Verdicts (auction : Auction) (out : List ℕ) : Type 0 where
+  pub won : List (List Choice)
+  pub claim : Uniqueness
+  pub pricing : Option Priced
+  pub wins : winners_of_groups auction ≡ Ok won
+  pub certifies : certified auction won ≡ Ok won
+  pub claims : parsed_claims auction (slice_index_or won 0 []) auction.uniques auction.ties ≡ Ok claim
+  pub prices : parsed_pricing auction won ≡ Ok pricing
+  pub text : out ≡ report_text auction.sale auction.groups won ++ (pricing_text auction.sale (slice_index_or won 0 []) pricing ++
       uniqueness_text auction.sale claim)
 
-verdicts : (workers : ℕ) (auction : Auction) (out : List ℕ) → output_of (request.Verify workers) auction ≡ Ok out → Verdicts auction out
+pub verdicts : (workers : ℕ) (auction : Auction) (out : List ℕ) → output_of (request.Verify workers) auction ≡ Ok out → Verdicts auction out
 verdicts workers auction out parsed =
     let (won, won_is, later) = ok-after (and_then (winners_of_groups auction) (certified auction)) _ out parsed in
     let (claim, claim_is, after) = ok-after (parsed_claims auction (slice_index_or won 0 []) auction.uniques auction.ties) _ out later in
@@ -176,7 +176,7 @@ module _ (auction : Auction) (out : List ℕ) (within : IsBook auction.sale.lots
   priced : IfSome v.pricing (AreTruePrices auction (slice_index_or v.won 0 [])) × (v.pricing ≡ None → auction.prices ≡ [])
   priced = pricing-holds auction within sized v.won first greatest v.pricing v.prices
 
-  true-report : IsTrueReport auction out
+  pub true-report : IsTrueReport auction out
   true-report = record {
     won = v.won;
     pricing = v.pricing;
@@ -224,7 +224,7 @@ prices-cover workers input out parsed =
     )
 
 -- some group has a report
-some-report : (sale : Sale) (groups : List (List ℕ)) (won : List (List Choice)) → 1 ≤ length groups
+pub some-report : (sale : Sale) (groups : List (List ℕ)) (won : List (List Choice)) → 1 ≤ length groups
     → AllZip (IsGreatestWithout sale) groups won → 1 ≤ length (zip groups won)
 some-report sale [] won some each = absurd (omega arith)
 some-report sale (group ∷ groups) [] some each = absurd each

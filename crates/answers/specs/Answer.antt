@@ -3,11 +3,12 @@ use Rattle.std.specs.Prelude.{◌-◌, ◌++◌, ℕ, List, [], Result, Ok, Err,
 use Rattle.auction_input.specs.Input.{text_bytes, Input}
 use Rattle.auction_input.specs.Auction.{Auction, parsed_auction}
 use Rattle.answers.specs.Programs.{program_for}
+use Rattle.auction_input.specs.LastForms.{parsed_forms}
 use Rattle.auction_input.specs.ParsedParts.{only_text}
 use Rattle.auction_input.specs.Wanted.{wanted}
 use Rattle.auction_input.specs.declared.refusal.Refusal.TheVariants as refusal
 use Rattle.auction_input.specs.declared.refusal.Refusal.{Refusal}
-use Rattle.auction_input.specs.declared.request.Request.TheVariants.{Check, Compile, Explain, Map, Report, Verify}
+use Rattle.auction_input.specs.declared.request.Request.TheVariants.{Check, Compile, Explain, Forms, Map, Report, Verify}
 use Rattle.auction_input.specs.declared.request.Request.{Request}
 use Rattle.auction_terms.specs.Stages.{and_then}
 use Rattle.mps_text.specs.Text.{text}
@@ -19,6 +20,7 @@ use Rattle.outcome.specs.Uniqueness.{uniqueness_text}
 use Rattle.answers.specs.Certified.{certified}
 use Rattle.answers.specs.Claimed.{parsed_claims}
 use Rattle.answers.specs.Pricing.{parsed_pricing}
+use Rattle.answers.specs.Forms.{forms_text}
 use Rattle.answers.specs.GroupTexts.{program_text}
 use Rattle.answers.specs.Sizes.{parsed_program, sizes_text}
 use Rattle.answers.specs.SolutionWinners.{winners_by, winners_of_groups}
@@ -50,7 +52,9 @@ output_of (Explain bids command) auction =
 -- the program with nobody left out
 output_of asked auction = Ok (text (program_for auction.sale []))
 
--- `check` writes the sizes of the program that its one text is; the others answer by the auction that theirs describes
+-- `check` writes the sizes of the program that its one text is, `forms` the digests of the rules and of each bidder's last form, whatever
+-- else is there; the others answer by the auction that their input describes
 abbrev pub answer : Request → Input → Result (List ℕ) Refusal
 answer Check input = and_then (parsed_program (only_text (text_bytes input))) (λ program. Ok (sizes_text program))
+answer Forms input = and_then (parsed_forms input) (λ read. Ok (forms_text read))
 answer asked input = and_then (parsed_auction asked input) (output_of asked)

@@ -79,6 +79,7 @@ commands =
     for_forms (with_rule (new_app (codes "report")) workers) ∷
     for_forms (with_rule (new_app (codes "verify")) workers) ∷
     for_forms (with_rule (with_rule (new_app (codes "explain")) bids) explained_for) ∷
+    for_forms (new_app (codes "forms")) ∷
     new_app (codes "help") ∷ []
 
 -- the program's own words: a version, and the commands
@@ -112,6 +113,7 @@ request_named (Some (name, rows)) =
     else if bytes_eq name (codes "report") then request.Report (option_number (codes "workers") MOST_WORKERS rows)
     else if bytes_eq name (codes "verify") then request.Verify (option_number (codes "workers") MOST_WORKERS rows)
     else if bytes_eq name (codes "explain") then request.Explain (option_flag (codes "bids") rows) (option_target (codes "for") rows)
+    else if bytes_eq name (codes "forms") then request.Forms
     else request.Text
 
 -- what a command line asks for: a request, whether the last form of a bidder counts in whichever file it is, the files that it

@@ -55,7 +55,7 @@ parsed_claims auction first [] [] = Ok uniqueness.Unasked
 parsed_claims auction first (text ∷ []) [] =
     let refused : ℕ × CertificateFaultKind → Refusal = λ f. refusal.Unique (record { line = f.0; kind = f.1 }) in
     and_then (refused_as (solution_refused (first_program auction) 1) (solution (first_program auction) (slice_index_or auction.solutions 0 []))) (λ point.
-    unless (option_map refused (only_fault (first_program auction) point text)) (Ok (only_or_rival auction.sale first)))
+    unless (option_map refused (only_fault (first_program auction) point [] text)) (Ok (only_or_rival auction.sale first)))
 parsed_claims auction first [] (text ∷ []) = parsed_tie auction first text
 parsed_claims auction first uniques ties = Err (refusal.PartCount part.Unique)
 
@@ -64,4 +64,4 @@ abbrev pub IsTooWideClaim : Auction → Refusal → Type 0
 IsTooWideClaim auction r =
     (text : List ℕ) × (line : ℕ) × (auction.uniques ≡ text ∷ []) × (auction.ties ≡ [])
     × ((point : List Bool) × (solution (first_program auction) (slice_index_or auction.solutions 0 []) ≡ Ok point) × IsLargeOnlyAt
-    (first_program auction) point text line) × (r ≡ refusal.Unique (record { line = line; kind = certificate.TooLarge }))
+    (first_program auction) point [] text line) × (r ≡ refusal.Unique (record { line = line; kind = certificate.TooLarge }))

@@ -11,6 +11,7 @@ pub mod FaithfulAnswers
 pub mod Sold
 pub mod FeasibleAnswers
 pub mod FileLines
+pub mod Forms
 pub mod GroupTexts
 pub mod Outside
 pub mod Runs

@@ -65,7 +65,7 @@ pub data IsRefused (content : List ℕ → Option (List ℕ)) (asked : CommandLi
 -- what goes out without an input: a text of help, which isn't empty, or the version
 abbrev pub IsShown : Asked → List ℕ → Type 0
 IsShown for_help text = 0 < length text
-IsShown for_version text = text ≡ codes "wdp 1.2.0\n"
+IsShown for_version text = text ≡ codes "wdp 2.0.0\n"
 IsShown asked text = ⊥
 
 -- what is asked for is answered; or help or the version, which is asked for, went out, and nothing was read

@@ -77,7 +77,7 @@ fn only(
     let Ok(point) = read_solution(alloc, auction.solutions[0], &program) else {
         return Err(Refusal::OutOfMemory);
     };
-    if let Err(fault) = check_only(alloc, auction.uniques[0], &program, &point) {
+    if let Err(fault) = check_only(alloc, auction.uniques[0], &program, &point, &[]) {
         return Err(Refusal::Unique(fault));
     }
     Ok(only_or_rival(alloc, &auction.book, first)?)

@@ -13,6 +13,7 @@ ghost use Rattle.auction_input.specs.Settled.{held};
 pub mod check;
 pub mod compile;
 mod explain;
+mod forms;
 mod map;
 mod report;
 mod text;
@@ -21,6 +22,7 @@ pub mod verify;
 use crate::commands::check::check;
 use crate::commands::compile::write_programs_of;
 use crate::commands::explain::write_bids_of;
+use crate::commands::forms::write_forms;
 use crate::commands::map::write_winners;
 use crate::commands::report::write_costs;
 use crate::commands::text::write_program_of_all;
@@ -32,7 +34,8 @@ use std::sync::Wait;
 use std::thread::Threads;
 
 /// Writes what a request asks for of an input. For `explain`, which may print faults in its place, see `explain_input`. It takes
-/// `check` apart from the others, since the input of `check` describes a program and theirs an auction.
+/// `check` and `forms` apart from the others, since the input of `check` describes a program, `forms` reads rules and forms alone, and
+/// the others an auction.
 pub fn answer<R: Threads + Wait + Sync + AllocGlobal, S: Sink>(
     rt: &R,
     request: Request,
@@ -52,6 +55,7 @@ pub fn answer<R: Threads + Wait + Sync + AllocGlobal, S: Sink>(
 {
     match request {
         Request::Check => check(rt.alloc(), input, out),
+        Request::Forms => write_forms(rt, input, out),
         request => answer_auction(rt, &request, input, out),
     }
 }
@@ -66,6 +70,7 @@ fn answer_auction<R: Threads + Wait + Sync + AllocGlobal, S: Sink>(
 ) -> Result<(), Refusal>
     requires limits { IsRequestWithinLimits request.now }
     requires auction { request.now ≢ Request.Check }
+    requires settled { request.now ≢ Request.Forms }
     ensures written { OnOk result (Writes (answer request.now input.now) (S.taken out.old)
         (S.taken out.new)) }
     ensures sold { OnOk result (HasSold request.now input.now) }
@@ -88,6 +93,7 @@ fn write_output<R: Threads + Wait + Sync + AllocGlobal, S: Sink>(
 ) -> Result<(), Refusal>
     requires limits { IsRequestWithinLimits request.now }
     requires auction { request.now ≢ Request.Check }
+    requires settled { request.now ≢ Request.Forms }
     ensures written { OnOk result (Writes (output_of request.now (held auction.now))
         (S.taken out.old) (S.taken out.new)) }
     ensures succeeded { OnOk result (S.failures out.new ≡ S.failures out.old) }
@@ -102,6 +108,6 @@ fn write_output<R: Threads + Wait + Sync + AllocGlobal, S: Sink>(
         Request::Report { workers } => write_costs(rt, auction, workers, out),
         Request::Verify { workers } => write_verified(rt, auction, workers, out),
         Request::Explain { bids, target } => write_bids_of(rt, auction, bids, target, out),
-        Request::Check => unreachable!(),
+        Request::Check | Request::Forms => unreachable!(),
     }
 }

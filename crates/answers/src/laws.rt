@@ -5,7 +5,7 @@ ghost use Rattle.auction_input.specs.Input.{Input};
 ghost use Rattle.auction_input.specs.declared.request.Target.{Target};
 ghost use Rattle.answers.specs.FaithfulAnswers.{CompiledIsFaithful, TextIsFaithful};
 ghost use Rattle.answers.specs.FeasibleAnswers.{MappedIsFeasible, ReportedIsFeasible};
-ghost use Rattle.answers.specs.Verified.{PricesCover, UniqueIsOnly, VerifiedIsTrue};
+ghost use Rattle.answers.specs.Verified.{AwardFollows, PricesCover, UniqueIsOnly, VerifiedIsTrue};
 
 /// What `text` answers of an input is a text that is faithful to the auction that the input describes: each 0-1 point of its
 /// program maps back to a feasible allocation of the same total, and each feasible allocation is matched by a point of at least
@@ -39,8 +39,9 @@ pub fn a_verified_report_is_true()
 {}
 
 /// If an input has prices, what `verify` answers has them, too, and no list of bidders pays less than its opportunity cost,
-/// whichever allocations of greatest total are taken; each winner pays at most its amount and at least the reserve of its lots.
-/// If `least` is printed, no whole prices that cover every list of bidders so and meet the reserves have a lower sum.
+/// whichever allocations of greatest total are taken; each winner's exact price is at most its amount, and it pays at least the reserve of
+/// its lots. If `by the rule` is printed, the exact prices are those of the rule: of all that cover every list of bidders and meet the reserves
+/// those of least sum, and of these the ones nearest to what each winner costs alone.
 pub fn printed_prices_cover_every_group()
     ensures { PricesCover }
 {}
@@ -50,6 +51,13 @@ pub fn printed_prices_cover_every_group()
 /// alone.
 pub fn unique_winners_are_the_only_ones()
     ensures { UniqueIsOnly }
+{}
+
+/// If what `verify` answers of two inputs with the same rules and the same last forms ends with the lines `by the rule` and `unique`, both
+/// have the same winners with the same bids, each winner pays the same, and each group that both list has the same total and cost: whoever
+/// solved, certified and priced, and whichever groups are listed.
+pub fn the_award_follows_from_the_bids()
+    ensures { AwardFollows }
 {}
 
 /// What `explain` prints for a command is what the command does of the same input: it refuses it for the first fault that is reported, and

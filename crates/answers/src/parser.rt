@@ -10,7 +10,7 @@ use clap::{Arg, Command};
 use std::alloc::{AllocError, Global};
 
 /// The program's version.
-pub const VERSION: &str = "1.2.0";
+pub const VERSION: &str = "2.0.0";
 
 // What the help says of a command: its name, what it does, and what comes below its options.
 #[derive(Clone, Copy)]
@@ -59,13 +59,19 @@ const REPORT: Page = Page {
 const VERIFY: Page = Page {
     name: "verify",
     about: "Prints the report of solutions that certificates show to be optimal",
-    below: "Input: that of report, and a %certificate for each group; optionally %prices with %cover and %weights, and %unique or %tie\nOutput: that of report, then the prices if given, then unique, or tie and an allocation\nExample: wdp verify examples/verified.txt",
+    below: "Input: that of report, and a %certificate for each group; optionally %prices with %cover and %rule, and %unique or %tie\nOutput: that of report, then the prices if given, then unique, or tie and an allocation\nExample: wdp verify examples/verified.txt",
 };
 
 const EXPLAIN: Page = Page {
     name: "explain",
     about: "Prints all faults of an input",
     below: "Input: %rules, a %form for each form, optionally %groups; other parts are ignored, or counted with --for COMMAND\nOutput: a line for each fault; the status is 1 if there is a fault\nExample: wdp explain examples/worked.txt",
+};
+
+const FORMS: Page = Page {
+    name: "forms",
+    about: "Prints the digests of the rules and of each bidder's last form",
+    below: "Input: %rules, and a %form for each form; other parts are ignored\nOutput: a line %rules DIGEST, and for each bidder %form NAME BIDS DIGEST, or %form NAME - without a form; a digest is the SHA-256 of a part\nExample: wdp forms examples/worked.txt",
 };
 
 // The command of a page, without options.
@@ -161,6 +167,7 @@ fn add_all<'a>(list: &mut Vec<Command<'a>>, alloc: Global) -> Result<(), AllocEr
     add_with(list, alloc, REPORT, workers(alloc))?;
     add_with(list, alloc, VERIFY, workers(alloc))?;
     add_explain(list, alloc)?;
+    add(list, for_forms(alloc, described(alloc, FORMS))?)?;
     add(list, help_command(alloc))?;
     Ok(())
 }

@@ -135,6 +135,7 @@ fn request_by(
         "report" => Request::Report { workers },
         "verify" => Request::Verify { workers },
         "explain" => Request::Explain { bids, target },
+        "forms" => Request::Forms,
         _ => Request::Text,
     }
 }

@@ -56,6 +56,10 @@ const CERTIFIED: &[u8] =
 const VERIFIED: &[u8] =
     b"group 1 -\nAlpha 1 30\nBeta 1 20\nGamma 1 12\ntotal 62\ncost 0\ngroup 2 Alpha\nBeta 1 20\nGamma 1 12\ntotal 32\ncost 0\ngroup 3 Beta\nAlpha 2 50\ntotal 50\ncost 8\ngroup 4 Beta+Gamma\nAlpha 2 50\ntotal 50\ncost 20\n";
 
+/// The digests of the rules and the forms of `CERTIFIED`.
+const DIGESTS: &[u8] =
+    b"%rules 21b8a08bf565df91f27201aa5dcba7bb191425004e69f73a65b9ad292e87c8d4\n%form Alpha 3 7002a8bffa356df6b0054d1d3f897d43184089fa9b50cb5d26546f6dece8032b\n%form Beta 2 46a0dc258876210251dc244ed2b32006b8f1e5e6d0de39bbf32058c574162de8\n%form Gamma 1 860c2a4e011142b6ba9c58e905ef1eae7a2f2ac5f89c4b9578d63a4d95d28310\n";
+
 /// Gives its bytes one by one, and fails once it was asked for more than `room` of them.
 #[derive(Drop)]
 pub struct LimitReader {
@@ -139,7 +143,7 @@ impl Run {
 }
 
 /// One of each command that writes.
-const RUNS: [Run; 7] = [
+const RUNS: [Run; 8] = [
     Run {
         words: &["wdp", "text"],
         input: ONE_FORM,
@@ -174,6 +178,11 @@ const RUNS: [Run; 7] = [
         words: &["wdp", "verify", "--workers", "2"],
         input: CERTIFIED,
         output: VERIFIED,
+    },
+    Run {
+        words: &["wdp", "forms"],
+        input: CERTIFIED,
+        output: DIGESTS,
     },
 ];
 

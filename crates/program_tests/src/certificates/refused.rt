@@ -42,7 +42,7 @@ fn is_a_best_one(alloc: Global, program: &Program, point: &Point) -> Result<bool
     let ties = Some((2, CertificateFaultKind::NotShown));
     Ok(
         is_answer(check_optimum(alloc, SHOWN, program, point), None)?
-            && is_answer(check_only(alloc, text, program, point), ties)?,
+            && is_answer(check_only(alloc, text, program, point, &[]), ties)?,
     )
 }
 

@@ -14,8 +14,8 @@ use Rattle.answers.proofs.ReportFacts.{text-at}
 use Rattle.answers.proofs.WinningFacts.{allowed-length}
 use Rattle.answers.proofs.claimed.only.Goals as goal
 
-pub check_only-requires : goal.check_only-requires
-check_only-requires c = allowed-length c.in_ok-program.program.columns c.in-Ok.point c.in-Ok.ensures.point.allowed
+pub check_only-requires-clause-first : goal.check_only-requires-clause-first
+check_only-requires-clause-first c = allowed-length c.in_ok-program.program.columns c.in-Ok.point c.in-Ok.ensures.point.allowed
 
 pub returns-in-Err-clause-refuses : goal.returns-in-Err-clause-refuses
 returns-in-Err-clause-refuses c =
@@ -29,8 +29,8 @@ returns-in-Err-clause-refuses c =
     (subst (λ (p : Table). Ok point ≡ solution p c.index.result.now.now) same c.in-Ok.ensures.answer)) in
     let (claimed, one, alone) = one-unique auction c.args.first.now c.index-2.result.now c.requires.one c.requires.alone c.index-2.ensures in
     let found = subst (λ (p : Table). IsLimit c.in-Err.fault.kind ⊎
-    (only_fault p point c.index-2.result.now.now ≡ Some (c.in-Err.fault.line, c.in-Err.fault.kind))) same c.in-Err.ensures.first in
-    let large = subst (λ (p : Table). c.in-Err.fault.kind ≡ TooLarge → IsLargeOnlyAt p point c.index-2.result.now.now c.in-Err.fault.line)
+    (only_fault p point [] c.index-2.result.now.now ≡ Some (c.in-Err.fault.line, c.in-Err.fault.kind))) same c.in-Err.ensures.first_fault in
+    let large = subst (λ (p : Table). c.in-Err.fault.kind ≡ TooLarge → IsLargeOnlyAt p point [] c.index-2.result.now.now c.in-Err.fault.line)
     same c.in-Err.ensures.too_large in
     rw claimed (only-refused (held auction) c.args.first.now c.index-2.result.now.now point solved c.in-Err.fault found large one alone)
 
@@ -51,8 +51,8 @@ returns-clause-parsed c =
     ≡ Ok point = sym (subst (λ (t : List ℕ). Ok point ≡ solution (program_without auction.book []) t) text
     (subst (λ (p : Table). Ok point ≡ solution p c.index.result.now.now) same c.in-Ok.ensures.answer)) in
     let (claimed, one, alone) = one-unique auction c.args.first.now c.index-2.result.now c.requires.one c.requires.alone c.index-2.ensures in
-    let faultless = no-fault c.check_only.result (only_fault c.in_ok-program.program point c.index-2.result.now.now)
-    c.in_default-check_only.not-Err c.check_only.ensures.first in
-    let none = subst (λ (p : Table). only_fault p point c.index-2.result.now.now ≡ None) same faultless in
+    let faultless = no-fault c.check_only.result (only_fault c.in_ok-program.program point [] c.index-2.result.now.now)
+    c.in_default-check_only.not-Err c.check_only.ensures.first_fault in
+    let none = subst (λ (p : Table). only_fault p point [] c.index-2.result.now.now ≡ None) same faultless in
     claimed ∙ only-parsed (held auction) c.args.first.now c.index-2.result.now.now point solved none
     ∙ ap (λ claim. Ok claim) (sym c.in_ok-only_or_rival.ensures)

@@ -22,4 +22,7 @@ returns c =
     let verify = then-added _ _ _ _ _ c.in_ok-add_with-4.ensures report
     (ap (λ (r : Rule). for_forms (with_rule (new_app (codes "verify")) r)) c.workers-3.ensures.rule) in
     let explain = then-added _ _ _ _ _ c.in_ok-add_explain.ensures verify refl in
-    then-added _ _ _ _ _ (pushed _ _ c.help_command.result _ c.in_ok-add-3.ensures c.help_command.ensures) explain refl
+    let forms = then-added _ _ _ _ (for_forms (new_app (codes "forms")))
+    (pushed _ _ c.in_ok-for_forms-2.field-0 _ c.in_ok-add-3.ensures (c.in_ok-for_forms-2.ensures ∙ ap for_forms c.described-3.ensures)) explain
+    refl in
+    then-added _ _ _ _ _ (pushed _ _ c.help_command.result _ c.in_ok-add-4.ensures c.help_command.ensures) forms refl

@@ -5,5 +5,5 @@ use Rattle.answers.proofs.pricing.check_winners.Given as goal
 
 -- the fault of all is that of those ahead
 abbrev pub invariant-loop-choice : goal.invariant-loop-choice
-invariant-loop-choice l = winners_fault l.book.rules (sale_of l.book) l.given l.choices
-    ≡ winners_fault l.book.rules (sale_of l.book) l.given (drop l.choice-index l.choices)
+invariant-loop-choice l = winners_fault l.book.rules (sale_of l.book) l.given.prices.items l.choices
+    ≡ winners_fault l.book.rules (sale_of l.book) l.given.prices.items (drop l.choice-index l.choices)
