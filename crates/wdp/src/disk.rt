@@ -4,7 +4,7 @@ ghost use Rattle.std.specs.Prelude.{None};
 
 use crate::out::is_standard_output;
 use auction_input::{FileFault, FileKind, FilePlace, FileRefusal, Files, is_standard_input};
-use std::alloc::AllocError;
+use indexmap::IndexSet;
 use std::fs::{File, Metadata, OpenOptions};
 use std::io::ErrorKind;
 use std::os::unix::fs::{FileTypeExt, MetadataExt};
@@ -17,7 +17,7 @@ pub struct Disk<'r> {
 }
 
 // What distinguishes a file from any other one: its device, and its number there.
-#[derive(Clone, Copy, PartialEq, Eq)]
+#[derive(Clone, Copy, PartialEq, Eq, Hash)]
 struct Identity {
     device: u64,
     number: u64,
@@ -61,16 +61,15 @@ fn is_of_shell(name: &str) -> bool {
     name.starts_with("/dev/fd/") || name.starts_with("/proc/self/fd/")
 }
 
-fn add(seen: &mut Vec<Option<Identity>>, found: Option<Identity>) -> Result<(), AllocError> {
-    seen.push(found)?;
-    Ok(())
-}
+// What distinguishes the files that are read, in their order.
+type Seen = IndexSet<Option<Identity>>;
 
 // Notes a file that is read, which none of those before it may be.
-fn note(seen: &mut Vec<Option<Identity>>, found: Option<Identity>) -> Result<(), FileFault> {
-    match seen.iter().position(|other| *other == found) {
-        Some(first) => Err(FileFault::ReadAlready(first)),
-        None => Ok(add(seen, found)?),
+fn note(seen: &mut Seen, found: Option<Identity>) -> Result<(), FileFault> {
+    match seen.insert_full(found) {
+        Ok((_, true)) => Ok(()),
+        Ok((first, false)) => Err(FileFault::ReadAlready(first)),
+        Err(_) => Err(FileFault::OutOfMemory),
     }
 }
 
@@ -104,11 +103,7 @@ impl<'r> Disk<'r> {
     }
 
     // Looks at the files that are read, and notes what distinguishes each from the others.
-    fn look_at_inputs(
-        &self,
-        names: &[String],
-        seen: &mut Vec<Option<Identity>>,
-    ) -> Result<(), FileRefusal> {
+    fn look_at_inputs(&self, names: &[String], seen: &mut Seen) -> Result<(), FileRefusal> {
         for (place, name) in names.iter().enumerate() {
             let noted = match self.identify(name.as_str()) {
                 Ok(found) => note(seen, found),
@@ -123,12 +118,7 @@ impl<'r> Disk<'r> {
     }
 
     // Whether a file that there is may be replaced: it is none of those that are read, and may be written.
-    fn look_at_old(
-        &self,
-        name: &str,
-        found: &Metadata,
-        seen: &[Option<Identity>],
-    ) -> Result<(), FileFault> {
+    fn look_at_old(&self, name: &str, found: &Metadata, seen: &Seen) -> Result<(), FileFault> {
         if let Some(kind) = kind_of(found) {
             return Err(FileFault::NotReplaced(kind));
         }
@@ -144,7 +134,7 @@ impl<'r> Disk<'r> {
 
     // Looks at the file that is written. Where there is none yet, its folder is seen when it is made; a link to nothing isn't
     // followed.
-    fn look_at_output(&self, name: &str, seen: &[Option<Identity>]) -> Result<(), FileFault> {
+    fn look_at_output(&self, name: &str, seen: &Seen) -> Result<(), FileFault> {
         if is_standard_output(name) {
             return Ok(());
         }
@@ -165,7 +155,7 @@ impl Files for Disk<'_> {
     type File = File;
 
     fn look(&self, names: &[String], output: Option<&str>) -> Result<(), FileRefusal> {
-        let mut seen = Vec::new(self.rt.alloc());
+        let mut seen = Seen::new(self.rt.alloc());
         self.look_at_inputs(names, &mut seen)?;
         let Some(name) = output else {
             return Ok(());
@@ -173,7 +163,7 @@ impl Files for Disk<'_> {
         if names.is_empty() {
             let _ = note(&mut seen, self.standard_input());
         }
-        match self.look_at_output(name, seen.as_slice()) {
+        match self.look_at_output(name, &seen) {
             Ok(()) => Ok(()),
             Err(fault) => Err(FileRefusal {
                 file: FilePlace::Written,
