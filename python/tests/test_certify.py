@@ -76,7 +76,7 @@ def certified(program, ones):
 
 def only(program, ones):
     """Whether the search among all other points shows that there is none as good; else another one is found."""
-    search = OnlySearch(program, set(ones), None, lambda text: None)
+    search = OnlySearch(Layout(program), set(ones), None, lambda text: None)
     try:
         text = search.certificate()
     except Beaten as beaten:
@@ -150,7 +150,7 @@ def test_limits():
     with pytest.raises(LimitReached, match="the time limit of 1e-09 seconds is reached"):
         Search(Layout(program), best, 1e-9).certificate()
     with pytest.raises(LimitReached, match="no other point has an objective below"):
-        OnlySearch(program, best, 1e-9, lambda text: None).certificate()
+        OnlySearch(Layout(program), best, 1e-9, lambda text: None).certificate()
 
 
 SMALL = content("fixtures", "solvers", "three.mps").encode()

@@ -102,6 +102,8 @@ def status_of(
     most_of_answer = limits.most, f"an answer to this can have, {limits.most} bytes"
     most_of_messages = MOST_OF_MESSAGES, f"{MOST_OF_MESSAGES} bytes on standard error"
     mosts = {"stdout": most_of_answer, "stderr": most_of_messages}
+    if signal.getsignal(signal.SIGCHLD) == signal.SIG_IGN:
+        raise Unclear("this process ignores SIGCHLD, so that nobody knows how a program ends")
     try:  # (in a group of its own, so that all of it can be ended)
         how: Any = {**streams, "cwd": folder, "start_new_session": True}
         started: subprocess.Popen[bytes] = subprocess.Popen(words, **how)

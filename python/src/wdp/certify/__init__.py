@@ -2,12 +2,14 @@
 import argparse
 from collections.abc import Callable
 from functools import partial
-from typing import NamedTuple
+from typing import TYPE_CHECKING, NamedTuple
 
 from wdp import files
 from wdp.solve import MOST_OF_ANSWER, SECONDS, nothing, read_checked
 from wdp.texts.refusals import need
-from wdp.texts.zero_one import read_program, read_solution, solution_text
+
+if TYPE_CHECKING:
+    from wdp.certify.problem import Problem
 
 LIBRARIES = "numpy", "scipy", "swiglpk"
 NOT_OPTIMAL, TIED = 3, 5
@@ -20,11 +22,13 @@ Say = Callable[[str], None]
 
 
 class Certified(NamedTuple):
-    """A solution, the certificate that it is optimal, and by how much it is better than the one that was given."""
+    """A solution, the certificate that it is optimal, and by how much it is better than the one that was given; and multipliers
+    of rows that were of use, for searches of programs with fewer bidders."""
 
     solution: bytes
     certificate: bytes
     gain: int
+    rows: str = ""
 
 
 class Only(NamedTuple):
@@ -35,37 +39,29 @@ class Only(NamedTuple):
     gain: int = 0
 
 
+def read_problem(text: bytes) -> "Problem":
+    """A 0-1 program in MPS, read once, to be solved and certified, also with other costs or without some bidders. Raises Unclear
+    if the text is cut off, and Missing without numpy, scipy and swiglpk."""
+    need("a certificate", *LIBRARIES)
+    from wdp.certify.problem import Problem
+
+    return Problem.read(text)
+
+
 def certified(
     program: bytes, solution: bytes, seconds: float | None = None, say: Say = lambda text: None
 ) -> Certified:
     """An optimal solution of a program in MPS, and the certificate that shows it. The search begins at `solution`, and goes on
     at each better point that it finds. Raises Refused if a text isn't what it should be, LimitReached if the seconds are
     over, and Missing without numpy, scipy and swiglpk."""
-    need("a certificate", *LIBRARIES)
-    from wdp.certify.layout import Layout
-    from wdp.certify.search import Search
-
-    read = read_program(program)
-    ones = read_solution(solution, read, "the solution")
-    search = Search(Layout(read), ones, seconds, say)
-    certificate = search.certificate()
-    gain = read.objective(ones) - search.least
-    return Certified(solution_text(search.ones, read) if gain else solution, certificate, gain)
+    return read_problem(program).certified(solution, seconds, say)
 
 
 def only(
     program: bytes, solution: bytes, seconds: float | None = None, say: Say = lambda text: None
 ) -> Only:
     """Whether an optimal solution is the only one. Raises what `certified` does."""
-    need("a certificate", *LIBRARIES)
-    from wdp.certify.search import Beaten, OnlySearch
-
-    read = read_program(program)
-    search = OnlySearch(read, read_solution(solution, read, "the solution"), seconds, say)
-    try:
-        return Only("unique", search.certificate())
-    except Beaten as beaten:
-        return Only("tie", solution_text(search.ones, read), beaten.gain)
+    return read_problem(program).only(solution, seconds, say)
 
 
 def add_words(parser: argparse.ArgumentParser) -> None:

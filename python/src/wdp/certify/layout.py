@@ -11,7 +11,8 @@ Given prices, the best multiplier of each block follows: the least of its priced
 however they were found, and is exact in whole numbers.
 """
 from collections import Counter
-from collections.abc import Iterator
+from collections.abc import Iterator, Sequence
+from functools import cached_property
 from itertools import chain
 from typing import Any, NamedTuple
 
@@ -19,9 +20,9 @@ import numpy as np
 from numpy.typing import NDArray
 from scipy.sparse import csr_matrix, vstack
 
-from wdp.results import Matrix
+from wdp.results import entries_of
 from wdp.texts.refusals import Refused
-from wdp.texts.zero_one import AT_LEAST, AT_MOST, EQUAL, ZeroOne
+from wdp.texts.zero_one import AT_LEAST, AT_MOST, EQUAL, Row, ZeroOne
 
 Array = NDArray[Any]
 
@@ -33,53 +34,108 @@ NEVER, NEVER_AT_ANY_SIZE = 2**62, 10**60
 MOST, WIDEST = 10**18, 2**126  # of a multiplier, and of the size of a leaf
 
 
+class SplitRow(NamedTuple):
+    """A row for a split that is open above the root: what it counts of each column, and the most that it allows."""
+
+    numbers: Array
+    limit: int
+
+
 class Layout:
-    """`members` has the columns of each block, `block_rows` their rows (or None), `shared` the place of each shared row, with -1
-    if it is turned round. `split_row` is the place of a row for a split that is open above the root, or None. `loads` has what
-    each column takes of each shared row, and `rows` with `sides` the same as a matrix, after a row 'at most 1' for each block.
+    """A program's columns in blocks, and what they take of shared rows.
+
+    `rows` are those of the program, and after them those of splits that are open above the root, from the place `above` on.
+    `members` has the columns of each block, `block_rows` their rows (or None), `shared` the place of each shared row, with -1
+    if it is turned round. `loads` has what each column takes of each shared row, and `matrix` with `sides` the same, after a
+    row 'at most 1' for each block.
     """
 
-    def __init__(self, program: ZeroOne, split_row: int | None = None) -> None:
-        self.program, self.split_row = program, split_row
-        columns, entries = program.columns, Matrix.of(program).entries
+    def __init__(
+        self,
+        program: ZeroOne,
+        entries: csr_matrix | None = None,
+        splits: Sequence[SplitRow] = (),
+    ) -> None:
+        self.program = program
+        self.entries = entries_of(program) if entries is None else entries
+        self.splits = list(splits)
+        self.rows = [*program.rows, *(Row("", AT_MOST, split.limit) for split in splits)]
+        self.above = len(program.rows)
+        columns = program.columns
         self.count = len(columns)
         self.is_open: Array = np.array([not column.is_fixed for column in columns], bool)
-        blocks = list(blocks_of(program, entries, self.is_open))
-        self.members, self.block_rows = [each for each, _ in blocks], [row for _, row in blocks]
-        rest = sorted(set(range(len(program.rows))) - set(self.block_rows))
-        self.shared = [(at, sign) for at in rest for sign in SIGNS[program.rows[at].kind]]
+        self.costs: Array = np.array([column.cost for column in columns], np.int64)
+        self.fixed_ones = {place for place, column in enumerate(columns) if column.lower == 1}
+        blocks = list(blocks_of(program, self.entries, self.is_open))
+        self.members = [members for members, _ in blocks]
+        self.block_rows = [row for _, row in blocks]
+        self._share()
+        self._order()
+        self.largest_cost = max((abs(column.cost) for column in columns), default=0)
+        self.largest_loads = [int(abs(loads).max(initial=0)) for loads in self.loads.T]
+        # the most that prices lose by rounding, at any scale and in its units, if each moves by a half
+        moved = sum(abs(number) for number in self.right_sides)
+        self.rounding = (moved + len(blocks) * sum(self.largest_loads)) // 2 + 1
+
+    def _share(self) -> None:
+        """The rows that no block has, but for those that no column has and that are met; and what they leave to the free columns."""
+        counts = np.diff(self.entries.indptr).tolist()
+        of_blocks = set(self.block_rows)
+        rest = [
+            place
+            for place, row in enumerate(self.program.rows)
+            if place not in of_blocks and (counts[place] or not row.is_met_by(0))
+        ]
+        own = [(place, sign) for place in rest for sign in SIGNS[self.rows[place].kind]]
+        self.own_shared = len(own)
+        self.shared = own + [(self.above + at, 1) for at in range(len(self.splits))]
         if self.count * len(self.shared) > LARGEST_TABLE:
             raise Refused(f"too many columns by shared rows: {self.count} by {len(self.shared)}")
-        rows, signs = np.array(self.shared, np.int64).reshape(-1, 2).T
-        shared = entries[rows].multiply(signs[:, None])
-        self.loads: Array = np.ascontiguousarray(shared.toarray().T)
-        self.costs: Array = np.array([column.cost for column in columns], np.int64)
+        self.loads: Array = np.zeros((self.count, len(self.shared)), np.int64)
+        for at, (place, sign) in enumerate(own):
+            begin, end = self.entries.indptr[place : place + 2]
+            self.loads[self.entries.indices[begin:end], at] = sign * self.entries.data[begin:end]
+        for at, split in enumerate(self.splits, self.own_shared):
+            self.loads[:, at] = split.numbers
         # what the columns fixed to 1 cost, and what they leave of the right sides
-        fixed = [place for place, column in enumerate(columns) if column.lower == 1]
-        self.fixed_ones = set(fixed)
-        self.constant = program.objective(fixed)
+        fixed = sorted(self.fixed_ones)
+        self.constant = self.program.objective(fixed)
         taken = [sum(map(int, loads)) for loads in self.loads[fixed].T]
-        right_sides = [sign * program.rows[at].right_side for at, sign in self.shared]
-        self.right_sides = [right - less for right, less in zip(right_sides, taken)]
+        sides = [sign * self.rows[place].right_side for place, sign in self.shared]
+        self.right_sides = [side - less for side, less in zip(sides, taken)]
+
+    def _order(self) -> None:
+        """The columns block by block, and the matrix."""
+        blocks = len(self.members)
         self.order = np.concatenate([np.zeros(0, int), *self.members])
         ends = np.cumsum([0, *map(len, self.members)])
         self.starts = ends[:-1]
         self.block_of: Array = np.full(self.count, -1)
-        self.block_of[self.order] = np.repeat(np.arange(len(blocks)), np.diff(ends))
-        ones, shape = np.ones(len(self.order)), (len(blocks), self.count)
-        self.rows = vstack([csr_matrix((ones, self.order, ends), shape), shared], "csr")
-        self.sides: Array = np.array([1] * len(blocks) + self.right_sides, float)
-        self.largest_cost = max((abs(column.cost) for column in columns), default=0)
-        self.largest_loads = [int(abs(loads).max(initial=0)) for loads in self.loads.T]
-        self.names: Array = np.array([f"{column.name} 1" for column in columns], object)
-        # the most that prices lose by rounding, at any scale and in its units, if each moves by a half
-        moved = sum(abs(number) for number in self.right_sides)
-        self.rounding = (moved + len(blocks) * sum(self.largest_loads)) // 2 + 1
+        self.block_of[self.order] = np.repeat(np.arange(blocks), np.diff(ends))
+        ones = np.ones(len(self.order))
+        of_blocks = csr_matrix((ones, self.order, ends), (blocks, self.count))
+        self.matrix = vstack([of_blocks, csr_matrix(self.loads.T, dtype=float)], "csr")
+        self.sides: Array = np.array([1] * blocks + self.right_sides, float)
+
+    @cached_property
+    def names(self) -> Array:
+        """What a split says of each column."""
+        return np.array([f"{column.name} 1" for column in self.program.columns], object)
 
     def by_column(self, of_blocks: list[int], dtype: Any) -> Array:
         """For each column the number of its block, or 0."""
         numbers: Array = np.array([*of_blocks, 0], dtype)
         return numbers[self.block_of]
+
+    def split(self, more: Sequence[SplitRow]) -> "Layout":
+        """The layout below more splits."""
+        return Layout(self.program, self.entries, [*self.splits, *more])
+
+    def restricted(self, places: Sequence[int] | Array) -> "Layout":
+        """The layout of the same program with these columns alone."""
+        columns = self.program.columns
+        smaller = ZeroOne(self.program.rows, [columns[place] for place in places])
+        return Layout(smaller, self.entries[:, places])
 
 
 def blocks_of(program: ZeroOne, entries: Any, is_open: Array) -> Iterator[tuple[Array, int | None]]:
@@ -201,14 +257,15 @@ class Leaf:
         column += sum(abs(number) * widest.get(row, 1) for row, number in rows.items())
         column += sum(number * len(cut.places) for number, cut in zip(self.cuts, self.node.path))
         right = 2 * sum(self.cuts)
-        right += sum(abs(n * layout.program.rows[row].right_side) for row, n in rows.items())
+        right += sum(abs(number * layout.rows[row].right_side) for row, number in rows.items())
         # the checker counts each column of a split's form, and one more on its right side
-        above = 0 if layout.split_row is None else rows.get(layout.split_row, 0)
+        of_splits = range(layout.above, len(layout.rows))
+        above = sum(rows.get(row, 0) * max(1, widest[row]) for row in of_splits)
         return (column + above * layout.count) * (layout.count + 1) + right + 2 * above < WIDEST
 
     def line(self) -> str:
-        """The line of a certificate. The multiplier of a split above the root comes first."""
+        """The line of a certificate. The multipliers of splits above the root come first."""
         rows = self.rows()
-        above = [] if self.layout.split_row is None else [rows.pop(self.layout.split_row, 0)]
-        named = ((self.layout.program.rows[row].name, number) for row, number in rows.items())
+        above = [rows.pop(row, 0) for row in range(self.layout.above, len(self.layout.rows))]
+        named = ((self.layout.rows[row].name, number) for row, number in rows.items())
         return " ".join(map(str, ["bound", self.bound.scale, *above, *self.cuts, *chain(*named)]))

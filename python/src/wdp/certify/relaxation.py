@@ -10,6 +10,8 @@ the most even ones a few are tried by some steps of the dual simplex, and the on
 sides most.
 """
 import weakref
+from operator import attrgetter
+from time import monotonic
 from typing import Any, NamedTuple
 
 import numpy as np
@@ -23,7 +25,8 @@ UNITS_IN_GAP = 1000
 CAP_IN_GAPS = 20
 MOST_STEPS = MOST_MILLISECONDS = 2**31 - 1
 POSITIVE, UNDECIDED = 1e-6, 1e-5
-CANDIDATES, STEPS = 8, 40  # splits that are tried, and steps of the dual simplex for each side
+FEW = 20  # columns of each block that root prices are first found for
+CANDIDATES, STEPS = 16, 40  # splits that are tried, and steps of the dual simplex for each side
 
 
 class Relaxation:
@@ -35,8 +38,8 @@ class Relaxation:
         self.layout, self.core, self.count, self.gap = layout, core, len(core), gap
         self.unit = max(gap, 1) / UNITS_IN_GAP
         self.root_prices, self.base = bound.prices, bound.value
-        self.blocks, self.height = len(layout.members), layout.rows.shape[0]
-        rows = layout.rows[:, core]
+        self.blocks, self.height = len(layout.members), layout.matrix.shape[0]
+        rows = layout.matrix[:, core]
         # no slack is above what the row could be short of at all: boxed columns are never dual infeasible
         reach = (abs(layout.sides) + abs(rows).sum(axis=1).A1)[self.blocks :]
         self.upper: Array = np.concatenate([np.ones(self.count + self.blocks), reach, reach])
@@ -138,16 +141,52 @@ class Relaxation:
         return sum(float(glpk.glp_get_col_prim(self.problem, column)) for column in columns)
 
 
+def nearest(bound: Bound, count: int) -> Array:
+    """Which columns are, of each block, the so many whose reduced cost is the least."""
+    reduced = bound.reduced()
+    is_near = np.zeros(bound.layout.count, bool)
+    for members in bound.layout.members:
+        is_near[members[np.argsort(reduced[members], kind="stable")[:count]]] = True
+    return is_near
+
+
 def root_prices(layout: Layout, seconds: float) -> list[int]:
-    """Whole prices of the shared rows, which HiGHS finds from nothing the fastest; 0 if it fails, since any prices are right."""
-    if not layout.shared or not layout.members:
-        return [0] * len(layout.shared)
+    """The best whole prices of the shared rows for the relaxation; any are right, and if HiGHS finds none they are 0.
+
+    HiGHS gets a few columns of each block, and then those that pay most at its prices, until no other column pays more.
+    """
+    late = monotonic() + seconds
+    best = bound = Bound(layout, Node(layout.is_open), 1, [0] * len(layout.shared))
+    is_taken = np.zeros(layout.count, bool)
+    while layout.shared and layout.members:
+        is_taken |= nearest(bound, FEW)
+        if 2 * is_taken.sum() >= layout.is_open.sum():
+            is_taken = layout.is_open
+        prices = prices_for(layout, is_taken, late - monotonic())
+        if prices is None:
+            break
+        bound = Bound(layout, bound.node, 1, prices)
+        best = max(best, bound, key=attrgetter("value"))
+        of_taken = Bound(layout, Node(is_taken), 1, prices)
+        if is_taken is layout.is_open or of_taken.value - bound.value <= layout.rounding:
+            break
+    return best.prices
+
+
+def prices_for(layout: Layout, is_taken: Array, seconds: float) -> list[int] | None:
+    """The prices of the relaxation with these columns alone, in whole numbers; None if HiGHS fails."""
     unit = max(1, layout.largest_cost) / 1000
-    bounds = [(0, int(is_open)) for is_open in layout.is_open]
-    how = {"method": "highs-ds", "options": {"time_limit": max(1.0, seconds)}}
-    found = linprog(layout.costs / unit, layout.rows, layout.sides, bounds=bounds, **how)
+    places = np.flatnonzero(is_taken)
+    found = linprog(
+        layout.costs[places] / unit,
+        layout.matrix[:, places],
+        layout.sides,
+        bounds=(0, 1),
+        method="highs-ds",
+        options={"time_limit": max(1.0, seconds)},
+    )
     if found.status != 0:
-        return [0] * len(layout.shared)
+        return None
     duals = found.ineqlin.marginals[len(layout.members) :]
     return [max(0, round(-float(dual) * unit)) for dual in duals]
 
@@ -167,37 +206,90 @@ class Split(NamedTuple):
     part: float
 
 
+class Way(NamedTuple):
+    """Columns that take at least `load` of a shared row, or with the sign -1 at most; without a row, all of them."""
+
+    row: int | None
+    load: int = 0
+    sign: int = 1
+
+    def among(self, layout: Layout, members: Array) -> Array:
+        """The columns among these."""
+        if self.row is None:
+            return members
+        is_chosen = self.sign * layout.loads[members, self.row] >= self.sign * self.load
+        chosen: Array = members[is_chosen]
+        return chosen
+
+
+class Held(NamedTuple):
+    """The columns of a block that have a value, and what each takes of the program's own shared rows."""
+
+    block: int
+    values: list[float]
+    loads: list[list[int]]
+
+
+class Parting(NamedTuple):
+    """What some of a block's columns with a value have in all, and the ways that choose just these."""
+
+    part: float
+    block: int
+    ways: list[Way]
+
+
 def candidates(layout: Layout, node: Node, places: Array, values: Array) -> list[Split]:
-    """The splits at which the values of these columns are undecided, the most even first."""
-    blocks = layout.block_of[places]
-    each = (blocks == block for block in np.unique(blocks))
-    found = [s for it in each for s in block_candidates(layout, node, places[it], values[it])]
-    return sorted(found, key=lambda split: (-min(split.part, 1 - split.part), len(split.places)))
+    """The most even splits at which the values of these columns are undecided, no two alike for the columns."""
+    partings = [
+        parting
+        for held in held_by_block(layout, places, values)
+        for parting in partings_of(held, held.block in node.forced)
+    ]
+    splits = []
+    for part, block, ways in sorted(partings, key=lambda each: abs(each.part - 0.5))[:CANDIDATES]:
+        members = layout.members[block]
+        members = members[node.allowed[members]]
+        chosen = [way.among(layout, members) for way in ways]
+        splits.append(Split(min(chosen, key=len), part))
+    return splits
 
 
-def block_candidates(layout: Layout, node: Node, places: Array, values: Array) -> list[Split]:
-    if len(places) == 1 and values[0] > 1 - POSITIVE:
-        return []
-    block = int(layout.block_of[places[0]])
-    members, is_forced = layout.members[block], block in node.forced
-    members = members[node.allowed[members]]
-    found: dict[bytes, Split] = {}
+def held_by_block(layout: Layout, places: Array, values: Array) -> list[Held]:
+    """The columns of each block whose values are undecided."""
+    found: dict[int, Held] = {}
+    blocks = layout.block_of[places].tolist()
+    loads = layout.loads[places, : layout.own_shared].tolist()
+    for block, value, each in zip(blocks, values.tolist(), loads, strict=True):
+        held = found.setdefault(block, Held(block, [], []))
+        held.values.append(value)
+        held.loads.append(each)
+    return [
+        held for held in found.values() if len(held.values) > 1 or held.values[0] < 1 - POSITIVE
+    ]
 
-    def offer(is_held: Array, is_member: Array) -> None:
-        part, chosen = float(values[is_held].sum()), members[is_member]
-        is_whole = is_forced and len(chosen) == len(members)
-        if UNDECIDED < part < 1 - UNDECIDED and not is_whole:
-            found.setdefault(chosen.tobytes(), Split(chosen, part))
+
+def partings_of(held: Held, is_forced: bool) -> list[Parting]:
+    """Each set of the columns with a value that some ways choose, if its part in all is undecided."""
+    found: dict[tuple[bool, ...], Parting | None] = {}
+
+    def offer(is_chosen: tuple[bool, ...], way: Way) -> None:
+        if is_chosen not in found:
+            part = sum(value for value, is_one in zip(held.values, is_chosen) if is_one)
+            is_undecided = UNDECIDED < part < 1 - UNDECIDED
+            found[is_chosen] = Parting(part, held.block, []) if is_undecided else None
+        parting = found[is_chosen]
+        if parting:
+            parting.ways.append(way)
 
     if not is_forced:
-        offer(np.ones(len(places), bool), np.ones(len(members), bool))
-    for held, all_loads in zip(layout.loads[places].T, layout.loads[members].T):
-        for load in np.unique(held):
+        offer((True,) * len(held.values), Way(None))
+    for row, loads in enumerate(zip(*held.loads)):
+        for load in sorted(set(loads)):
             if load != 0:
-                offer(held >= load, all_loads >= load)
+                offer(tuple(each >= load for each in loads), Way(row, load))
             if not is_forced:
-                offer(held <= load, all_loads <= load)
-    return list(found.values())
+                offer(tuple(each <= load for each in loads), Way(row, load, -1))
+    return [parting for parting in found.values() if parting]
 
 
 def halving(layout: Layout, node: Node) -> Split | None:
@@ -222,7 +314,7 @@ def strongest(task: Visit, splits: list[Split], reached: float, limit: float) ->
         return max(1e-9, best - reached)
 
     best, best_score = splits[0], -1.0
-    for split in splits[:CANDIDATES]:
+    for split in splits:
         both = node.without(split.places), node.within(relaxation.layout, split.places)
         gains = [gain(side) for side in both]
         if gains[0] * gains[1] > best_score:

@@ -6,17 +6,18 @@ above the gap are fixed to 0 by a split of their own, whose second side the same
 import contextlib
 import math
 import time
-from dataclasses import dataclass, replace
-from typing import NoReturn
+from dataclasses import dataclass
+from typing import NamedTuple, NoReturn
 
 import numpy as np
 
 from wdp.certify import Say
-from wdp.certify.layout import Bound, Cut, Layout, Leaf, Node
+from wdp.certify.layout import LARGEST_TABLE, Bound, Cut, Layout, Leaf, Node, SplitRow
 from wdp.certify.relaxation import POSITIVE, Relaxation, Split, Visit, candidates, halving
-from wdp.certify.relaxation import root_prices, strongest
+from wdp.certify.relaxation import nearest, root_prices, strongest
+from wdp.certify.rounding import Inequality, Rounding, Strengthening
+from wdp.certify.unfinished import Unfinished
 from wdp.texts.refusals import Refused
-from wdp.texts.zero_one import AT_MOST, Row, ZeroOne
 
 SCALES = (1, 2**4, 2**8, 2**12, 2**16, 2**20)
 # columns are fixed if this part of them goes; at the root, from its second round on
@@ -26,13 +27,43 @@ SHRINKS_AT, SMALL = 0.6, 60
 # units of cost are a thousandth of the gap; with fewer of them left the search begins again
 FEWEST_UNITS = 100
 ROUNDS = 8  # at the root
+# before rows are rounded, unless it is known which are of use: an inequality names most of the columns that the root leaves
+PLAIN_LINES, COLUMNS_OF_LINE = 100, 4
 # so many columns of each block, and lines of a certificate, when a good point is looked for
 PROMISING, PROMISING_LINES = 40, 400
 SECONDS_BETWEEN_MESSAGES = 10
 
 
+class TooLarge(Refused):
+    """A program whose numbers no certificate can have."""
+
+
 class LimitReached(Refused):
+    """A search that ended at a limit, of time if it `is_late`: the best `solution` that is known, its objective, the `bound` below
+    which there is none, and the `tree` so far, from which another search goes on."""
+
     status = 4
+
+    def __init__(self, text: str, is_late: bool, least: int, bound: float, tree: str) -> None:
+        super().__init__(text)
+        self.is_late = is_late
+        self.least = least
+        self.bound = bound
+        self.tree = tree
+        self.solution = b""
+
+    def part_missing(self) -> float:
+        """At most how much greater the greatest total is, as a part of it."""
+        return max(0.0, (self.least - self.bound) / max(1.0, -self.bound))
+
+
+class Written(NamedTuple):
+    """A leaf that an earlier search has shown."""
+
+    text: str
+
+    def line(self) -> str:
+        return self.text
 
 
 class Search:
@@ -46,31 +77,120 @@ class Search:
         seconds: float | None = None,
         say: Say = lambda text: None,
         lines: float = math.inf,
+        prices: list[int] | None = None,
+        known_rows: str = "",
+        earlier: str = "",
     ) -> None:
-        self.layout, self.program, self.say = layout, layout.program, say
-        self.ones, self.least = ones, layout.program.objective(ones)
+        self.layout = layout
+        self.program = layout.program
+        self.say = say
+        self.ones = ones
+        self.least = layout.program.objective(ones)
         self.begun = self.last_said = time.monotonic()
-        self.seconds, self.most_lines = seconds or math.inf, lines
+        self.seconds = seconds or math.inf
+        self.most_lines = lines
+        self.first_prices = prices
+        # multipliers of rows that another group's search found, and those that this one has found
+        self.known_rows = known_rows
+        self.found_rows = ""
+        # the tree of a search that ended at a limit
+        self.earlier = earlier
         self.is_from_nothing = ones <= layout.fixed_ones
         self.root_value = -math.inf
+        self.left_at_root = layout.count
         self.lines: list[str] = []
-        self.tasks: list[Visit | Leaf] = []
+        self.tasks: list[Visit | Leaf | Written] = []
+        # splits above the root, and the leaves on their second sides
+        self.head: list[str] = []
+        self.tail: list[str] = []
+        self.is_strong = False
 
     def certificate(self) -> bytes:
         """The text that shows that no objective is below `least`."""
-        prices = root_prices(self.layout, self.seconds_left())
-        at_root = self.open_root(prices)
+        prices = self.first_prices
+        if prices is None:
+            prices = root_prices(self.layout, self.seconds_left())
+        at_root: Relaxation | None = None
+        if self.earlier:
+            self.go_on(prices, Unfinished.read(self.earlier))
+        else:
+            at_root = self.open_root(prices)
         while self.tasks:
             self.check_limits()
             task, before = self.tasks.pop(), self.least
             if isinstance(task, Visit):
                 self.visit(task)
+            elif isinstance(task, Written):
+                self.lines.append(task.line())
             else:
                 self.have_to_write(task)
             if at_root and self.least < before and at_root.units(self.least - 1) < FEWEST_UNITS:
                 self.say("the search begins again")
                 at_root = self.open_root(prices)
-        return "".join(line + "\n" for line in self.lines).encode("ascii")
+            if self.is_worth_rows() and self.strengthen(prices):
+                prices = root_prices(self.layout, self.seconds_left())
+                at_root = self.open_root(prices)
+        lines = [*self.head, *self.lines, *self.tail]
+        return "".join(line + "\n" for line in lines).encode("ascii")
+
+    def is_worth_rows(self) -> bool:
+        """Whether it is time to add inequalities, which is done once."""
+        if self.is_strong or not self.lines:
+            return False
+        few = max(PLAIN_LINES, self.left_at_root // COLUMNS_OF_LINE)
+        return bool(self.known_rows) or len(self.lines) > few
+
+    def strengthen(self, prices: list[int]) -> bool:
+        """Adds inequalities by rounding, once; whether there are any."""
+        self.is_strong = True
+        layout = self.layout
+        bound = Bound(layout, Node(layout.is_open), 1, prices)
+        is_open = layout.is_open & (bound.reduced() <= bound.gap(self.least))
+        strengthening = Strengthening(layout, is_open, self.least)
+        found = strengthening.inequalities(self.seconds_left(), self.known_rows)
+        self.say(f"{len(found)} inequalities by rounding, {self.elapsed():.1f} s")
+        if not found or layout.count * (len(layout.shared) + len(found)) > LARGEST_TABLE:
+            return False
+        self.add_rows(found)
+        return True
+
+    def add_rows(self, found: list[Inequality]) -> None:
+        """Has the search below splits for these inequalities."""
+        layout = self.layout
+        self.found_rows = "".join(f"{each.multipliers(layout)}\n" for each in found)
+        above = len(layout.splits)
+        self.head = [inequality.split(layout) for inequality in found]
+        leaves = [inequality.leaf(layout, above + at) for at, inequality in enumerate(found)]
+        self.tail = leaves[::-1]
+        self.layout = layout.split([inequality.row for inequality in found])
+
+    def tree(self) -> str:
+        """What the search has come to, for another one to go on from there."""
+        rows = self.found_rows.splitlines() if self.head else []
+        left = [None if isinstance(task, Visit) else task.line() for task in self.tasks]
+        return Unfinished(rows, self.lines, left[::-1]).text()
+
+    def go_on(self, prices: list[int], tree: Unfinished) -> None:
+        """Goes on with the tree of an earlier search, whose best point this one begins with."""
+        self.is_strong = True
+        if tree.rows:
+            rounding = Rounding(self.layout)
+            self.add_rows([rounding.read(row) for row in tree.rows])
+            prices = root_prices(self.layout, self.seconds_left())
+        root = Bound(self.layout, Node(self.layout.is_open), 1, prices)
+        self.root_value = root.value
+        nodes = tree.subtrees(self.layout)
+        allowed = np.zeros(self.layout.count, bool)
+        for node in nodes:
+            allowed |= node.allowed
+        within = Bound(self.layout, Node(allowed), 1, prices)
+        relaxation = Relaxation(within, root.gap(self.least))
+        left = iter(nodes)
+        self.lines = list(tree.lines)
+        self.tasks = [
+            Visit(next(left), relaxation, None) if line is None else Written(line)
+            for line in reversed(tree.open)
+        ]
 
     def elapsed(self) -> float:
         return time.monotonic() - self.begun
@@ -84,7 +204,8 @@ class Search:
         is_late = self.elapsed() >= self.seconds
         if is_late or len(self.lines) > self.most_lines:
             limit = f"time limit of {self.seconds:g} seconds" if is_late else "limit of lines"
-            raise LimitReached(f"the {limit} is reached after {far}; {self.known()}")
+            text = f"the {limit} is reached after {far}; {self.known()}"
+            raise LimitReached(text, is_late, self.least, self.root_value, self.tree())
         if time.monotonic() - self.last_said >= SECONDS_BETWEEN_MESSAGES:
             self.last_said = time.monotonic()
             self.say(f"{far}, {self.elapsed():.0f} s")
@@ -101,7 +222,7 @@ class Search:
 
     def have_to_write(self, leaf: Leaf) -> None:
         if not self.write(leaf):
-            raise Refused("the numbers of this program are too large for a certificate")
+            raise TooLarge("the numbers of this program are too large for a certificate")
 
     def show(self, node: Node, relaxation: Relaxation) -> bool:
         """Writes a leaf with the relaxation's prices at the first scale that shows it."""
@@ -121,13 +242,14 @@ class Search:
         for turn in range(ROUNDS):
             bound = Bound(layout, node, 1, prices)
             self.root_value = max(bound.value, self.root_value)
-            if turn == 0 and self.is_from_nothing:
+            if turn == 0 and self.is_from_nothing and not self.is_strong:
                 self.try_promising(bound)
             gap = bound.gap(self.least)
             if gap < 0 and self.write(Leaf(bound)):
                 return None
             node = self.fix(bound, ROOT_PART if turn else 0)
             relaxation = Relaxation(Bound(layout, node, 1, prices), gap)
+            self.left_at_root = relaxation.count
             columns = f"{relaxation.count} of {layout.count} columns left, {self.elapsed():.1f} s"
             self.say(f"to show {self.least}, root bound {bound.value}, {columns}")
             relaxation.enter(node)
@@ -144,21 +266,17 @@ class Search:
 
     def try_promising(self, bound: Bound) -> None:
         """Searches the columns that are nearest to the choice of their blocks: a good point makes the gap small."""
-        reduced, columns = bound.reduced(), self.program.columns
-        places = self.ones | self.layout.fixed_ones
-        for members in self.layout.members:
-            nearest = members[np.argsort(reduced[members], kind="stable")[:PROMISING]]
-            places.update(map(int, nearest))
+        known = self.ones | self.layout.fixed_ones
+        places = sorted({*np.flatnonzero(nearest(bound, PROMISING)).tolist(), *known})
         if 2 * len(places) >= self.layout.is_open.sum():
             return
         self.say(f"a search of {len(places)} promising columns first")
-        chosen = sorted(places)
-        ones = {at for at, place in enumerate(chosen) if place in self.ones}
-        layout = Layout(ZeroOne(self.program.rows, [columns[place] for place in chosen]))
-        smaller = Search(layout, ones, self.seconds_left(), lines=PROMISING_LINES)
+        ones = {at for at, place in enumerate(places) if place in self.ones}
+        smaller = self.layout.restricted(places)
+        search = Search(smaller, ones, self.seconds_left(), lines=PROMISING_LINES)
         with contextlib.suppress(Refused):
-            smaller.certificate()
-        self.try_point({chosen[at] for at in smaller.ones})
+            search.certificate()
+        self.try_point({places[at] for at in search.ones})
 
     def dive(self, node: Node, relaxation: Relaxation) -> bool:
         """Settles one block after the other as the relaxation has it; whether this finds a better point."""
@@ -274,10 +392,22 @@ class Beaten(Exception):
 class OnlySearch(Search):
     """A search for another point as good as `ones`: a certificate shows that there is none, or it ends as Beaten at that point."""
 
-    def __init__(self, program: ZeroOne, ones: set[int], seconds: float | None, say: Say) -> None:
-        super().__init__(Layout(others(program, ones), len(program.rows)), ones, seconds, say)
+    def __init__(
+        self,
+        layout: Layout,
+        ones: set[int],
+        seconds: float | None,
+        say: Say,
+        known_rows: str = "",
+    ) -> None:
+        below = layout.split([others(layout, ones)])
+        super().__init__(below, ones, seconds=seconds, say=say, known_rows=known_rows)
+        self.first = ones
         self.least += 1
         self.is_from_nothing = False  # (the point that is known isn't one of this program)
+
+    def try_point(self, places: set[int]) -> bool:
+        return places | self.layout.fixed_ones != self.first and super().try_point(places)
 
     def known(self) -> str:
         return f"no other point has an objective below {self.root_value}"
@@ -286,13 +416,10 @@ class OnlySearch(Search):
         raise Beaten(gain - 1)
 
 
-def others(program: ZeroOne, ones: set[int]) -> ZeroOne:
-    """The program with one more row, which all points but this one meet: of the free columns at 1 one is 0, or another is 1.
-    It is the second side of a split that is open above the root of the certificate."""
-    free = {place for place, column in enumerate(program.columns) if not column.is_fixed}
-    row, at = Row("", AT_MOST, len(free & ones) - 1), len(program.rows)
-    columns = list(program.columns)
-    for place in free:
-        entries = [*columns[place].entries, (at, 1 if place in ones else -1)]
-        columns[place] = replace(columns[place], entries=entries)
-    return ZeroOne([*program.rows, row], columns)
+def others(layout: Layout, ones: set[int]) -> SplitRow:
+    """The row that all points but this one meet: of the open columns at 1 one is 0, or another is 1. It is the second side of a
+    split that is open above the root of the certificate."""
+    numbers = -layout.is_open.astype(np.int64)
+    free = [place for place in ones if layout.is_open[place]]
+    numbers[free] = 1
+    return SplitRow(numbers, len(free) - 1)

@@ -6,6 +6,7 @@ from collections.abc import Iterable, Iterator, Set
 from contextlib import suppress
 from dataclasses import dataclass, field
 from fractions import Fraction
+from functools import cached_property
 
 from wdp.texts.refusals import Refused, Unclear, shortened
 from wdp.texts.tables import lines
@@ -26,8 +27,11 @@ class Row:
     kind: str
     right_side: int = 0
 
+    def is_met_by(self, total: int) -> bool:
+        return bool(MEETS[self.kind](total, self.right_side))
 
-@dataclass
+
+@dataclass(slots=True)
 class Column:
     """A column: its name, its cost, the places of its rows, each with its coefficient, and its bounds, 0 or 1."""
 
@@ -46,8 +50,12 @@ class ZeroOne:
     """A 0-1 program whose objective is minimised: rows and columns in the order of the text."""
 
     def __init__(self, rows: list[Row], columns: list[Column]) -> None:
-        self.rows, self.columns = rows, columns
-        self.column_places = {column.name: place for place, column in enumerate(columns)}
+        self.rows = rows
+        self.columns = columns
+
+    @cached_property
+    def column_places(self) -> dict[str, int]:
+        return {column.name: place for place, column in enumerate(self.columns)}
 
     def objective(self, ones: Iterable[int]) -> int:
         """The objective if the columns at these places are 1 and all others are 0."""
@@ -63,13 +71,15 @@ class ZeroOne:
             for at, coefficient in self.columns[place].entries:
                 totals[at] += coefficient
         for row, total in zip(self.rows, totals):
-            if not MEETS[row.kind](total, row.right_side):
+            if not row.is_met_by(total):
                 return f"the row {row.name} is broken"
         return None
 
 
 def read_program(text: bytes) -> ZeroOne:
     """The program of a text, as docs/REFERENCE.md has it under 'Read programs'. Unclear if the text is cut off."""
+    with suppress(KeyError, ValueError):
+        return OwnReader(text).program()
     reader, section = Reader(), ""
     with suppress(KeyError, ValueError):
         for line in lines(text.decode("latin-1")):
@@ -124,6 +134,109 @@ class Reader:
         """The places of the rows that words name, each with the number that follows."""
         for name, token in zip(words[::2], words[1::2]):
             yield self.row_places[name], whole_number(token)
+
+
+# a text as `wdp` writes it: each line of a section has as many fields as the others
+OWN_ROWS = re.compile(
+    rb"NAME wdp\nROWS\n N OBJ\n((?: [LGE] [!-~]++\n)*+)COLUMNS\n M1 'MARKER' 'INTORG'\n"
+)
+OWN_COLUMN = re.compile(rb" ([!-~]++) OBJ (-?[0-9]++)\n((?: \1 [!-~]++ [!-~]++\n)*+)")
+OWN_SIDES = re.compile(rb" M2 'MARKER' 'INTEND'\nRHS\n((?: RHS [!-~]++ [!-~]++\n)*+)BOUNDS\n")
+OWN_BOUND = re.compile(rb" (UP|FX) BND ([!-~]++) ([01])\n")
+
+
+class OwnReader:
+    """Reads a text as `wdp` writes it, a column at a time. ValueError or KeyError if it is another one.
+
+    Entries that are alike, as ` C3 2` of two columns, are one object.
+    """
+
+    def __init__(self, text: bytes) -> None:
+        self.text = text
+        self.at = 0
+        self.rows: list[Row] = []
+        self.row_places: dict[bytes, int] = {}
+        self.entries: dict[tuple[bytes, bytes], tuple[int, int]] = {}
+
+    def program(self) -> ZeroOne:
+        self.read_rows()
+        columns = list(self.read_columns())
+        self.read_sides()
+        self.read_bounds(columns)
+        return ZeroOne(self.rows, columns)
+
+    def next(self, pattern: re.Pattern[bytes]) -> re.Match[bytes] | None:
+        found = pattern.match(self.text, self.at)
+        if found:
+            self.at = found.end()
+        return found
+
+    def section(self, pattern: re.Pattern[bytes]) -> list[bytes]:
+        found = self.next(pattern)
+        if found is None:
+            raise ValueError("another text")
+        return found[1].split()
+
+    def read_rows(self) -> None:
+        words = self.section(OWN_ROWS)
+        for kind, name in zip(words[::2], words[1::2], strict=True):
+            self.row_places[name] = len(self.rows)
+            self.rows.append(Row(name.decode("ascii"), kind.decode("ascii")))
+
+    def read_columns(self) -> Iterator[Column]:
+        while found := self.next(OWN_COLUMN):
+            words = found[3].split()
+            named = zip(words[1::3], words[2::3], strict=True)
+            entries = [self.entries.get(each) or self.read_entry(each) for each in named]
+            yield Column(found[1].decode("ascii"), int(found[2]), entries)
+
+    def read_entry(self, words: tuple[bytes, bytes]) -> tuple[int, int]:
+        row, number = words
+        entry = self.row_places[row], int(number)
+        if not entry[1]:
+            raise ValueError("an entry without a coefficient")
+        return self.entries.setdefault(words, entry)
+
+    def read_sides(self) -> None:
+        words = self.section(OWN_SIDES)
+        for name, number in zip(words[1::3], words[2::3], strict=True):
+            self.rows[self.row_places[name]].right_side = int(number)
+
+    def read_bounds(self, columns: list[Column]) -> None:
+        """The bound of each column, in their order."""
+        for column in columns:
+            found = self.next(OWN_BOUND)
+            if found is None or found[2].decode("ascii") != column.name:
+                raise ValueError("another text")
+            column.upper = int(found[3])
+            column.lower = column.upper if found[1] == b"FX" else 0
+        if self.text[self.at :] != b"ENDATA\n":
+            raise ValueError("another text")
+
+
+def program_text(program: ZeroOne) -> bytes:
+    """A program in free MPS, as `wdp` writes it, without the rows that no column has and that are met."""
+    taken = {at for column in program.columns for at, _ in column.entries}
+    rows = [row for at, row in enumerate(program.rows) if at in taken or not row.is_met_by(0)]
+    lines = ["NAME wdp", "ROWS", " N OBJ"]
+    lines += [f" {row.kind} {row.name}" for row in rows]
+    lines += ["COLUMNS"]
+    if program.columns:
+        lines += [" M1 'MARKER' 'INTORG'"]
+    for column in program.columns:
+        lines += [f" {column.name} OBJ {column.cost}"]
+        lines += [f" {column.name} {program.rows[at].name} {n}" for at, n in column.entries]
+    if program.columns:
+        lines += [" M2 'MARKER' 'INTEND'"]
+    lines += ["RHS"]
+    lines += [f" RHS {row.name} {row.right_side}" for row in rows]
+    if program.columns:
+        lines += ["BOUNDS"]
+    for column in program.columns:
+        kind = "FX" if column.is_fixed else "UP"
+        lines += [f" {kind} BND {column.name} {column.upper}"]
+    lines += ["ENDATA", ""]
+    return "\n".join(lines).encode("ascii")
 
 
 def whole_number(token: str) -> int:
