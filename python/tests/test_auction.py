@@ -9,7 +9,9 @@ import pty
 import random
 import re
 import shlex
+import shutil
 import signal
+import socket
 import subprocess
 import sys
 import time
@@ -39,7 +41,7 @@ def test_to_its_page(auction, wdp):
     hint = seen.err.partition("and wdp verify <")[2].partition(" prints it again")[0]
     assert shlex.split(hint) == [f"{auction.where}/audit.txt"]
     report, audit = auction.outcome()
-    assert totals(report) == TOTALS and output(wdp, "verify", audit).endswith(b"least\nunique\n")
+    assert totals(report) == TOTALS and output(wdp, "verify", audit).endswith(b"by the rule\nunique\n")
     assert sorted(os.listdir(auction.where / "results")) == RESULTS and is_certified(auction)
     sums = [path.relative_to(auction.where) for path in auction.where.glob("sums/**/*.sha256")]
     subprocess.run(["sha256sum", "--check", "--quiet", *sums], cwd=auction.where, check=True)
@@ -61,7 +63,8 @@ def test_each_solver_gives_the_report_beside_the_example(auction, name):
     auction.said("--solver", "cbc")
     assert auction.read("report.txt") == report
     verified = output(auction.wdp, "verify", auction.read("audit.txt"))
-    more = rb"(group \d+ .*\n)?prices\n(\w+ \d+\n)+sum \d+\nleast\n"
+    paid = rb"\w+ \d+( \d+(/\d+)?)?\n"
+    more = rb"(group \d+ .*\n)?prices\n(" + paid + rb")+by the rule\n"
     assert re.fullmatch(re.escape(report) + more, verified, re.DOTALL)
 
 
@@ -84,15 +87,17 @@ def test_without_a_folder(auction, tmp_path):
 
 
 def test_certificates_are_the_judge_of_answers(auction, tmp_path):
-    # in groups 3 and 4 Alpha's bid 1 in place of bid 2, in group 1 nobody
+    # in group 3 Alpha's bid 1 in place of bid 2, in group 1 nobody; group 4 takes over from group 3
     alpha = 'if ! grep -q X2_1 "$1"; then echo X1_1 1 > "$2"'
     text = alpha + '; elif grep -q X1_1 "$1"; then echo "# nobody" > "$2"; else rest "$@"; fi'
     said = auction.said(*solver(tmp_path, text))
     assert totals(auction.read("report.txt")) == TOTALS
-    for group, more in ((1, 62), (3, 20), (4, 20)):
+    for group, more in ((1, 62), (3, 20)):
         why = f"the answer of {tmp_path}/solver wasn't the best one: another brings {more} more"
         assert f"group {group}: {why}" in said
     assert auction.read("answers/3.txt") == b"X1_1 1\n" != auction.read("solutions/3.txt")
+    assert not auction.has("answers/4.txt")
+    assert auction.read("solutions/4.txt") == auction.read("solutions/3.txt")
 
 
 # no number, of other groups, none, one that hides and kills its parent, and one without an end
@@ -300,11 +305,14 @@ def test_ended_at_a_random_moment(auction, tmp_path, whole, turn):
 SNAKEMAKE = ["snakemake", "--snakefile", ROOT / "python/src/wdp/Snakefile", "--directory"]
 HOW = re.search("--directory cluster (.*) --config ", content("docs", "OFFICE.md"))[1].split()
 HOW += ["--config", "words=--ties"]
-BY_SLURM = ["--profile", ROOT / "python/src/wdp/slurm", "--config", "words=--ties"]
+# the page's command for Slurm, but for its options of steps
+BY_SLURM = re.search("(?m)^snakemake .* --profile .*$", content("docs", "OFFICE.md"))[0]
+BY_SLURM = BY_SLURM.replace("--solver cbc", "--ties")
 OFFICE = f'PYTHONPATH={ROOT}/python/src exec {sys.executable} -m wdp "$@"'
 STAND_INS = {
     "wdp-office": OFFICE,
-    "sbatch": 'for script; do :; done; python3 "$script"; echo $? > {0}/$$; echo $$',
+    # (Slurm doesn't make the folder of a job's output)
+    "sbatch": '[ -d logs ] || exit 1; for script; do :; done; python3 "$script"; echo $? > {0}/$$; echo $$',
     "scontrol": 'grep -q "^0$" {0}/$4 && state=COMPLETED || state=FAILED; echo "x JobState=$state x"',
 }
 
@@ -322,14 +330,87 @@ def by_snakemake(tmp_path):
     return begin
 
 
-@pytest.mark.parametrize("words", [[], BY_SLURM], ids=["cores", "slurm"])
-def test_snakemake_leaves_the_same_bytes(auction, whole, by_snakemake, words):
-    # (Snakemake hands the paths of jobs to a shell)
-    if words:
-        auction.where = auction.where.rename(auction.where.parent / "slurm")
-    seen = ended(by_snakemake(auction, *words))
+def test_snakemake_leaves_the_same_bytes(auction, whole, by_snakemake):
+    seen = ended(by_snakemake(auction))
     assert seen.status == 0, seen.out
     assert auction.outcome() == whole.outcome() and auction.has("results/results.html")
+
+
+def by_slurm(auction, tmp_path, **more):
+    """The page's command, in the tree, on an auction whose path a shell may read (Snakemake hands those of jobs to one)."""
+    auction.where = auction.where.rename(tmp_path / "slurm")
+    path = f"{tmp_path}:{os.environ['PATH']}"
+    how = {"cwd": ROOT, "stderr": subprocess.STDOUT, "env": auction.surroundings(PATH=path, **more)}
+    return ended(start(["sh", "-c", BY_SLURM.replace(" DIR ", f" {auction.where} ")], **how))
+
+
+@pytest.mark.usefixtures("by_snakemake")
+def test_the_command_for_slurm_with_stand_ins(auction, whole, tmp_path):
+    seen = by_slurm(auction, tmp_path)
+    assert seen.status == 0, seen.out
+    assert auction.outcome() == whole.outcome() and auction.has("results/results.html")
+
+
+SLURM = """ClusterName=wdp
+SlurmctldHost={host}(127.0.0.1)
+SlurmctldPort={ports[0]}
+SlurmdPort={ports[1]}
+SlurmUser=root
+AuthType=auth/none
+CredType=cred/none
+ProctrackType=proctrack/linuxproc
+TaskPlugin=task/none
+MpiDefault=none
+SelectType=select/cons_tres
+SelectTypeParameters=CR_CPU
+ReturnToService=2
+StateSaveLocation={folder}/state
+SlurmdSpoolDir={folder}/spool
+SlurmctldPidFile={folder}/slurmctld.pid
+SlurmdPidFile={folder}/slurmd.pid
+SlurmctldLogFile={folder}/slurmctld.log
+SlurmdLogFile={folder}/slurmd.log
+NodeName={host} NodeAddr=127.0.0.1 CPUs={processors} State=UNKNOWN
+PartitionName=all Nodes={host} Default=YES MaxTime=INFINITE State=UP
+"""
+
+
+@pytest.fixture
+def slurm(tmp_path):
+    """Slurm on this machine alone; the surroundings of its commands."""
+    folder = tmp_path / "of_slurm"
+    for name in ("state", "spool"):
+        (folder / name).mkdir(parents=True)
+    free = [socket.create_server(("127.0.0.1", 0)) for _ in range(2)]
+    ports = [it.getsockname()[1] for it in free]
+    for it in free:
+        it.close()
+    about = {"host": socket.gethostname().split(".")[0], "ports": ports, "folder": folder}
+    text = SLURM.format(processors=len(os.sched_getaffinity(0)), **about)
+    (folder / "slurm.conf").write_text(text)
+    more = {"SLURM_CONF": str(folder / "slurm.conf")}
+    surroundings = {**os.environ, **more}
+    daemons = [start([name, "-D"], env=surroundings) for name in ("slurmctld", "slurmd")]
+    try:
+        state = ["sinfo", "--noheader", "--format", "%T"]
+        wait_for(lambda: "idle" in ended(start(state, env=surroundings)).out, 60)
+        yield more
+    finally:
+        for daemon in reversed(daemons):
+            daemon.terminate()
+            daemon.communicate(timeout=60)
+
+
+if shutil.which("slurmctld") and os.getuid() == 0:
+
+    @pytest.mark.usefixtures("by_snakemake")
+    def test_the_command_for_slurm(auction, whole, tmp_path, slurm):
+        for name in ("sbatch", "scontrol"):
+            (tmp_path / name).unlink()
+        seen = by_slurm(auction, tmp_path, **slurm)
+        assert seen.status == 0, seen.out
+        assert auction.outcome() == whole.outcome() and auction.has("results/results.html")
+        assert list((auction.where / "logs").glob("slurm.*.log"))
 
 
 def test_a_second_run_of_snakemake_is_refused(auction, by_snakemake):

@@ -2,8 +2,8 @@
 import itertools
 from collections import namedtuple
 
-BIDDERS = ["Alpha", "Beta", "Gamma", "Delta"]
-CATEGORIES = "ABC"
+BIDDERS = "Alpha Beta Gamma Delta Epsilon Zeta Eta Theta Iota Kappa Lambda Mu Nu Xi".split()
+CATEGORIES = "ABCDEF"
 
 
 Bid, Pool = namedtuple("Bid", "amount package"), namedtuple("Pool", "cap weights")

@@ -5,20 +5,19 @@ The certificates decide: if a solver's answer isn't the best one, the search for
 import argparse
 import contextlib
 import json
+import math
 import os
 import secrets
 import shlex
-import shutil
-import sys
 import tempfile
-import time
-from collections.abc import Callable, Mapping, Sequence
-from dataclasses import dataclass
+from collections.abc import Callable, Collection, Iterator, Mapping, Sequence
+from dataclasses import dataclass, field
 from functools import partial
-from itertools import groupby
+from itertools import count, groupby
 from pathlib import Path
+from typing import TYPE_CHECKING
 
-from wdp import certify, files, prices, solve, steps
+from wdp import certify, files, groups, memory, prices, solve, steps
 from wdp.cli import reported
 from wdp.folder import INPUT, Folder
 from wdp.office.choices import checked
@@ -26,24 +25,25 @@ from wdp.office.faults import counted
 from wdp.program import Limits, answer, found_program
 from wdp.publish import command as publishing
 from wdp.steps import Step, Watch
-from wdp.texts import accepted, answers
-from wdp.texts.parts import MOST_OF_INPUT, groups_in, parts_of, with_groups
+from wdp.texts import accepted, answers, certificates
+from wdp.texts.parts import MOST_OF_INPUT, groups_in, names_in, parts_of, with_groups
 from wdp.texts.refusals import NotSolved, Refused, WrongWords, need
 from wdp.texts.zero_one import read_program, read_solution, solution_text
+from wdp.progress import Progress, Times, is_at_terminal
+
+if TYPE_CHECKING:
+    from wdp.certify.problem import Problem
 
 NAMES = "programs/names.txt"  # the names that each group leaves out; there once all programs are
+ROWS = "inequalities.txt"  # multipliers of rows that group 1's search found to be of use
 REPORT, AUDIT, UNIQUE, PRICES = "report.txt", "audit.txt", "unique.txt", "prices.txt"
 UNCERTIFIED, PAGE, RESULTS = "report.uncertified.txt", "page.json", "results"
 WRONG = 3  # the status if an answer can't be the best one
-PRINTED_EVERY = {True: 0.5, False: 30.0}  # seconds, at a terminal and elsewhere
+GIVEN_UP = 4  # that of a step whose search ended at its limit
 EPILOG = """Exit status: 0 everything is there; 1 something is refused or missing, and the next run goes on from there;
 2 the options are wrong; 3 without certificates, figures that contradict each other."""
 
 tool = "auction"  # which one messages are of; or `prices`
-
-
-def is_at_terminal() -> bool:
-    return bool(sys.stderr and sys.stderr.isatty())
 
 
 def say(text: str) -> None:
@@ -52,7 +52,21 @@ def say(text: str) -> None:
     files.say(tool, text)
 
 
-def of_group(kind: str, group: int) -> str:
+def percent(part: float) -> str:
+    """A part of a whole as people read it, rounded up.
+
+    >>> percent(0.00299), percent(0.0001), percent(1.0)
+    ('0.3 %', '0.1 %', '100 %')
+    """
+    return f"{math.ceil(1000 * part) / 10:g} %"
+
+
+def label(group: int) -> str:
+    """What messages call the step of a group."""
+    return f"group {group}"
+
+
+def of_group(kind: str, group: int | str) -> str:
     """The file that a step leaves of a group: its program, answer, solution or certificate."""
     return f"{kind}s/{group}.{'mps' if kind == 'program' else 'txt'}"
 
@@ -61,34 +75,24 @@ def part(head: str, *texts: bytes) -> bytes:
     return b"".join(b"%" + head.encode() + b"\n" + text for text in texts)
 
 
-def in_processes(work: Mapping[str, Step], jobs: int = 1, watch: Watch | None = None) -> int:
-    """Does steps by their names, each in a process of its own, and says why one failed; the status of the first that did."""
+def run_steps(
+    work: Mapping[str, Step],
+    jobs: int = 1,
+    watch: Watch | None = None,
+    after: Mapping[str, Collection[str]] | None = None,
+) -> dict[str, int]:
+    """Does steps by their names, each in a process of its own and `after` some others, and says why one failed; their statuses."""
     named = {name: partial(reported, say, name, step) for name, step in work.items()}
-    ended = steps.run(named, jobs, watch)
+    ended = steps.run(named, jobs, watch, after)
     for name, status in ended.items():
         if status < 0:
             say(f"{name or 'the run'}: the step was killed by signal {-status}")
-    return next((max(status, 1) for status in ended.values() if status), 0)
+    return ended
 
 
-def progress(count: int, left: int) -> Watch:
-    """Prints how far a run is: one line that is renewed at a terminal, few lines elsewhere."""
-    printed = time.monotonic()
-
-    def watch(ended: int, at_work: list[str]) -> None:
-        nonlocal printed
-        is_terminal = is_at_terminal()
-        if time.monotonic() - printed < PRINTED_EVERY[is_terminal]:
-            return
-        printed = time.monotonic()
-        text = f"{count - left + ended} of {counted(count, 'group')} done"
-        text += f"; at work: {', '.join(at_work[:8])}" if at_work else ""
-        if is_terminal:
-            files.tell("\r\x1b[K" + text[: shutil.get_terminal_size().columns - 1])
-        else:
-            say(text)
-
-    return watch
+def in_processes(work: Mapping[str, Step]) -> int:
+    """Does steps one after the other; the status of the first that failed."""
+    return next((max(status, 1) for status in run_steps(work).values() if status), 0)
 
 
 @dataclass
@@ -106,27 +110,33 @@ class Run(Folder):
     is_priced: bool
     page: dict[str, str | None] | None
     shows: Callable[[str], None]
+    first: "Problem | None" = field(default=None, init=False)
+    times: Times = field(default_factory=Times, init=False)
 
     def names(self) -> dict[int, str]:
         """The names that each group of the input leaves out, by the groups' numbers."""
-        return dict(enumerate(self.read(NAMES).decode("ascii").splitlines(), 1))
+        try:
+            lines = self.read(NAMES).decode("ascii").splitlines()
+        except UnicodeDecodeError:
+            why = "isn't what was left there: delete it to have it made again"
+            raise Refused(f"{self.path(NAMES)} {why}") from None
+        return dict(enumerate(lines, 1))
 
     def added(self) -> dict[int, str]:
-        """The groups that prices need besides those of the input: each winner alone, and what shows that the sum is the least."""
+        """The groups that prices need besides those of the input: each winner alone, and those that bind the prices."""
         names, first = self.names(), of_group("solution", 1)
         if not self.is_priced or not self.has(first):
             return {}
         if self.has(PRICES):
             added = groups_in(self.read(PRICES))
         else:
-            winners = prices.winners_in(self.read(INPUT), self.read(first))
-            added = [name for name in winners if name not in names.values()]
+            added = prices.alone_in(self.read(INPUT), self.read(first), [*names.values()])
         return dict(enumerate(added, len(names) + 1))
 
     def compile(self, added: Sequence[str] = ()) -> None:
         """The program of each group that has none, and last the names that the groups of the input leave out."""
-        count = len(self.names()) + len(added) if self.has(NAMES) else 0
-        if count and all(self.has(of_group("program", k)) for k in range(1, count + 1)):
+        number = len(self.names()) + len(added) if self.has(NAMES) else 0
+        if number and all(self.has(of_group("program", k)) for k in range(1, number + 1)):
             return
         text = with_groups(self.read(INPUT), added)
         limits, names = Limits(answers.Asked(text).most_of_programs), list[str]()
@@ -153,51 +163,167 @@ class Run(Folder):
         self.path("logs").mkdir(exist_ok=True)
         return self.path(f"logs/{name}.txt").absolute()
 
-    def answer(self, group: int, program: bytes) -> bytes:
-        """The solver's answer to a group's program: a point of it. Without certificates a solution counts as one."""
-        name, solution = of_group("answer", group), of_group("solution", group)
-        if not self.has(name) and self.has(solution) and not self.is_certified:
-            self.leave(name, self.read(solution))
-        elif not self.has(name):
-            self.leave(name, solve.point_of(program, self.solver, self.seconds, self.log_of(group)))
-        return self.read(name)
+    def answer(self, name: int | str, program: bytes) -> bytes:
+        """The solver's answer to a program, a point of it, which is kept by this name."""
+        kept = of_group("answer", name)
+        if not self.has(kept):
+            answer = solve.point_of(program, self.solver, self.seconds, self.log_of(name))
+            self.leave(kept, answer)
+        return self.read(kept)
+
+    def answer_alone(self, group: int, program: bytes) -> None:
+        """The solver's answer to a group's program if nothing certifies it; a solution that is there counts as one."""
+        kept, solution = of_group("answer", group), of_group("solution", group)
+        if not self.has(kept) and self.has(solution):
+            self.leave(kept, self.read(solution))
+        self.answer(group, program)
 
     def settle(self, group: int) -> None:
         """A solution of a group's program, and its certificate."""
         program = self.read(of_group("program", group))
-        solution, certificate = of_group("solution", group), of_group("certificate", group)
         if not self.is_certified:
-            self.answer(group, program)
+            self.answer_alone(group, program)
             return
+        solution, certificate = of_group("solution", group), of_group("certificate", group)
         if not self.has(certificate) or not self.has(solution):
-            try:
-                begin = self.answer(group, program)
-            except NotSolved as failed:
-                if failed.status != solve.TIME_OUT:
-                    raise
-                say(f"group {group}: {failed}; the search begins from nothing")
-                begin = solve.nothing(program)
-            with steps.ended_at_once():
-                found = certify.certified(program, begin, self.seconds)
-            if found.gain and self.has(of_group("answer", group)):
-                worse = f"the answer of {self.solver.split()[0]} wasn't the best one"
-                say(f"group {group}: {worse}: another brings {found.gain:,} more")
+            found = self.taken_over(group) or self.certified(group, program)
+            if group == 1:
+                self.leave(ROWS, found.rows.encode("ascii"))
             self.leave(solution, found.solution)
             self.leave(certificate, found.certificate)
         if group == 1 and self.is_only and not self.has(UNIQUE):
             with steps.ended_at_once():
-                only = certify.only(program, self.read(solution), self.seconds)
+                problem = self.problem_of(group, program)
+                problem.known_rows = self.known_rows()
+                only = problem.only(self.read(solution), self.seconds)
             self.leave(UNIQUE, part(only.claim, only.text))
 
+    def taken_over(self, group: int) -> certify.Certified | None:
+        """What shows a group that leaves out fewer, if its solution has no bid of the others: then no other is better here, and
+        the same lines show that."""
+        sets = self.sets()
+        for number in groups.smaller(sets, group):
+            solution, certificate = of_group("solution", number), of_group("certificate", number)
+            if not self.has(solution) or not self.has(certificate):
+                continue
+            more = self.numbers_of(sets[group] - sets[number])
+            point = self.read(solution)
+            if not certificates.has_bid_of(point, more):
+                text = certificates.without_bidders(self.read(certificate), more)
+                return certify.Certified(point, text, 0)
+        return None
+
+    def sets(self) -> dict[int, groups.Names]:
+        """The names that each group leaves out, those that prices need too."""
+        lines = {**self.names(), **self.added()}
+        return {number: groups.names_of(line) for number, line in lines.items()}
+
+    def numbers_of(self, names: groups.Names) -> set[int]:
+        """The numbers of bidders in the rules."""
+        parts = parts_of(self.read(INPUT))
+        rules = next(part.rows() for part in parts if part.kind == "rules")
+        return {at for at, name in enumerate(names_in(rules, "bidder"), 1) if name in names}
+
+    def problem_of(self, group: int, program: bytes) -> "Problem":
+        """The problem of a group, of which nothing is read if that of group 1 is there, with what that one's search found."""
+        problem = self.first
+        if problem is None:
+            problem = certify.read_problem(program)
+        elif left_out := self.sets()[group]:
+            problem = problem.without(self.numbers_of(left_out))
+        problem.known_rows = self.known_rows() if group != 1 else ""
+        return problem
+
+    def known_rows(self) -> str:
+        return self.read(ROWS).decode("ascii") if self.has(ROWS) else ""
+
+    def certified(self, group: int, program: bytes) -> certify.Certified:
+        """What a solver and the search for a certificate come to; it goes on where an earlier run gave up."""
+        from wdp.certify.search import LimitReached
+        from wdp.certify.settling import settle
+
+        def ask(turn: int, text: bytes | None) -> bytes | None:
+            name: int | str = f"{group}.{turn}" if turn else group
+            try:
+                return self.answer(name, program if text is None else text)
+            except NotSolved as failed:
+                if failed.status != solve.TIME_OUT:
+                    raise
+                say(f"group {group}: {failed}; the search begins from nothing")
+                return None
+
+        with steps.ended_at_once():
+            problem = self.problem_of(group, program)
+        best, tree = f"unfinished/{group}.best.txt", f"unfinished/{group}.txt"
+        try:
+            if self.has(best) and self.has(tree):
+                with steps.ended_at_once():
+                    earlier = self.read(tree).decode("ascii")
+                    found = problem.certified(self.read(best), self.seconds, earlier=earlier)
+            else:
+                found = settle(problem, ask, self.seconds, steps.ended_at_once)
+        except LimitReached as reached:
+            # (the tree shows as much of a better solution, but of a worse one it may show too little)
+            self.leave(best, reached.solution)
+            self.leave(tree, reached.tree.encode("ascii"))
+            near = f"within {percent(reached.part_missing())} of the greatest total, not proved"
+            limit = f"the search ended at its limit of {self.seconds} s"
+            raise NotSolved(f"{near}; {limit}", GIVEN_UP) from None
+        self.tell_better(group, problem, found)
+        return found
+
+    def tell_better(self, group: int, problem: "Problem", found: certify.Certified) -> None:
+        """Says if a solver that had the whole program gave an answer that isn't the best one."""
+        answer = of_group("answer", group)
+        if not self.has(answer):
+            return
+        gain = problem.objective(self.read(answer)) - problem.objective(found.solution)
+        if gain:
+            worse = f"the answer of {self.solver.split()[0]} wasn't the best one"
+            say(f"group {group}: {worse}: another brings {gain:,} more")
+
     def price(self) -> None:
-        """What the winners pay, with what shows it, and the groups that are added for it."""
-        names = {**self.names(), **self.added()}
-        solutions, listed = [self.read(of_group("solution", k)) for k in names], [*names.values()]
-        award = prices.Award(self.read(INPUT), self.read(of_group("program", 1)), solutions, listed)
-        how = self.solver, self.seconds, steps.ended_at_once, self.log_of("prices")
-        more, parts = award.priced(*how)
-        added = listed[len(self.names()) :] + more
-        self.leave(PRICES, parts + part("groups", "".join(f"{name}\n" for name in added).encode()))
+        """What the winners pay, with what shows it, and the groups that are added for it. What a run found that was cut is taken
+        over."""
+        alone = self.added()
+        names = {**self.names(), **alone}
+        solutions = [self.read(of_group("solution", group)) for group in names]
+        program = self.read(of_group("program", 1))
+        award = prices.Award(self.read(INPUT), program, solutions, [*names.values()])
+        award.problem.known_rows = self.known_rows()
+        kept = list(self.allocations())
+        for name in kept:
+            award.learn(self.read(name))
+        if kept and not self.quiet:
+            say(f"prices: {counted(len(kept), 'group')} found by an earlier run")
+        search = prices.Search(
+            award,
+            solver=self.solver,
+            seconds=self.seconds,
+            at_once=steps.ended_at_once,
+            log=self.log_of("prices"),
+            say=lambda text: None if self.quiet else say(f"prices: {text}"),
+            keep=self.keep,
+        )
+        priced = search.run()
+        if priced.limit is not None:
+            rounded = "rounded up to whole pounds they cover every group, and no more is shown"
+            say(f"exact prices are beyond a limit: {priced.limit}; {rounded}")
+        added = [*alone.values(), *priced.added]
+        lines = "".join(f"{names}\n" for names in added).encode()
+        self.leave(PRICES, priced.parts + part("groups", lines))
+
+    def allocations(self) -> Iterator[str]:
+        """The files of the allocations that the search for prices found, in its order."""
+        for number in count(1):
+            name = f"prices/{number}.txt"
+            if not self.has(name):
+                return
+            yield name
+
+    def keep(self, allocation: bytes) -> None:
+        """Keeps an allocation that the search for prices found."""
+        self.leave(f"prices/{len(list(self.allocations())) + 1}.txt", allocation)
 
     def report(self) -> None:
         """The report, with certificates the audit that `wdp verify` prints it of, and if a page is wanted the results."""
@@ -251,37 +377,73 @@ class Run(Folder):
         wanted += [UNIQUE] if self.is_only and group == 1 else []
         return all(self.has(name) and self.read(name) is not None for name in wanted)
 
-    def solved(self, groups: dict[int, str]) -> bool:
+    def solved(self, asked: dict[int, str]) -> bool:
         """Has each of these groups solved and certified that isn't yet; whether none is missing then."""
-        left = [group for group in groups if not self.is_done(group)]
-        if not self.quiet and (left or 1 in groups):
-            are_done = f"{counted(len(groups), 'group')}, {len(groups) - len(left)} done"
-            say(f"{are_done}, {self.jobs} at a time, by {self.solver.split()[0]}")
+        left = [group for group in asked if not self.is_done(group)]
         if self.is_certified and left:
-            with steps.signals_wait():
-                import wdp.certify.search  # noqa: F401  (read once for all steps)
-        work = {f"group {group}": partial(self.settle, group) for group in left}
-        in_processes(work, self.jobs, None if self.quiet else progress(len(groups), len(left)))
+            self.read_first()
+        columns = self.columns_of_first()
+        jobs = memory.jobs_that_fit(self.jobs, columns, memory.free())
+        if not self.quiet and (left or 1 in asked):
+            self.tell_begin(len(asked), len(left), columns, jobs)
+        after: dict[str, list[str]] = {}
+        if self.is_certified and left:
+            sets = self.sets()
+            before = {group: groups.smaller(sets, group) for group in left}
+            after = {label(group): [label(each) for each in before[group]] for group in left}
+        work = {label(group): partial(self.settle, group) for group in left}
+        watch = Progress(len(asked), len(left), self.times, say)
+        with self.times.of("groups" if 1 in asked else "groups for prices"):
+            ended = run_steps(work, jobs, None if self.quiet else watch, after)
         kind = "certificate" if self.is_certified else "answer"
-        missing = [f"{k} ({groups[k]})" for k in left if not self.has(of_group(kind, k))]
+        missing = [group for group in left if not self.has(of_group(kind, group))]
         if missing:
-            which = f"{len(missing)} of {len(groups)} groups are missing: {', '.join(missing)}"
-            say(f"no {'report' if 1 in groups else 'prices'}: {which}")
+            is_late = any(ended[label(group)] == GIVEN_UP for group in missing)
+            self.tell_missing(asked, missing, is_late)
         return not missing
+
+    def columns_of_first(self) -> int:
+        """How many columns group 1's program has; 0 if that isn't what was left, which its step says."""
+        with contextlib.suppress(Refused):
+            return self.read(of_group("program", 1)).count(b" OBJ ")
+        return 0
+
+    def tell_begin(self, count: int, left: int, columns: int, jobs: int) -> None:
+        are_done = f"{counted(count, 'group')}, {count - left} done"
+        how = f"{jobs} at a time, by {self.solver.split()[0]}"
+        size = f"; {'1 column' if columns == 1 else f'{columns:,} columns'} with nobody left out"
+        say(f"{are_done}, {how}{size if left else ''}")
+        if jobs < self.jobs and left > jobs:
+            say(f"{jobs} at a time and not {self.jobs}, for which there isn't memory enough")
+
+    def tell_missing(self, asked: dict[int, str], missing: list[int], is_late: bool) -> None:
+        """Names the groups that aren't done, and the option that would help."""
+        listed = ", ".join(f"{group} ({asked[group]})" for group in missing)
+        which = f"{len(missing)} of {len(asked)} groups are missing: {listed}"
+        hint = ""
+        if is_late and self.seconds:
+            hint = f"; run again, with --time-limit {2 * self.seconds} for twice the time"
+        say(f"no {'report' if 1 in asked else 'prices'}: {which}{hint}")
+
+    def read_first(self) -> None:
+        """Reads group 1's program once for all steps, and the modules. A step says itself what is wrong with its own program."""
+        with steps.signals_wait():
+            import wdp.certify.settling  # noqa: F401
+        with contextlib.suppress(Refused):
+            self.first = self.first or certify.read_problem(self.read(of_group("program", 1)))
 
     def priced(self) -> int:
         """Finds what the winners pay, and what shows it; 0 once all of it is there."""
         while True:
             added = self.added()
-            if len(self.names()) + len(added) > prices.MOST_GROUPS:
-                say(f"no prices: more than {prices.MOST_GROUPS:,} groups, with each winner alone")
-                return 1
             status = in_processes({"prices": partial(self.compile, list(added.values()))})
             if status or not self.solved(added):
                 return 1
             if self.has(PRICES):
                 return 0
-            if in_processes({"prices": self.price}):
+            with self.times.of("prices"):
+                status = in_processes({"prices": self.price})
+            if status:
                 say("no prices; the next run looks for them again, and --no-prices leaves them out")
                 return 1
 
@@ -291,12 +453,18 @@ class Run(Folder):
             raise Refused(f"{self.path(REPORT)} is certified; --no-certify needs another folder")
         if self.page is not None:
             self.keep_page(self.page)
-        if status := in_processes({"": self.compile}):
+        with self.times.of("programs"):
+            status = in_processes({"": self.compile})
+        if status:
             return status
         if not self.solved(self.names()):
             return 1
         is_unpriced = self.is_priced and self.priced()
-        return in_processes({"report": self.report}) or self.tell_end() or int(is_unpriced)
+        with self.times.of("report"):
+            status = in_processes({"report": self.report})
+        if not self.quiet:
+            say(f"it took {self.times.text()}")
+        return status or self.tell_end() or int(is_unpriced)
 
     def tell_end(self) -> int:
         """What is known of other winners, and last whether the totals are certified."""
@@ -368,15 +536,16 @@ class Run(Folder):
                     files.put(self.read(name), path)
                 return status
             finally:
-                shutil.rmtree(self.where, ignore_errors=True)
+                files.remove(self.where)
 
         try:
             return in_processes({"": in_place})
         finally:
-            shutil.rmtree(self.where, ignore_errors=True)
+            files.remove(self.where)
 
     def take_audit(self, audit: bytes) -> None:
-        """Puts what an audit has into the folder, as if steps had left it."""
+        """Puts what an audit has into the folder, as if steps had left it, but for its prices, which are found anew."""
+        audit = publishing.without_prices(audit)
         parts = list(parts_of(audit))
         publishing.judged(self.program, "verify", audit)
         self.take_input(b"".join(it.head + it.text for it in parts if it.kind in accepted.KINDS))

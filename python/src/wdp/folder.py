@@ -3,7 +3,6 @@ import contextlib
 import fcntl
 import hashlib
 import os
-import shutil
 import time
 from collections.abc import Iterator
 from dataclasses import dataclass
@@ -55,7 +54,8 @@ class Folder:
         """Takes an input, or the `input.txt` that is there. A folder that belongs to another one is refused: one in which a step
         left more than that, or nothing yet."""
         path = self.path(INPUT)
-        others = {*self.path("sums").rglob("*.sha256")} - {self.sum_path(INPUT)}
+        sums = [*self.path("sums").glob("*.sha256"), *self.path("sums").glob("*/*.sha256")]
+        others = set(sums) - {self.sum_path(INPUT)}
         another = Refused(f"{path} is another input; take another folder")
         if data is None or path.exists():
             there = files.read(str(path), MOST, regular=True)
@@ -93,18 +93,18 @@ class Folder:
     @contextlib.contextmanager
     def scratch(self) -> Iterator[None]:
         """Takes away what a run that was killed didn't finish. What is temporary then goes into the folder."""
-        where = self.path(".running")
-        for path in (where, *self.where.rglob(files.WRITING + "*")):
-            if path.is_dir() and not path.is_symlink():
-                shutil.rmtree(path, ignore_errors=path == where)
-            else:
-                path.unlink(missing_ok=True)
+        where = self.path(".running").absolute()
+        files.remove(where)
+        # (a file is written in the folder, in one in it, or in one of `sums`)
+        for depth in ("", "*/", "*/*/"):
+            for path in self.where.glob(f"{depth}{files.WRITING}*"):
+                files.remove(path)
         where.mkdir(exist_ok=True)
         os.environ["TMPDIR"] = str(where)
         try:
             yield
         finally:
-            shutil.rmtree(where, ignore_errors=True)
+            files.remove(where)
 
 
 def sum_line(name: str, data: bytes) -> bytes:

@@ -1,4 +1,4 @@
-"""Points of 0-1 programs: from cbc, from HiGHS in this process, or from any other solver by a command.
+"""Points of 0-1 programs: from cbc, from HiGHS, or from any other solver by a command.
 
 Nothing that a solver says of its answer counts. Its point is compared with the program, exactly; that there is no better
 one is for a certificate to show (wdp.certify).
@@ -11,16 +11,13 @@ import shlex
 import shutil
 import signal
 import sys
-import tempfile
 from pathlib import Path
 
 from wdp import files, steps
 from wdp.office.choices import checked
 from wdp.program import Limits, answer, found_program, ran, signal_named
-from wdp.results import Matrix
 from wdp.texts.refusals import NotFound, NotSolved, Refused, WrongWords, need
-from wdp.texts.zero_one import AT_LEAST, AT_MOST, ZeroOne
-from wdp.texts.zero_one import read_program, read_solution, solution_text
+from wdp.texts.zero_one import ZeroOne, read_program, read_solution, solution_text
 
 FAILED, NO_POINT, TIME_OUT, KILLED = 1, 3, 4, 5  # the statuses of `wdp-office solve`
 MOST_OF_ANSWER = 32 * 1024 * 1024  # bytes of any file that a solver writes
@@ -28,6 +25,7 @@ MOST_OF_PROGRAM = 1024 * 1024 * 1024
 FILES = {"mps": "program.mps", "free": "free.mps", "out": "solution.txt"}
 PLACE = re.compile(r"\{([^{}]*)\}")  # of these files, and of the `seconds`
 CBC = "cbc {free} -sec {seconds} -timeMode elapsed -solve -solu {out}"
+HIGHS = "{mps} {out} {seconds}"  # of highs.py, which Python runs
 CBC_LINE = re.compile(r"(?:\*\*)? *[0-9]+ +(\S+) +(\S+) +\S+ *")
 LONGEST_GRACE = 25  # seconds by which a solver may overstep its limit
 
@@ -43,6 +41,8 @@ def checked_solver(solver: str | None) -> str:
 
 def command_words(solver: str) -> list[str]:
     """The words by which a solver is called, with places in them, but for the first one."""
+    if solver == "highs":
+        return [sys.executable, str(Path(__file__).with_name("highs.py")), *HIGHS.split()]
     try:
         words = shlex.split(CBC if solver == "cbc" else solver)
     except ValueError as error:
@@ -76,20 +76,29 @@ def point_of(
     whose status is 4 if the solver has none when its time is over, and 3 if there is none."""
     program = read_program(text)
     if not program.columns:
+        if broken := program.fault_of(set()):
+            raise NotSolved(f"there is no solution: {broken}", NO_POINT)
         return b""
     if solver == "highs":
-        name, answer = "HiGHS", solution_text(by_highs(program, seconds), program)
-    else:
-        name = os.path.basename(command_words(solver)[0])
-        with tempfile.TemporaryDirectory(prefix="solve.") as folder:
-            printed = log or Path(folder, "printed.txt")
-            answer = answer_of(text, solver, seconds, Path(folder), printed)
-    return solution_text(read_solution(answer, program, f"the answer of {name}"), program)
+        need("HiGHS", "numpy", "scipy")
+    with files.temporary_folder("solve.") as folder:
+        printed = log or folder / "printed.txt"
+        answer = answer_of(text, solver, seconds, folder, printed)
+    source = f"the answer of {name_of(solver)}"
+    return solution_text(read_solution(answer, program, source), program)
+
+
+def name_of(solver: str) -> str:
+    """What messages call a solver."""
+    return "HiGHS" if solver == "highs" else os.path.basename(command_words(solver)[0])
 
 
 def nothing(text: bytes) -> bytes:
     """The point of a program at which all columns are 0 that may be. Refused if it isn't feasible."""
-    program = read_program(text)
+    return nothing_of(read_program(text))
+
+
+def nothing_of(program: ZeroOne) -> bytes:
     ones = {place for place, column in enumerate(program.columns) if column.lower == 1}
     if broken := program.fault_of(ones):
         raise Refused(f"no point is known to begin with: {broken}")
@@ -98,12 +107,17 @@ def nothing(text: bytes) -> bytes:
 
 def answer_of(text: bytes, solver: str, limit: float | None, folder: Path, log: Path) -> bytes:
     """The answer of a solver that is called as a program, of which nothing is left. It may overstep its limit by some seconds."""
-    words, seconds = command_words(solver), limit and math.ceil(limit)
-    name = os.path.basename(words[0])
+    words = command_words(solver)
+    seconds = limit and math.ceil(limit)
+    name = name_of(solver)
     paths = {place: str(folder / file) for place, file in FILES.items()}
     files.write_all({paths["mps"]: text, paths["free"]: free_text(text)})
+    # (cbc takes a path with % for a pattern, and it is called in the folder)
+    known = dict(FILES if solver == "cbc" else paths)
+    if seconds:
+        known["seconds"] = str(seconds)
     guarded = [sys.executable, "-IS", steps.__file__, str(os.getpid()), str(MOST_OF_ANSWER)]
-    guarded += filled(words, {**paths, **({"seconds": str(seconds)} if seconds else {})})
+    guarded += filled(words, known)
     late = seconds and seconds + min(LONGEST_GRACE, 5 + seconds // 10)
     limits = Limits(MOST_OF_ANSWER, late, signal.SIGTERM)
     with open(log, "wb+") as printed:
@@ -115,6 +129,8 @@ def answer_of(text: bytes, solver: str, limit: float | None, folder: Path, log: 
         raise NotSolved(f"{name} wrote more than {MOST_OF_ANSWER >> 20} MiB", KILLED)
     if ended.status < 0:
         raise NotSolved(f"{name} was killed by signal {signal_named(-ended.status)}", KILLED)
+    if ended.status in (NO_POINT, TIME_OUT) and solver == "highs":
+        raise NotSolved(said, ended.status)
     if ended.status:
         raise NotSolved(f"{name} ended with status {ended.status}: {said}", FAILED)
     is_file = os.path.lexists(paths["out"])
@@ -140,30 +156,6 @@ def of_cbc(answer: bytes) -> bytes:
     if None in found:
         raise Refused(f"cbc's answer has a line that isn't understood: {lines[found.index(None)]}")
     return "".join(f"{each[1]} {each[2]}\n" for each in found if each).encode()
-
-
-def by_highs(program: ZeroOne, seconds: float | None) -> set[int]:
-    """The columns at 1 of the best point that HiGHS finds, as scipy has it."""
-    need("HiGHS", "numpy", "scipy")
-    import numpy as np
-    from scipy.optimize import Bounds, LinearConstraint, milp
-
-    matrix = Matrix.of(program)
-    kinds, right = np.array(matrix.senses), np.array(matrix.right_sides, float)
-    low = np.where(kinds == AT_MOST, -np.inf, right)
-    high = np.where(kinds == AT_LEAST, np.inf, right)
-    rows = [LinearConstraint(matrix.entries.astype(float), low, high)] if len(right) else []
-    found = milp(
-        [0.0 if column.is_fixed else float(column.cost) for column in program.columns],
-        integrality=np.ones(len(matrix.columns)),
-        bounds=Bounds(matrix.lower, matrix.upper),
-        constraints=rows,
-        options={"mip_rel_gap": 0.0, "time_limit": seconds or math.inf},
-    )
-    if found.x is None:
-        status = TIME_OUT if found.status == 1 else NO_POINT
-        raise NotSolved(f"HiGHS has no solution: {found.message}", status)
-    return {place for place, value in enumerate(found.x) if value > 0.5}
 
 
 SECONDS = checked("number of seconds, 1 at least,", int, lambda n: 1 <= n < 10**8)

@@ -2,8 +2,9 @@
 
 usage: python3 -IS steps.py PARENT BYTES WORDS..
 
-Runs a program so. PARENT is the process that asks; when that ends, or by SIGTERM, the program is ended. No file that it
-writes gets more than BYTES. The status is the program's own; 127 if it can't be started.
+Runs a program so. PARENT is the process that asks; when that ends, or by SIGTERM, the program is ended, and if PARENT has
+ended, the folder in which it ran, if its name begins with `solve.`, is taken away. No file that it writes gets more than BYTES.
+The status is the program's own; 127 if it can't be started.
 """
 import ctypes
 import os
@@ -12,7 +13,7 @@ import signal
 import sys
 import time
 import traceback
-from collections.abc import Callable, Iterator, Mapping
+from collections.abc import Callable, Collection, Iterator, Mapping
 from contextlib import contextmanager, suppress
 from pathlib import Path
 
@@ -67,40 +68,65 @@ def signals_wait() -> Iterator[None]:
 
 
 def forked(step: Step) -> int:
-    parent, process, status = os.getpid(), os.fork(), 1
-    if process:
-        return process
+    """Does a step in a process of its own, which ends whatever goes wrong; its number."""
+    parent = os.getpid()
+    process = os.fork()
+    if not process:
+        status = 1
+        try:
+            status = status_of(step, parent)
+        finally:
+            os._exit(status)
+    return process
+
+
+def status_of(step: Step, parent: int) -> int:
+    """What a step comes to in its process."""
     try:
         try:
             end_by(interrupt, signal.SIGTERM)
             prctl(PR_SET_CHILD_SUBREAPER, 1)
             signal.pthread_sigmask(signal.SIG_SETMASK, [])
-            if os.getppid() == parent:
-                status = step() or 0
+            return (step() or 0) if os.getppid() == parent else 1
         finally:
             end_all()
     except KeyboardInterrupt:
-        status = INTERRUPTED
+        return INTERRUPTED
     except BaseException:
-        traceback.print_exc()
-    finally:
-        sys.stderr.flush()
-        os._exit(status)
+        if sys.stderr is not None:
+            traceback.print_exc()
+            sys.stderr.flush()
+        return 1
 
 
-def run(steps: Mapping[str, Step], jobs: int = 1, watch: Watch | None = None) -> dict[str, int]:
-    """The statuses of steps by their names, below 0 if a signal ended one. At most `jobs` run at a time; `watch` gets now
-    and then how many have ended, and which are at work. What ends this ends them all, and whatever they started.
+def heed_children() -> None:
+    """Has the ends of children kept, which a parent may have had ignored."""
+    if signal.getsignal(signal.SIGCHLD) == signal.SIG_IGN:
+        signal.signal(signal.SIGCHLD, signal.SIG_DFL)
+
+
+def run(
+    steps: Mapping[str, Step],
+    jobs: int = 1,
+    watch: Watch | None = None,
+    after: Mapping[str, Collection[str]] | None = None,
+) -> dict[str, int]:
+    """The statuses of steps by their names, below 0 if a signal ended one. At most `jobs` run at a time, each `after` those that
+    it waits for, however these end; `watch` gets now and then how many have ended, and which are at work. What ends this ends
+    them all, and whatever they started.
     """
-    waiting = list(steps)[::-1]
+    waiting = dict.fromkeys(steps)
+    before = {name: set(names) & steps.keys() for name, names in (after or {}).items()}
     at_work: dict[int, str] = {}
     ended: dict[str, int] = {}
     prctl(PR_SET_CHILD_SUBREAPER, 1)
+    heed_children()
     with signals_wait():
         try:
             while waiting or at_work:
-                while waiting and len(at_work) < jobs:
-                    name = waiting.pop()
+                ready = [name for name in waiting if before.get(name, set()) <= ended.keys()]
+                for name in ready[: jobs - len(at_work)]:
+                    del waiting[name]
                     at_work[forked(steps[name])] = name
                 came = signal.sigtimedwait(ENDINGS | {signal.SIGCHLD}, LOOK_EVERY)
                 if came and came.si_signo != signal.SIGCHLD:
@@ -174,5 +200,16 @@ def main(parent: int, most: int, words: list[str]) -> int:
     return status
 
 
+def clear_after(parent: int) -> None:
+    """Takes away the folder that a parent made for this, and can't take away any more."""
+    folder = os.getcwd()
+    if os.getppid() != parent and os.path.basename(folder).startswith("solve."):
+        os.chdir("/")
+        os.execvp("rm", ["rm", "-rf", "--", folder])
+
+
 if __name__ == "__main__":
-    sys.exit(main(int(sys.argv[1]), int(sys.argv[2]), sys.argv[3:]))
+    asking = int(sys.argv[1])
+    ended = main(asking, int(sys.argv[2]), sys.argv[3:])
+    clear_after(asking)
+    sys.exit(ended)

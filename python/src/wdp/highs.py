@@ -1,0 +1,59 @@
+"""HiGHS, as scipy has it, in a process of its own: its threads don't outlive a fork, and nothing else ends them.
+
+usage: python3 highs.py PROGRAM.mps SOLUTION [SECONDS]
+
+Writes the best point that is found. The status is that of `wdp-office solve`, and the last line on standard error says why
+there is no point.
+"""
+import math
+import os
+import sys
+
+if not __package__:
+    sys.path[0] = os.path.dirname(os.path.dirname(os.path.realpath(__file__)))
+
+from wdp import files  # noqa: E402
+from wdp.results import Matrix  # noqa: E402
+from wdp.solve import MOST_OF_PROGRAM, NO_POINT, TIME_OUT  # noqa: E402
+from wdp.texts.refusals import NotSolved  # noqa: E402
+from wdp.texts.zero_one import AT_LEAST, AT_MOST, ZeroOne  # noqa: E402
+from wdp.texts.zero_one import read_program, solution_text  # noqa: E402
+
+
+def solved(program: ZeroOne, seconds: float) -> set[int]:
+    """The columns at 1 of the best point that is found."""
+    import numpy as np
+    from scipy.optimize import Bounds, LinearConstraint, milp
+
+    matrix = Matrix.of(program)
+    kinds = np.array(matrix.senses)
+    right = np.array(matrix.right_sides, float)
+    low = np.where(kinds == AT_MOST, -np.inf, right)
+    high = np.where(kinds == AT_LEAST, np.inf, right)
+    rows = [LinearConstraint(matrix.entries.astype(float), low, high)] if len(right) else []
+    found = milp(
+        [0.0 if column.is_fixed else float(column.cost) for column in program.columns],
+        integrality=np.ones(len(matrix.columns)),
+        bounds=Bounds(matrix.lower, matrix.upper),
+        constraints=rows,
+        options={"mip_rel_gap": 0.0, "time_limit": seconds},
+    )
+    if found.x is None:
+        status = TIME_OUT if found.status == 1 else NO_POINT
+        raise NotSolved(f"HiGHS has no solution: {found.message}", status)
+    return {place for place, value in enumerate(found.x) if value > 0.5}
+
+
+def main(mps: str, out: str, seconds: str = "inf") -> int:
+    program = read_program(files.read(mps, MOST_OF_PROGRAM))
+    try:
+        ones = solved(program, math.inf if seconds == "inf" else float(seconds))
+    except NotSolved as failed:
+        files.tell(f"{failed.text}\n")
+        return failed.status
+    files.write_all({out: solution_text(ones, program)})
+    return 0
+
+
+if __name__ == "__main__":
+    sys.exit(main(*sys.argv[1:]))

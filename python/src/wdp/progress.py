@@ -1,0 +1,89 @@
+"""What a run says of its time: how far it is, and which step took how long."""
+import shutil
+import sys
+import time
+from collections.abc import Callable, Iterator
+from contextlib import contextmanager
+from dataclasses import dataclass, field
+
+from wdp import files
+from wdp.office.faults import counted
+
+PRINTED_EVERY = {True: 0.5, False: 30.0}  # seconds, at a terminal and elsewhere
+
+Say = Callable[[str], None]
+
+
+def is_at_terminal() -> bool:
+    return bool(sys.stderr and sys.stderr.isatty())
+
+
+def in_words(seconds: float) -> str:
+    """A time as people read it.
+
+    >>> in_words(0.04), in_words(7.26), in_words(83), in_words(7290)
+    ('0 s', '7.3 s', '83 s', '122 min')
+    """
+    if seconds >= 600:
+        return f"{seconds / 60:.0f} min"
+    return f"{seconds:.0f} s" if seconds >= 10 or seconds < 0.05 else f"{seconds:.1f} s"
+
+
+@dataclass
+class Times:
+    """The elapsed time of each kind of step, in seconds, and the step that took longest."""
+
+    seconds: dict[str, float] = field(default_factory=dict)
+    longest: str = ""
+    of_longest: float = 0.0
+
+    @contextmanager
+    def of(self, kind: str) -> Iterator[None]:
+        """Counts what is done within this for a kind of step."""
+        begun = time.monotonic()
+        try:
+            yield
+        finally:
+            self.seconds[kind] = self.seconds.get(kind, 0.0) + time.monotonic() - begun
+
+    def take(self, name: str, seconds: float) -> None:
+        """Takes the time of one step."""
+        if seconds > self.of_longest:
+            self.longest = name
+            self.of_longest = seconds
+
+    def text(self) -> str:
+        parts = [f"{kind} {in_words(seconds)}" for kind, seconds in self.seconds.items()]
+        longest = (
+            f"; the longest, {self.longest}: {in_words(self.of_longest)}" if self.longest else ""
+        )
+        return f"{in_words(sum(self.seconds.values()))}: {', '.join(parts)}{longest}"
+
+
+class Progress:
+    """Prints how far a run is, one line that is renewed at a terminal, few lines elsewhere; and counts the time of each step."""
+
+    def __init__(self, count: int, left: int, times: Times, say: Say) -> None:
+        self.count = count
+        self.left = left
+        self.times = times
+        self.say = say
+        self.printed = time.monotonic()
+        self.begun: dict[str, float] = {}
+
+    def __call__(self, ended: int, at_work: list[str]) -> None:
+        now = time.monotonic()
+        for name in self.begun.keys() - at_work:
+            self.times.take(name, now - self.begun.pop(name))
+        for name in at_work:
+            self.begun.setdefault(name, now)
+        is_terminal = is_at_terminal()
+        if now - self.printed < PRINTED_EVERY[is_terminal]:
+            return
+        self.printed = now
+        text = f"{self.count - self.left + ended} of {counted(self.count, 'group')} done"
+        text += f"; at work: {', '.join(at_work[:8])}" if at_work else ""
+        if is_terminal:
+            files.tell("\r\x1b[K" + text[: shutil.get_terminal_size().columns - 1])
+        else:
+            self.say(text)
