@@ -1,5 +1,8 @@
 """An office's files joined into one input, and the receipt. (test_runs.py has what is asked of the office, and what is refused.)"""
+import contextlib
+import hashlib
 import os
+import random
 import re
 import zipfile
 from datetime import date
@@ -7,9 +10,13 @@ from pathlib import Path
 
 import openpyxl
 import pytest
-from commands import BIDDERS, BY_HAND, small_files, stopped, without
+import workbooks
+from commands import BIDDERS, BY_HAND, content, rows, run, small_files, stopped
 
-from wdp.office.reading import words_of
+import wdp
+from wdp.files import Unreadable
+from wdp.office.sheets import table_of
+from wdp.office.versions import last_of, time_of
 
 DIGITS = "; write digits alone"
 
@@ -30,10 +37,54 @@ def test_nine_exports_join_to_the_text_made_by_hand(office):
         assert joined.split("%groups\n")[1].split() == ["-", *groups]
 
 
+LINE = re.compile(r"(\w+): file (.*?), .*?, SHA-256 (\w+); its part in the input SHA-256 (\w+)(?:; (.*))?")
+
+
+def test_the_receipt_has_both_digests_and_parts_are_written(office):
+    """A part's bytes are those between the heads of the input, and differ from the file's only if a change is named."""
+    parts = office.folder / "parts"
+    words = ["--output", office.folder / "input.txt", "--parts", parts]
+    seen = office.gather(*words)
+    assert seen.status == 0, seen.err
+    texts = re.split(rb"(?m)^%(?:rules|form|groups)\n", (office.folder / "input.txt").read_bytes())
+    lines = [LINE.fullmatch(line) for line in seen.err.split("\n\n")[0].splitlines()[:-1]]
+    for line, text in zip(lines, texts[1:], strict=True):
+        name, path, of_file, of_part, changes = line.groups()
+        assert of_file == hashlib.sha256(Path(path).read_bytes()).hexdigest()
+        assert of_part == hashlib.sha256(text).hexdigest()
+        assert changes or of_file == of_part
+        if name != "groups":
+            assert (parts / ("%rules.csv" if name == "rules" else f"{name}.csv")).read_bytes() == text
+    assert len(list(parts.iterdir())) == len(BIDDERS) + 1
+    # it is written anew, but no other file is lost
+    assert office.gather(*words).status == 0
+    (parts / "mine.txt").write_text("kept")
+    stopped(office.gather(*words), "it has other files, as mine.txt")
+    for folder in (office.forms, office.folder, office.forms / "parts", "-"):
+        seen = office.gather("--parts", folder)
+        stopped(seen, "has other files, or is read in the next run; name a new folder", status=2)
+
+
+PIECES = ["a", "1", "12", "%x", "\ufeff", ",", ";", "\t", '"', '""', '"a,b"', " ", "\n", "\r\n", "\r", "\n\n"]
+
+
+def test_no_change_of_a_table_goes_without_a_word():
+    draw = random.Random(1)
+    changed = 0
+    for _ in range(20_000):
+        data = "".join(draw.choices(PIECES, k=draw.randint(1, 12))).encode()
+        with contextlib.suppress(Unreadable):
+            file = table_of("a.csv", data, 100).trim(draw.randint(1, 3))
+            if not file.faults and file.text != data:
+                assert file.changes, data
+                changed += 1
+    assert changed > 1000
+
+
 def test_times_have_no_last_year():
     # (no file system here has such times; 400 years have 146,097 days)
-    assert words_of(21 * 146_097 * 86_400 * 10**9) == "10370-01-01 00:00:00.000000000"
-    assert words_of(10**40) == f"{10**31} s after 1970-01-01.000000000"
+    assert time_of(21 * 146_097 * 86_400 * 10**9) == "10370-01-01 00:00:00.000000000"
+    assert time_of(10**40) == f"{10**31} s after 1970-01-01.000000000"
 
 
 def test_both_files_are_written_or_neither_and_a_link_stays_one(office):
@@ -81,7 +132,7 @@ NO_DIGITS = "isn't 1 to 18 digits"
 CELLS = [
     (1300.5, f"'1300.5' {NO_DIGITS}: it has a point{DIGITS}"),
     ("many", f"'many' {NO_DIGITS}"),
-    (True, f"'True' {NO_DIGITS}"),
+    (True, f"'TRUE' {NO_DIGITS}"),
     (1e17, f"'1e+17' {NO_DIGITS}: it is in scientific notation, as spreadsheets show wide numbers"),
     (None, f"'' {NO_DIGITS}: the field is empty"),
     (-5000, f"'-5000' {NO_DIGITS}: it has a minus sign{DIGITS}"),
@@ -104,11 +155,12 @@ def test_workbooks(office, workbook):
     assert seen.out == BY_HAND, seen.err
     assert "1 formula taken by their stored values: A2" in seen.err
     workbook(SHEET, more=["Final"])
-    assert office.gather("--sheet", "Final").out == BY_HAND
+    why = "its sheet 'Final' begins as a form does, too; say --sheet NAME for the one that counts"
+    assert office.refused() == [f"forms/Fox.xlsx: {why}"]
+    for name in ("Bids", "Final"):
+        assert office.gather("--sheet", name).out == BY_HAND
     why = "it has no sheet 'final', but 'Bids', 'Final'"
     assert office.refused("--sheet", "final") == [f"forms/Fox.xlsx: {why}"]
-    why = "Fox.xlsx: it is a workbook, which needs openpyxl: apt-get install -y python3-openpyxl"
-    stopped(office.gather(**without("openpyxl", office.folder)), why)
     for value, why in CELLS:
         workbook([SHEET[0], SHEET[1], [value, 4, 0]])
         (line,) = office.refused()
@@ -116,15 +168,68 @@ def test_workbooks(office, workbook):
 
 
 HARM = [
-    (b"<sheetData>", b"<sheetData>" + b" " * 2**27, "of more than 67,108,864 bytes, unpacked"),
-    (b'r="C4"', b'r="XFD4"', "in row 4 it has a cell beyond the first 1,000"),
-    (b"<v>5000</v>", b"<v>x</v>", "it is no workbook that can be read: ValueError"),
-    (b"<sheetData>", b"<sheetData", "it is no workbook that can be read: ParseError"),
+    (b"<sheetData>", b"<sheetData>" + b" " * 2**27, ": of more than 67,108,864 bytes, unpacked"),
+    (b'r="C4"', b'r="XFD4"', ":Bids!XFD4: it is beyond the first 1,000 cells of its row"),
+    (b"<v>5000</v>", b"<v>x</v>", f":Bids!A2: 'x' {NO_DIGITS}"),
+    (b"<v>5000</v>", b"<v>1_0</v>", f":Bids!A2: '1_0' {NO_DIGITS}"),
+    (b"<sheetData>", b"<sheetData", ": its XML is broken: not well-formed"),
 ]
 
 
-@pytest.mark.parametrize("old, new, why", HARM, ids=["bomb", "wide", "letters", "torn"])
+@pytest.mark.parametrize("old, new, why", HARM, ids=["bomb", "wide", "letters", "dash", "torn"])
 def test_a_workbook_made_to_harm(office, workbook, old, new, why):
     workbook(SHEET, old, new)
     (line,) = office.refused()
-    assert line.startswith("forms/Fox.xlsx: ") and line.endswith(why)
+    place, words = why.rsplit(": ", 1)
+    assert line.startswith(f"forms/Fox.xlsx{place}: ") and words in line
+
+
+@pytest.mark.parametrize("name, wanted", rows(content("fixtures", "office", "workbooks.txt")))
+def test_workbooks_that_were_made(name, wanted):
+    """Each is read as a spreadsheet shows it, or refused with the cell, in a moment."""
+    assert workbooks.outcome(workbooks.made(name)) == wanted
+
+
+def test_there_are_enough_of_each_kind():
+    listed = [name.rpartition("_")[0] for name, _ in rows(content("fixtures", "office", "workbooks.txt"))]
+    assert len(workbooks.all_names()) >= 300
+    for kind in workbooks.KINDS:
+        assert listed.count(kind.__name__) >= 3, kind
+
+
+def test_a_hidden_sheet_is_settled_by_the_name_of_the_one_that_counts(office):
+    (office.forms / "Fox.csv").unlink()
+    (office.forms / "Fox.xlsx").write_bytes(workbooks.made("hidden_00"))
+    assert office.gather("--sheet", "Final").out == BY_HAND
+    why = "forms/Fox.xlsx: its sheet 'Bids' is hidden; show it if it counts"
+    assert office.refused("--sheet", "Bids") == [why]
+
+
+PAIRS = rows(content("fixtures", "office", "versions.txt"))
+
+
+@pytest.mark.parametrize("bidder, one, other, wanted", PAIRS, ids=[" ".join(it[1:3]) for it in PAIRS])
+def test_which_of_two_files_is_the_last_one_by_their_names(bidder, one, other, wanted):
+    try:
+        found = str(1 + last_of([one, other], bidder, "name").place)
+    except wdp.Refused:
+        found = "?"
+    assert found == wanted and len(PAIRS) >= 200
+
+
+def test_rules_may_be_a_workbook(office, tmp_path):
+    """Read like a form, also for blank forms; what is wrong has its cell."""
+    lines = (line.split(",") for line in office.rules.read_text().split())
+    sheet = [[int(it) if it.isdecimal() else it or None for it in line] for line in lines]
+    office.rules = office.folder / "rules.xlsx"
+    office.files = office.rules, office.forms, office.groups
+    office.rules.write_bytes(workbooks.written(sheet))
+    seen = office.gather()
+    assert seen.out == BY_HAND and "; read from sheet Bids" in seen.err, seen.err
+    assert run("form", office.rules, "--output", tmp_path / "blank").status == 0
+    office.rules.write_bytes(workbooks.written(sheet, workbooks.hide_row))
+    (line,) = office.refused()
+    assert line.startswith("rules.xlsx:Bids!A3: its row is hidden")
+    sheet[1][2] = "4"
+    office.rules.write_bytes(workbooks.written(sheet))
+    assert office.refused() == ["rules.xlsx:Bids!C2: '4' is a text; turn it into a number"]

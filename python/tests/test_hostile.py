@@ -100,11 +100,11 @@ def test_large_and_full(program, monkeypatch, tmp_path):
     fails(large.compile, wdp.Refused, "^wdp: form 1: 1 TooLarge$")
     (tmp_path / "rules.csv").write_text(rules)
     (tmp_path / "form.csv").write_bytes(b"Alpha,A,B\n" + b"30,1,0\n" * 7_000_000)
-    large = wdp.Auction.from_files(tmp_path / "rules.csv", [tmp_path / "form.csv"])
-    fails(large.compile, wdp.Refused, "^wdp: form 1: 1 TooLarge$")
+    large = lambda: wdp.Auction.from_files(tmp_path / "rules.csv", [tmp_path / "form.csv"])  # noqa: E731
+    fails(large, wdp.Refused, "^form 1: .*form.csv: it has more than 8,388,610 bytes$")
     os.truncate(tmp_path / "form.csv", 2**40)
     sparse = lambda: wdp.Auction.from_files(tmp_path / "form.csv", [])  # noqa: E731
-    fails(sparse, wdp.Refused, "more than 134,217,728 bytes$")
+    fails(sparse, wdp.Refused, "more than 8,388,610 bytes$")
     full = lambda: open("/dev/full", "r+b", buffering=0)  # noqa: E731
     monkeypatch.setattr("wdp.program.tempfile.TemporaryFile", full)
     why = "can't be given its input, or its answer can't be read: No space left on device$"
@@ -174,8 +174,8 @@ def test_no_answer_is_taken_for_another(pytestconfig):
     """An answer that was changed is refused, or means something else: nothing of it is passed over."""
     draw, taken, audit = random.Random(7), 0, content("examples", "prices.txt")
     verified = output(pytestconfig.option.wdp, "verify", audit.encode())
-    own, prices, cover, weights = re.split("%(?:prices|cover|weights)\n", audit)
-    more = {"prices": prices, "cover": cover, "weights": weights}
+    own, prices, cover, rule = re.split("%(?:prices|cover|rule)\n", audit)
+    more = {"prices": prices, "cover": cover, "rule": rule}
     report = wdp.Auction.from_text(own).verify([], [], **more)
     assert report == read_report(verified, Asked(audit.encode()), True) and report.is_certified
     asked = Asked(f"{audit}%tie\n".encode())

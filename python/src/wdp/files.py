@@ -2,9 +2,10 @@
 import contextlib
 import os
 import secrets
-import shutil
 import stat
+import subprocess
 import sys
+import tempfile
 from collections.abc import Iterable, Iterator, Mapping
 from pathlib import Path
 from typing import BinaryIO
@@ -67,7 +68,9 @@ def check_kind(path: str, status: os.stat_result) -> None:
 def up_to(file: BinaryIO, path: str, most: int) -> bytes:
     """The rest of a file. One that has too much by its size isn't read."""
     before = os.fstat(file.fileno())
-    data = file.read(most + 1) if before.st_size <= most else b""
+    data: bytes | None = file.read(most + 1) if before.st_size <= most else b""
+    if data is None:
+        raise Unreadable(path, "it is no file that can be read to its end")
     if max(before.st_size, len(data)) > most:
         raise Unreadable(path, f"it has more than {most:,} bytes")
     after = os.fstat(file.fileno())
@@ -95,6 +98,24 @@ def write_all(texts: Mapping[str, bytes]) -> None:
                 os.unlink(temporary)
 
 
+def remove(path: str | Path) -> None:
+    """Takes away what has this name, and all that is in it, however deep; what can't be taken away stays."""
+    silent = subprocess.DEVNULL
+    words = ["rm", "-rf", "--", os.path.abspath(path)]
+    with contextlib.suppress(OSError):
+        subprocess.run(words, stdin=silent, stdout=silent, stderr=silent, check=False)
+
+
+@contextlib.contextmanager
+def temporary_folder(prefix: str) -> Iterator[Path]:
+    """A folder that is taken away in the end."""
+    where = Path(tempfile.mkdtemp(prefix=prefix)).absolute()
+    try:
+        yield where
+    finally:
+        remove(where)
+
+
 def hidden_beside(path: str) -> str:
     """A name that nobody has yet, in the folder of what a path leads to."""
     return os.path.join(os.path.dirname(os.path.realpath(path)), WRITING + secrets.token_hex(8))
@@ -119,8 +140,9 @@ def write_folder(folder: str, texts: Mapping[str, bytes], ours: Iterable[str] = 
         finally:
             if os.path.lexists(old) and not os.path.lexists(place):
                 os.rename(old, place)
-            shutil.rmtree(made, ignore_errors=True)
-            shutil.rmtree(old, ignore_errors=True)
+            remove(made)
+            if os.path.lexists(place):
+                remove(old)
 
 
 def put(data: bytes, path: str | None = None) -> None:
@@ -142,11 +164,27 @@ def put(data: bytes, path: str | None = None) -> None:
 
 
 def tell(text: str) -> None:
-    """Prints a text on standard error. If nobody reads it, the work goes on."""
+    """Prints a text on standard error. If nobody reads it, the work goes on, and what comes later is told to nobody."""
     # Python prints to standard output if standard error is closed
-    if sys.stderr is not None:
+    if sys.stderr is None:
+        return
+    try:
+        print(text, end="", file=sys.stderr, flush=True)
+    except OSError:
+        # (else what is kept back makes each later flush fail, too, and the last one the status)
         with contextlib.suppress(OSError):
-            print(text, end="", file=sys.stderr, flush=True)
+            os.dup2(os.open(os.devnull, os.O_WRONLY), sys.stderr.fileno())
+
+
+def open_standard_streams() -> None:
+    """Opens what is closed of the standard streams for nothing, so that no file gets the number by which they are known. (They stay
+    closed to Python.)"""
+    number = 0
+    while number <= 2:
+        number = os.open(os.devnull, os.O_RDWR)
+        if number <= 2:
+            os.set_inheritable(number, True)
+    os.close(number)
 
 
 def say(tool: str, text: str) -> None:

@@ -3,10 +3,12 @@ import re
 from collections.abc import Iterable, Sequence
 from dataclasses import dataclass
 from difflib import get_close_matches
+from fractions import Fraction
 
 from wdp.texts.refusals import one_line, shortened
 
-Cell = int | str | None  # of a table
+NUMBER = (int, Fraction)
+Cell = int | Fraction | str | None  # of a table
 # bytes beyond ASCII as the program shows them, and a backslash that it leaves as it is
 BYTES = re.compile(r"\\\\|((?:\\x[89a-f][0-9a-f])+)")
 
@@ -62,11 +64,17 @@ def nearest(value: str, names: Iterable[str]) -> str:
     return f"; the nearest name is {by_letters[near[0]]}" if near else ""
 
 
+def figure(number: int | Fraction) -> str:
+    """A number as people read it: `1,000`, `12 1/2`."""
+    whole, rest = divmod(Fraction(number), 1)
+    return f"{whole:,} {rest}" if rest else f"{whole:,}"
+
+
 def aligned(rows: Sequence[Sequence[Cell]]) -> list[str]:
     """Rows, the first of them headings, as lines; a column that has a number is aligned at its right."""
     columns = []
     for column in zip(*rows):
-        texts = [f"{cell:,}" if isinstance(cell, int) else cell or "" for cell in column]
-        width, is_number = max(map(len, texts)), any(isinstance(cell, int) for cell in column)
+        texts = [figure(cell) if isinstance(cell, NUMBER) else cell or "" for cell in column]
+        width, is_number = max(map(len, texts)), any(isinstance(cell, NUMBER) for cell in column)
         columns.append([text.rjust(width) if is_number else text.ljust(width) for text in texts])
     return ["  ".join(cells).rstrip() for cells in zip(*columns)]

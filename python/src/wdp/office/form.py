@@ -36,7 +36,9 @@ def workbook(values: list[str]) -> bytes:
 
 
 def run(given: argparse.Namespace) -> int:
-    auction = Auction(found_program(given.program), argparse.Namespace(allow_unended=[]))
+    auction = Auction(
+        found_program(given.program), argparse.Namespace(allow_unended=[], sheet=None)
+    )
     if not auction.read_rules(given.rules):
         raise Refused(printed(auction.faults).rstrip("\n"))
     if os.path.isdir(given.output) and os.listdir(given.output):

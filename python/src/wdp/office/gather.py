@@ -5,8 +5,9 @@ form-heron-2.xlsx. UTF-16, line ends, semicolons and tabs are converted; byte or
 ends of rows are dropped. No value is changed: a number with a comma or a space in it is a fault. One run prints all faults of
 all files, and then writes nothing.
 
-The receipt, on standard error and in the file of --receipt, has each bidder's file with its bids and SHA-256, the rules as
-they are understood, the bids that are in no program, and a table of which each bidder's row is to be read to the bidder.
+The receipt, on standard error and in the file of --receipt, has each bidder's file with its bids and SHA-256, and that of its
+part of the input, which `wdp forms` prints; the rules as they are understood, the bids that are in no program, and a table of
+which each bidder's row is to be read to the bidder.
 Exit status: 0 the input is written; 1 something is wrong; 2 the options are wrong.
 """
 import argparse
@@ -15,7 +16,7 @@ from collections.abc import Iterator, Sequence
 from itertools import groupby
 from operator import itemgetter
 
-from wdp.files import put, tell, write_all
+from wdp.files import put, tell, write_all, write_folder
 from wdp.office import choices
 from wdp.office.faults import Cell, aligned, all_counted, counted, printed
 from wdp.office.reading import Auction
@@ -23,9 +24,10 @@ from wdp.office.sheets import File
 from wdp.program import found_program
 from wdp.texts.accepted import Bid, Rules, form_of
 from wdp.texts.refusals import Refused, WrongWords
-from wdp.texts.tables import digest_of
+from wdp.texts.tables import digest_of, encoded
 
 SHOWN = 20  # bids of one bidder that are in no program and have a line
+RULES_PART = "%rules.csv"
 
 
 def add_words(parser: argparse.ArgumentParser) -> None:
@@ -38,6 +40,8 @@ def add_words(parser: argparse.ArgumentParser) -> None:
     add("--groups", nargs="+", metavar="RULE", default=[], help=rule)
     add("--output", metavar="FILE", type=choices.path, help="write the input to this file")
     add("--receipt", metavar="FILE", type=choices.path, help="write the receipt to this file too")
+    parts = "write the rules and each form, as they are in the input, into this folder"
+    add("--parts", metavar="DIR", type=choices.path, help=parts)
     choices.add_words(parser)
 
 
@@ -58,20 +62,33 @@ def check_words(given: argparse.Namespace) -> None:
             raise WrongWords(f"{path} {why}")
     if given.output and given.receipt and len(set(written.values())) < 2:
         raise WrongWords("the input and the receipt need two files")
+    if given.parts:
+        check_parts(given.parts, given.forms, [*files, *written.values()])
 
 
-def line_of(what: str, file: File, more: str) -> str:
-    changes = "; " + ", ".join(file.changes) if file.changes else ""
-    return f"{what}: {file.path}, {more}, SHA-256 {digest_of(file.data)}{changes}"
+def check_parts(parts: str, forms: str, files: Sequence[str]) -> None:
+    """The folder of the parts is another one than those of files that are read or written."""
+    folder = os.path.realpath(parts)
+    taken = [os.path.realpath(forms), *(os.path.dirname(path) for path in files)]
+    if parts == "-" or folder in taken or os.path.dirname(folder) == taken[0]:
+        raise WrongWords(f"{parts} has other files, or is read in the next run; name a new folder")
+
+
+def line_of(what: str, file: File, more: str, part: bytes) -> str:
+    """A line of the receipt: a file, its part of the input, and each change between them."""
+    words = f"{what}: file {file.path}, {more}, SHA-256 {digest_of(file.data)}; "
+    words += f"its part in the input SHA-256 {digest_of(part)}"
+    return "; ".join([words, *([", ".join(file.changes)] if file.changes else [])])
 
 
 def of_files(auction: Auction) -> Iterator[str]:
     rules, forms = auction.rules, auction.forms
     count = f"{counted(len(rules.bidders), 'bidder')}, {len(rules.categories)} categories"
-    yield line_of("rules", auction.rules_file, count)
+    yield line_of("rules", auction.rules_file, count, auction.rules_file.text)
     for name in rules.bidders:
         if name in forms:
-            yield line_of(name, forms[name], counted(forms[name].bids or 0, "bid"))
+            form = forms[name]
+            yield line_of(name, form, counted(form.bids or 0, "bid"), form.text)
         else:
             yield f"{name}: no form"
     for form, last, judged in auction.replaced:
@@ -81,7 +98,8 @@ def of_files(auction: Auction) -> Iterator[str]:
         yield "not read: " + ", ".join(auction.passed_over)
     groups = counted(len(auction.groups), "group")
     if auction.groups_file:
-        yield line_of("groups", auction.groups_file, groups)
+        lines = ["+".join(row.values) + "\n" for row in auction.groups]
+        yield line_of("groups", auction.groups_file, groups, encoded("".join(lines)))
     else:
         yield f"groups: {groups}, each bidder alone"
     yield f"input: {counted(len(auction.text), 'byte')}, SHA-256 {digest_of(auction.text)}"
@@ -130,6 +148,12 @@ def receipt(auction: Auction) -> str:
     return printed([*lines, "", "To be read aloud to each bidder:", *to_be_read_aloud(auction)])
 
 
+def parts_of(auction: Auction) -> dict[str, bytes]:
+    """The files of --parts, the rules by a name that no bidder has."""
+    forms = {f"{name}.csv": form.text for name, form in auction.forms.items()}
+    return {RULES_PART: auction.rules_file.text, **forms}
+
+
 def run(given: argparse.Namespace) -> int:
     given.output = None if given.output == "-" else given.output
     check_words(given)
@@ -141,6 +165,9 @@ def run(given: argparse.Namespace) -> int:
         old = f"; {given.output} is what it was before" if is_old else ""
         raise Refused(f"{all_counted(auction.faults)}; nothing is written{old}")
     said = receipt(auction)
+    if given.parts:
+        ours = [RULES_PART, *(f"{name}.csv" for name in auction.rules.bidders)]
+        write_folder(given.parts, parts_of(auction), ours)
     written = {given.output: auction.text, given.receipt: said.encode()}
     write_all({path: text for path, text in written.items() if path})
     tell(said)

@@ -5,21 +5,20 @@ They are joined into one input, in which the program finds the faults; here is w
 import argparse
 import os
 import re
-import time
 from collections import defaultdict
-from collections.abc import Iterable, Iterator, Sequence
+from collections.abc import Collection, Iterable, Iterator, Sequence
 from contextlib import contextmanager
 from dataclasses import dataclass, field
-from itertools import takewhile
 from pathlib import PurePath
-from typing import Any
 
 from wdp.files import Unreadable, at, read
 from wdp.office.faults import Fault, counted, nearest, quoted
 from wdp.office.judge import Finding, explained
 from wdp.office.places import faults_of, first_of, hint, of_parts
 from wdp.office.sheets import AS_HEADS, MOST_OF_A_FILE, NOT_STORED, File, lines_of, read_pairs
-from wdp.office.sheets import table_of, workbook_of
+from wdp.office.sheets import table_of
+from wdp.office.versions import last_of
+from wdp.office.workbooks import workbook_of
 from wdp.texts.accepted import Rules, rules_of
 from wdp.texts.answers import WON
 from wdp.texts.parts import MOST_OF_INPUT, group_rows
@@ -34,13 +33,11 @@ NO_FORM = f"its name doesn't end in {', '.join(FORMS)}; remove it if it is no fo
 # records of rules and of a form, and lines of groups, with one that is too many: what follows is a fault whatever it says
 MOST_OF_RULES, MOST_OF_A_FORM = 1 + 32 + 256 + 16 + 16 * 32 + 1, 1 + 4_000 + 1
 MOST_OF_GROUPS = 1_024 + 1
+MOST_OF_A_TITLE = 20  # rows, of which one may be the first row of the table
 # the first group of a report, or an allocation as `wdp map` prints it
 FIRST_GROUP = re.compile(rf"(?:group 1 .*\n)?{WON}")
 NO_WINNERS = "it doesn't begin with winners and a total, as reports do; perhaps it was cut off"
 COUNT = re.compile("[0-9]{1,18}")
-PART = re.compile(r"[0-9]+|[^\W\d_]+")
-# such a date isn't in order by its numbers
-YEAR_LAST = re.compile(r"(?<![0-9])[0-9]{1,2}[^0-9][0-9]{1,2}[^0-9](?:19|20)[0-9]{2}(?![0-9])")
 NOBODY_FIRST = "the first line has to be -, the group of nobody: costs are measured against it"
 UNENDED = "the last {} has no line end, as in a file that was cut off; say --allow-unended {} if it is complete"
 
@@ -54,47 +51,59 @@ def named_in(path: str, bidders: list[str]) -> set[str]:
     return named
 
 
-def by_name(paths: Sequence[str]) -> list[list[int]]:
-    """The numbers at the end of each file's name, which put files in order: `Heron.csv`, `Heron (9).csv`, `Heron-10.csv`. Names that
-    differ in anything else don't say which is later."""
-    stems = [PurePath(path).stem for path in paths]
-    parts = [PART.findall(stem.lower()) for stem in stems]
-    ends = [list(takewhile(str.isdecimal, reversed(each))) for each in parts]
-    names = [each[: len(each) - len(end)] for each, end in zip(parts, ends)]
-    if any(name != names[0] for name in names):
-        raise Refused("their names differ in more than the numbers at their ends")
-    if any(map(YEAR_LAST.search, stems)):
-        raise Refused("a date with the year last isn't in order by its numbers")
-    return [[int(number) for number in reversed(end)] for end in ends]
+def is_workbook(path: str) -> bool:
+    return path.lower().endswith(".xlsx")
 
 
-def words_of(key: list[int] | int) -> str:
-    """The numbers of a name in words, or a time of change, in nanoseconds."""
-    if isinstance(key, list):
-        return "-".join(map(str, key)) or "none"
-    seconds, rest = divmod(key, 10**9)
-    try:
-        at = time.strftime("%Y-%m-%d %H:%M:%S", time.gmtime(seconds))
-    except (OverflowError, OSError, ValueError):
-        at = f"{seconds} s after 1970-01-01"
-    return f"{at}.{rest:09}"
+def file_of(
+    path: str,
+    most: int,
+    *,
+    heads: Collection[str] = (),
+    sheet: str | None = None,
+    kinds: str = ".xlsx or CSV",
+    is_regular: bool = True,
+) -> File:
+    """The rows of a table, at most so many: of a workbook, whose rows begin with one of these heads, if the name ends in .xlsx."""
+    data = read(path, MOST_OF_A_FILE, regular=is_regular)
+    if is_workbook(path):
+        return workbook_of(path, data, most, sheet, heads)
+    return table_of(path, data, most, kinds)
 
 
-def last_of(paths: Sequence[str], way: str | None) -> tuple[int, list[tuple[int, str]]]:
-    """The place of the file that counts, and of each other one its place and by what that was judged; Refused if nobody can say."""
-    if way is None:
-        raise Refused("say --last-wins name or --last-wins time")
-    if way == "name":
-        keys: list[Any] = by_name(paths)
-        same, judged = "their names end alike", "the numbers at the ends of their names, {} and {}"
-    else:
-        keys = [os.stat(path).st_mtime_ns for path in paths]
-        same, judged = "they were changed at the same time", "their times of change, {} and {} UTC"
-    *order, last = (place for _, place in sorted(zip(keys, range(len(paths)))))
-    if keys[order[-1]] == keys[last]:
-        raise Refused(same)
-    now = words_of(keys[last])
-    return last, [(place, judged.format(words_of(keys[place]), now)) for place in order]
+def check_first_row(file: File, heads: Collection[str], wanted: str) -> None:
+    """Raises Unreadable if a row below the first one begins as that one has to: what is above it is perhaps a title."""
+    first, *below = file.rows[:MOST_OF_A_TITLE] or [Row([""], 1)]
+    begins = [row for row in below if row.values[0] in heads]
+    if begins and first.values[0] not in heads:
+        why = f"{wanted}, and row {begins[0].line} does: delete what is above it"
+        raise Unreadable(f"{file.path}:{first.place()}", why)
+
+
+def rules_file(path: str, sheet: str | None = None, is_regular: bool = True) -> File:
+    """The rows of the rules, each with the fields that the version wants."""
+    file = file_of(path, MOST_OF_RULES, heads=["rules"], sheet=sheet, is_regular=is_regular)
+    check_first_row(file, ["rules"], "rules begin with rules")
+    first = file.rows[0].values if file.rows else []
+    width = 5 if first[1:2] == ["1"] else 6
+    for row in file.rows if is_workbook(path) else ():
+        # (the rows of a sheet have no number of fields)
+        lacking = width - len(row.values)
+        row.places = [*row.places, *[row.place(width)] * lacking]
+        row.values += [""] * lacking
+    return file.trim(width)
+
+
+def form_file(path: str, rules: Rules, sheet: str | None = None) -> File:
+    """The rows of a form under these rules."""
+    file = file_of(path, MOST_OF_A_FORM, heads=rules.bidders, sheet=sheet)
+    check_first_row(file, rules.bidders, "a form begins with the bidder's name")
+    return file.trim(len(rules.categories) + 1)
+
+
+def groups_text(rows: Iterable[Row]) -> str:
+    """The lines of groups."""
+    return "".join("+".join(row.values) + "\n" for row in rows)
 
 
 @dataclass
@@ -145,9 +154,7 @@ class Auction:
     def read_rules(self, path: str) -> bool:
         """Reads the rules; whether nothing is wrong with them."""
         with self.reading():
-            file = self.rules_file = table_of(path, read(path, MOST_OF_A_FILE), MOST_OF_RULES)
-            first = file.rows[0].values if file.rows else []
-            file.trim(5 if first[1:2] == ["1"] else 6)  # fields, by the version of the rules
+            file = self.rules_file = rules_file(path, self.choices.sheet, is_regular=False)
             self.faults += file.faults
             if not file.faults:
                 found = explained(self.program, b"%rules\n" + file.text)
@@ -172,6 +179,9 @@ class Auction:
             else:
                 is_book = ending in OTHER_WORKBOOKS
                 self.fault(path, OTHER_WORKBOOK.format(ending) if is_book else NO_FORM)
+                self.unread += (
+                    self.perhaps_of(path) if is_book else named_in(path, self.rules.bidders)
+                )
         # all together have at most what an input may have, as UTF-16
         sizes = [os.path.getsize(path) for path in paths if os.path.isfile(path)]
         size, most = sum(min(each, MOST_OF_A_FILE) for each in sizes), 2 * MOST_OF_INPUT
@@ -179,14 +189,14 @@ class Auction:
             raise Unreadable(folder, f"its files have {size:,} bytes together, more than {most:,}")
         return paths
 
+    def perhaps_of(self, path: str) -> Collection[str]:
+        """The bidders whose form a file may be that isn't read: those whom its name names, or all."""
+        return named_in(path, self.rules.bidders) or self.rules.bidders
+
     def read_form(self, path: str) -> File:
         """The form of a file, whose name has to name the bidder of its first row, and no other; Unreadable if there is none."""
-        data = read(path, MOST_OF_A_FILE, regular=True)
-        if path.lower().endswith(".xlsx"):
-            form = workbook_of(path, data, MOST_OF_A_FORM, self.choices.sheet)
-        else:
-            form = table_of(path, data, MOST_OF_A_FORM, ".xlsx or CSV")
-        own, bidders = form.trim(len(self.rules.categories) + 1).bidder, self.rules.bidders
+        form = form_file(path, self.rules, self.choices.sheet)
+        own, bidders = form.bidder, self.rules.bidders
         named = named_in(form.path, bidders)
         others = " and ".join(name for name in bidders if name in named - {own})
         whose = f"{own}, whose form its first row says it is"
@@ -207,25 +217,26 @@ class Auction:
             return forms
         way, name = self.choices.last_wins, forms[0].bidder
         try:
-            last, replaced = last_of([form.path for form in forms], way)
+            last = last_of([form.path for form in forms], name, way)
         except Refused as why:
             tried = f"--last-wins {way} can't tell which is later: " if way else ""
             for form in forms[1:]:
                 self.fault(form.path, f"another form of {name} is in {forms[0].path}; {tried}{why}")
             return forms
-        self.replaced += [(forms[place], forms[last], judged) for place, judged in replaced]
-        return [forms[last]]
+        now = forms[last.place]
+        self.replaced += [(forms[place], now, judged) for place, judged in last.replaced]
+        return [now]
 
     def read_forms(self, folder: str) -> None:
         bidders = self.rules.bidders
         by_bidder = defaultdict[str, list[File]](list)
         with self.reading(bidders):
             for path in self.form_paths(folder):
-                with self.reading(named_in(path, bidders)):
+                with self.reading(self.perhaps_of(path)):
                     form = self.read_form(path)
                     by_bidder[form.bidder].append(form)
                     # (whose first row is wrong isn't also missing)
-                    self.unread += named_in(path, bidders) if form.bidder not in bidders else ()
+                    self.unread += self.perhaps_of(path) if form.bidder not in bidders else ()
         for name in dict.fromkeys([*bidders, *by_bidder]):
             self.counting += self.last_form(by_bidder[name])
 
@@ -325,8 +336,7 @@ class Auction:
         self.read_forms(folder)
         self.text = b"%rules\n" + self.rules_file.text
         self.text += b"".join(b"%form\n" + form.text for form in self.counting)
-        lines = ["+".join(row.values) + "\n" for row in self.groups]
-        self.text += encoded("%groups\n" + "".join(lines)) if group_words else b""
+        self.text += encoded("%groups\n" + groups_text(self.groups)) if group_words else b""
         found = explained(self.program, self.text, with_bids=True)
         of_part = found.by_part()
         for number, form in enumerate(self.counting, 1):

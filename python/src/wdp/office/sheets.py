@@ -1,19 +1,13 @@
 """Files as spreadsheets and editors write them, turned into what the program reads, with a word for each change.
 
-No value is guessed: only the encoding, the delimiter, line ends, and empty cells are looked at. Of workbooks, `.xlsx`, whole
-numbers come from cells of numbers, and nothing else does.
+No value is guessed: only the encoding, the delimiter, line ends, and empty cells are looked at.
 """
 from __future__ import annotations
 
 import codecs
-import datetime
-import io
 import re
-import zipfile
-from collections.abc import Collection, Iterable, Iterator
+from collections.abc import Collection, Iterable
 from dataclasses import dataclass, field
-from functools import partial
-from typing import Any
 
 from wdp.files import Unreadable, read
 from wdp.office.faults import Fault, counted, nearest, quoted
@@ -37,10 +31,7 @@ OTHERS = (
 )  # fmt: skip
 NO_TEXT = re.compile("[\udc80-\udcff]")  # bytes that are no UTF-8, as they are decoded
 AS_HEADS = "begins with %, as the heads of parts do"
-NEEDED = "it is a workbook, which needs openpyxl: apt-get install -y python3-openpyxl, or save the table as CSV"
 NOT_STORED = "its formula has no stored value; open the workbook in a spreadsheet, and save it"
-MOST_UNPACKED = 64 * 1024 * 1024  # bytes of all that a workbook holds, unpacked
-MOST_CELLS = 1_000  # of a row
 
 
 @dataclass
@@ -57,6 +48,8 @@ class File:
     is_ended: bool = True
     # the number of the row whose quote isn't closed, so that it holds all that follows
     unclosed: int | None = None
+    # rows without a value that were dropped
+    empty: int = 0
     bids: int | None = None
 
     @property
@@ -73,16 +66,15 @@ class File:
 
     def fill(self, rows: Iterable[Row], most: int) -> None:
         """Takes at most so many rows with a value. A row with a field that would head a part is a fault, and isn't taken."""
-        empty = 0
         for row in rows:
             heads = [at for at, value in enumerate(row.values) if "\n%" in value]
             for at in heads:
                 self.fault(row.place(at), f"in this field a line {AS_HEADS}")
-            empty += not any(row.values)
+            self.empty += not any(row.values)
             self.rows += [row] if any(row.values) and not heads else []
             if len(self.rows) == most:
                 break
-        self.changes += [f"empty rows dropped: {empty}"] if empty else []
+        self.changes += [f"empty rows dropped: {self.empty}"] if self.empty else []
 
     def trim(self, width: int) -> File:
         """Drops the empty fields beyond those that each row has to have."""
@@ -117,7 +109,7 @@ def text_of(file: File, kinds: str = "CSV") -> str:
     crlf, file.is_ended = text.count("\r\n"), not text.strip() or text.endswith(("\n", "\r"))
     changes += ["CR LF turned into LF"] if crlf else []
     changes += ["CR turned into LF"] if text.count("\r") > crlf else []
-    changes += [] if file.is_ended else ["last line ended"]
+    changes += ["last line ended"] if text and not text.endswith(("\n", "\r")) else []
     return text
 
 
@@ -146,6 +138,9 @@ def table_of(path: str, data: bytes, most: int, kinds: str = "CSV") -> File:
     delimiter, begin = delimiter_of(text, file)
     records = Records(text[begin:], delimiter, line=2 if begin else 1)
     file.fill(records, most)
+    file.changes += [f"empty lines dropped: {records.blank}"] if records.blank else []
+    file.changes += [f"quotes dropped: {records.unquoted}"] if records.unquoted else []
+    file.changes += [f"quotes added: {records.quoted}"] if records.quoted else []
     if records.unclosed:
         file.fault(records.unclosed, "the field's quote isn't closed")
         file.unclosed = len(file.rows)
@@ -155,85 +150,15 @@ def table_of(path: str, data: bytes, most: int, kinds: str = "CSV") -> File:
     return file
 
 
-def field_of(value: Any) -> str:
-    """A cell's value as a field; what is no whole number stays what it is, for the program to refuse."""
-    if value is None:
-        return ""
-    if isinstance(value, float) and value.is_integer() and abs(value) < 2**53:  # exact below that
-        return str(int(value))
-    if isinstance(value, datetime.datetime) and value.time() == datetime.time():
-        return str(value.date())
-    return str(value)
-
-
-def cells_of(sheets: list[Any], file: File, taken: list[str]) -> Iterator[Row]:
-    """The rows of a sheet, which is there with values and with formulas. A formula counts by its stored value, and its cell is
-    added to `taken`; below the first row a text isn't taken for a number."""
-    from openpyxl.utils import get_column_letter
-
-    is_first = True
-    pairs = zip(*(sheet.iter_rows(values_only=True) for sheet in sheets))
-    for number, (row, made) in enumerate(pairs, 1):
-        both = enumerate(zip(row, made), 1)
-        width = max((at for at, pair in both if pair != (None, None)), default=0)
-        if width > MOST_CELLS:
-            why = f"in row {number} it has a cell beyond the first {MOST_CELLS:,}"
-            raise Unreadable(file.path, why)
-        places = [f"{sheets[0].title}!{get_column_letter(at + 1)}{number}" for at in range(width)]
-        for value, formula, place in zip(row, made, places):
-            if isinstance(formula, str) and formula.startswith("="):
-                taken.append(place.rpartition("!")[2])
-                if value is None:
-                    file.fault(place, NOT_STORED)
-            if not is_first and isinstance(value, str) and value.strip().isdecimal():
-                file.fault(place, f"{quoted(value)} is a text; turn it into a number")
-        yield Row([field_of(value) for value in row[:width]], number, places)
-        is_first = is_first and not width
-
-
-def workbook_of(path: str, data: bytes, most: int, name: str | None) -> File:
-    """The rows of a workbook's sheet, as of a file of CSV. Whatever the library raises if it is no workbook is Unreadable."""
-    try:
-        return read_sheet(File(path, data), most, name)
-    except Unreadable:
-        raise
-    except Exception as error:
-        why = f"it is no workbook that can be read: {type(error).__name__}"
-        raise Unreadable(path, NEEDED if isinstance(error, ImportError) else why) from None
-
-
-def read_sheet(file: File, most: int, name: str | None) -> File:
-    """Fills a file with the rows of the sheet of this name, or of the first one."""
-    import openpyxl
-
-    data, taken = io.BytesIO(file.data), list[str]()
-    if sum(entry.file_size for entry in zipfile.ZipFile(data).infolist()) > MOST_UNPACKED:
-        why = f"it is a workbook of more than {MOST_UNPACKED:,} bytes, unpacked"
-        raise Unreadable(file.path, why)
-    load = partial(openpyxl.load_workbook, read_only=True)
-    books = [load(data, data_only=is_stored) for is_stored in (True, False)]
-    titles = [sheet.title for sheet in books[0].worksheets]
-    title = name or "".join(titles[:1])
-    if title not in titles:
-        there = ", ".join(map(quoted, titles[:9]))
-        raise Unreadable(file.path, f"it has no sheet {quoted(title)}, but {there}")
-    sheets = [book[title] for book in books]
-    for sheet in sheets:
-        sheet.reset_dimensions()
-    others = f", of {len(titles)} sheets" if len(titles) > 1 else ""
-    file.changes.append(f"read from sheet {title}{others}")
-    file.fill(cells_of(sheets, file, taken), most)
-    stored = f"taken by their stored values: {', '.join(taken[:20])}"
-    file.changes += [f"{counted(len(taken), 'formula')} {stored}"] if taken else []
-    return file
-
-
 def lines_of(path: str, data: bytes) -> File:
     """The lines of groups as rows of names, without the empty lines at the end."""
     file = File(path, data)
     lines = LINE_END.split(text_of(file))
+    count = len(lines) - (not lines[-1])
     while lines and not lines[-1].strip():
         lines.pop()
+    blank = count - len(lines)
+    file.changes += [f"empty lines at the end dropped: {blank}"] if blank else []
     file.rows = list(group_rows(enumerate(lines, 1)))
     return file
 

@@ -1,0 +1,57 @@
+"""Formats of numbers in workbooks: whether a cell shows its number as it is, as another one, as a date, or not at all."""
+import re
+from functools import cached_property
+
+GENERAL = "General"
+# the formats that workbooks name by their numbers alone; most of the dates are those of a language
+BUILT_IN = {"9": "0%", "10": "0.00%"}
+BUILT_IN |= {
+    str(n): "yyyy-mm-dd" for n in (*range(14, 23), *range(27, 37), *range(45, 48), *range(50, 59))
+}
+# what is shown as it is written there: a text in quotes, and a character after a backslash; then what leaves room, fills it, or
+# says a colour, a currency or a condition
+QUOTED = re.compile(r'"([^"]*)"|\\(.)', re.DOTALL)
+SILENT = re.compile(r"[_*].|\[[^\]]*\]", re.DOTALL)
+ELAPSED = re.compile(r"\[(?:h+|m+|s+)\]", re.IGNORECASE)
+CONDITION = re.compile(r"\[[<>=][^\]]*\]")
+OF_DATES = re.compile("[dmyhs]", re.IGNORECASE)
+SCALE = re.compile("[0#?],+(?![0#?,])|%")
+OF_NUMBERS = re.compile("[0#?@]|general|standard", re.IGNORECASE)
+DIGIT = re.compile("[0-9]")
+
+
+class NumberFormat:
+    """A format by its code, of which the first section is that of numbers above 0, unless there are conditions.
+
+    >>> [NumberFormat(code).is_scaled for code in ("#,##0", "#,##0,", '0"000"', "0%")]
+    [False, True, True, True]
+    >>> [NumberFormat(code).is_seen for code in ("0", "0;;;@", ";;;", '"many"')]
+    [True, True, False, False]
+    """
+
+    def __init__(self, code: str) -> None:
+        self.code = code
+
+    @cached_property
+    def sections(self) -> list[str]:
+        """What the sections show of a number, as far as it depends on that."""
+        return SILENT.sub("", QUOTED.sub("", self.code)).split(";")
+
+    @cached_property
+    def is_date(self) -> bool:
+        is_elapsed = bool(ELAPSED.search(QUOTED.sub("", self.code)))
+        return is_elapsed or any(
+            OF_DATES.search(it) and not it.lower().startswith("standard") for it in self.sections
+        )
+
+    @cached_property
+    def is_scaled(self) -> bool:
+        """Whether it shows another number than the cell's: scaled, in percent, or with digits of its own."""
+        written = "".join(quote or sign for quote, sign in QUOTED.findall(self.code))
+        return bool(DIGIT.search(written)) or any(map(SCALE.search, self.sections))
+
+    @cached_property
+    def is_seen(self) -> bool:
+        """Whether it shows a number that isn't 0 at all."""
+        shown = self.sections if CONDITION.search(self.code) else self.sections[:1]
+        return all(map(OF_NUMBERS.search, shown))

@@ -1,0 +1,469 @@
+#!/usr/bin/python3
+"""Workbooks of a form of Fox, twenty-five of each kind, made by openpyxl or from raw XML.
+
+usage: python/tests/workbooks.py [FOLDER]
+
+Has LibreOffice read those that aren't refused, and some that it makes itself, and compares: what is read is what LibreOffice
+shows of the sheet, or the receipt names the cell. The last line is 'N the same, M refused, L named, K wrong'. The files stay in
+FOLDER.
+"""
+import csv
+import io
+import random
+import re
+import subprocess
+import sys
+import tempfile
+import zipfile
+from pathlib import Path
+
+sys.dont_write_bytecode = True
+sys.path.insert(0, str(Path(__file__).resolve().parents[1] / "src"))
+
+import openpyxl  # noqa: E402
+from openpyxl.utils import get_column_letter  # noqa: E402
+
+from wdp.files import Unreadable  # noqa: E402
+from wdp.office.workbooks import workbook_of  # noqa: E402
+
+COUNT = 25  # workbooks of a kind
+BIDDERS = ["Ant", "Bee", "Fox"]
+MAIN = "http://schemas.openxmlformats.org/spreadsheetml/2006/main"
+OFFICE = "http://schemas.openxmlformats.org/officeDocument/2006/relationships"
+LINKS = "http://schemas.openxmlformats.org/package/2006/relationships"
+TYPES = "http://schemas.openxmlformats.org/package/2006/content-types"
+SHEET_TYPE = "application/vnd.openxmlformats-officedocument.spreadsheetml.worksheet+xml"
+BOOK_TYPE = "application/vnd.openxmlformats-officedocument.spreadsheetml.sheet.main+xml"
+STYLES_TYPE = "application/vnd.openxmlformats-officedocument.spreadsheetml.styles+xml"
+TEXTS_TYPE = "application/vnd.openxmlformats-officedocument.spreadsheetml.sharedStrings+xml"
+HEAD = '<?xml version="1.0" encoding="UTF-8" standalone="yes"?>\n'
+DIGITS = re.compile("[0-9]{0,18}")
+FORM = [["Fox", "Low", "High"], [5000, 2, 1], [9900, 4, 0], [3000, 0, 3]]
+
+
+def cell(value, name=None, more=""):
+    """A cell in XML; a text is within it."""
+    at = f' r="{name}"' if name else ""
+    if isinstance(value, str):
+        return f'<c{at}{more} t="inlineStr"><is><t>{value}</t></is></c>'
+    return f"<c{at}{more}/>" if value is None else f"<c{at}{more}><v>{value}</v></c>"
+
+
+def row_of(number, values, more="", of_cells=""):
+    cells = "".join(
+        cell(value, f"{get_column_letter(at)}{number}", of_cells if number > 1 else "")
+        for at, value in enumerate(values, 1)
+    )
+    return f'<row r="{number}"{more}>{cells}</row>'
+
+
+def body(rows, of_cells=""):
+    lines = [row_of(number, values, of_cells=of_cells) for number, values in enumerate(rows, 1)]
+    return f"<sheetData>{''.join(lines)}</sheetData>"
+
+
+def sheet_xml(inner):
+    return f'{HEAD}<worksheet xmlns="{MAIN}">{inner}</worksheet>'
+
+
+class Raw:
+    """A workbook from XML: its sheets as pairs of a name, perhaps with attributes after it, and what is in the sheet."""
+
+    def __init__(self, *sheets, formats=(), texts=None, about=""):
+        self.sheets, self.formats, self.texts, self.about = sheets, formats, texts, about
+        self.parts = dict(self.made_parts())
+
+    def made_parts(self):
+        kinds = {"xl/workbook.xml": BOOK_TYPE}
+        links = []
+        names = []
+        for number, (name, inner) in enumerate(self.sheets, 1):
+            part = f"xl/worksheets/sheet{number}.xml"
+            kinds[part] = SHEET_TYPE
+            links.append((f"rId{number}", "worksheet", f"worksheets/sheet{number}.xml"))
+            name, _, more = name.partition("|")
+            names.append(f'<sheet name="{name}" sheetId="{number}" {more} r:id="rId{number}"/>')
+            yield part, sheet_xml(inner)
+        if self.formats:
+            kinds["xl/styles.xml"] = STYLES_TYPE
+            links.append(("rIdS", "styles", "styles.xml"))
+            yield "xl/styles.xml", self.styles()
+        if self.texts is not None:
+            kinds["xl/sharedStrings.xml"] = TEXTS_TYPE
+            links.append(("rIdT", "sharedStrings", "sharedStrings.xml"))
+            yield "xl/sharedStrings.xml", f'{HEAD}<sst xmlns="{MAIN}">{self.texts}</sst>'
+        book = f'{self.about}<sheets>{"".join(names)}</sheets>'
+        yield "xl/workbook.xml", f'{HEAD}<workbook xmlns="{MAIN}" xmlns:r="{OFFICE}">{book}</workbook>'
+        yield "xl/_rels/workbook.xml.rels", self.links(links)
+        yield "_rels/.rels", self.links([("rId1", "officeDocument", "xl/workbook.xml")])
+        over = "".join(f'<Override PartName="/{it}" ContentType="{kinds[it]}"/>' for it in kinds)
+        plain = '<Default Extension="rels" ContentType="application/vnd.openxmlformats-package.relationships+xml"/>'
+        plain += '<Default Extension="xml" ContentType="application/xml"/>'
+        yield "[Content_Types].xml", f'{HEAD}<Types xmlns="{TYPES}">{plain}{over}</Types>'
+
+    @staticmethod
+    def links(links):
+        made = "".join(
+            f'<Relationship Id="{link}" Type="{OFFICE}/{kind}" Target="{target}"/>'
+            for link, kind, target in links
+        )
+        return f'{HEAD}<Relationships xmlns="{LINKS}">{made}</Relationships>'
+
+    def styles(self):
+        """Style 0 is plain, each other one has the next of the formats."""
+        codes = "".join(
+            f'<numFmt numFmtId="{200 + n}" formatCode="{code}"/>' for n, code in enumerate(self.formats)
+        )
+        own = "".join(f'<xf numFmtId="{200 + n}" applyNumberFormat="1"/>' for n in range(len(self.formats)))
+        made = f'<numFmts count="{len(self.formats)}">{codes}</numFmts><fonts count="1"><font/></fonts>'
+        made += "<fills><fill/></fills><borders><border/></borders><cellStyleXfs><xf/></cellStyleXfs>"
+        return f'{HEAD}<styleSheet xmlns="{MAIN}">{made}<cellXfs><xf/>{own}</cellXfs></styleSheet>'
+
+    def changed(self, part, old, new):
+        assert old in self.parts[part], (part, old)
+        self.parts[part] = self.parts[part].replace(old, new, 1)
+        return self
+
+    def bytes(self, again=()):
+        """The archive; `again` are parts that are in it once more."""
+        data = io.BytesIO()
+        with zipfile.ZipFile(data, "w", zipfile.ZIP_DEFLATED) as archive:
+            for name, text in [*self.parts.items(), *again]:
+                with_warning(archive.writestr, name, text)
+        return data.getvalue()
+
+
+def with_warning(call, *given):
+    import warnings
+
+    with warnings.catch_warnings():
+        warnings.simplefilter("ignore")
+        call(*given)
+
+
+def one(inner, **how):
+    return Raw(("Bids", inner), **how).bytes()
+
+
+def written(rows, change=lambda book, sheet: None):
+    """A workbook by openpyxl, of which something was changed."""
+    book = openpyxl.Workbook()
+    sheet = book.active
+    sheet.title = "Bids"
+    for row in rows:
+        sheet.append(row)
+    change(book, sheet)
+    data = io.BytesIO()
+    book.save(data)
+    return data.getvalue()
+
+
+def plain(turn, rows):
+    more = [
+        lambda book, sheet: None,
+        lambda book, sheet: book.create_sheet("Notes").append(["Anything", 1]),
+        lambda book, sheet: setattr(sheet, "freeze_panes", "A2"),
+        lambda book, sheet: sheet.append([None, None, None]),
+        lambda book, sheet: setattr(sheet.column_dimensions["A"], "width", 30),
+    ]
+    return written(rows, more[turn % len(more)])
+
+
+def hide_column(book, sheet):
+    sheet.column_dimensions["B"].hidden = True
+
+
+def hide_row(book, sheet):
+    sheet.row_dimensions[3].hidden = True
+
+
+def narrow(book, sheet):
+    sheet.column_dimensions["C"].width = 0.2
+
+
+def low(book, sheet):
+    sheet.row_dimensions[2].height = 0.5
+
+
+def hidden(turn, rows):
+    other = [rows[0], [1, 1, 1]]
+    made = [
+        lambda: Raw(('Bids|state="hidden"', body(other)), ("Final", body(rows))).bytes(),
+        lambda: written(rows, hide_row),
+        lambda: written(rows, hide_column),
+        lambda: Raw(("Bids", body(rows)), ('Lists|state="veryHidden"', body([["x"]]))).bytes(),
+        lambda: written(rows, narrow),
+        lambda: written(rows, low),
+        lambda: one(body(rows, ' s="1"'), formats=[";;;"]),
+        lambda: one('<sheetFormatPr defaultRowHeight="15" defaultColWidth="0"/>' + body(rows)),
+        lambda: written(rows, lambda book, sheet: setattr(sheet.column_dimensions["H"], "hidden", True)),
+    ]
+    return made[turn % len(made)]()
+
+
+def merged(turn, rows):
+    covers = ["A2:B2", "A1:A2", "B2:C4", "E1:G9", "A9:C9", "C4:D4", "A1:A1"]
+    inner = body(rows) + f'<mergeCells><mergeCell ref="{covers[turn % len(covers)]}"/></mergeCells>'
+    return one(inner) if turn % 2 else written(rows, lambda book, sheet: sheet.merge_cells("E2:F3"))
+
+
+def sparse(turn, rows):
+    gap = [row_of(at * 100 + 1, row) for at, row in enumerate(rows)]
+    unnamed = "".join("<row>" + "".join(map(cell, row)) + "</row>" for row in rows)
+    made = [
+        lambda: one(f"<sheetData>{''.join(gap)}</sheetData>"),
+        lambda: one(f"<sheetData>{unnamed}</sheetData>"),
+        lambda: one(f'<sheetData><row r="1"/>{row_of(1_000_000, rows[0])}</sheetData>'),
+        lambda: one(body([[*row, None, None] for row in rows])),
+        lambda: one(body([rows[0], [], *rows[1:], [None] * 3])),
+        lambda: one(body([[*row, *[None] * 20, "note"] for row in rows])),
+        lambda: one("<sheetData/>"),
+    ]
+    return made[turn % len(made)]()
+
+
+def repeated(turn, rows):
+    lines = [row_of(number, row) for number, row in enumerate(rows, 1)]
+    twice = "".join([*lines, row_of(len(rows), [7000, 1, 1])])
+    cells = f'<row r="9">{cell(10, "A9")}{cell(20, "A9")}{cell(1, "B9")}</row>'
+    two = Raw(("Bids", body(rows)), ("bids", body(rows)))
+    other = ("xl/worksheets/sheet1.xml", sheet_xml(body([rows[0], [1, 1, 1]])))
+    upper = ("xl/Worksheets/Sheet1.xml", other[1])
+    made = [
+        lambda: one(f"<sheetData>{twice}</sheetData>"),
+        lambda: one(f"<sheetData>{''.join(lines)}{cells}</sheetData>"),
+        lambda: Raw(("Bids", body(rows))).bytes(again=[other]),
+        lambda: two.bytes(),
+        lambda: one(body(rows) + body([[1, 2, 3]])),
+        lambda: one(body(rows).replace("</v>", "</v><v>1</v>", 1)),
+        lambda: Raw(("Bids", body(rows))).bytes(again=[upper]),
+        lambda: one('<cols><col min="1" max="3"/><col min="2" max="2" hidden="1"/></cols>' + body(rows)),
+    ]
+    return made[turn % len(made)]()
+
+
+def order(turn, rows):
+    lines = [row_of(number, row) for number, row in enumerate(rows, 1)]
+    swapped = "".join([lines[0], lines[2], lines[1], *lines[3:]])
+    cells = f'<row r="9">{cell(1, "B9")}{cell(10, "A9")}</row>'
+    lost = f'<row r="9">{cell(10, "A8")}</row>'
+    small = f'<row r="9">{cell(10, "a9")}</row>'
+    made = [
+        lambda: one(f"<sheetData>{swapped}</sheetData>"),
+        lambda: one(f"<sheetData>{''.join(lines)}{cells}</sheetData>"),
+        lambda: one(f"<sheetData>{''.join(lines)}{lost}</sheetData>"),
+        lambda: one(f"<sheetData>{''.join(lines)}{small}</sheetData>"),
+    ]
+    return made[turn % len(made)]()
+
+
+def huge(turn, rows):
+    lines = body(rows).removesuffix("</sheetData>")
+    wide = f'<row r="9">{cell(1, "XFD9")}</row></sheetData>'
+    long = "9" * 500
+    made = [
+        lambda: one(lines + '<row r="2000000000"/></sheetData>'),
+        lambda: one(lines + row_of(1_048_577, [1]) + "</sheetData>"),
+        lambda: one(lines + wide),
+        lambda: one(lines + f'<row r="9">{cell(1, "ALM9")}</row></sheetData>'),
+        lambda: one(body([rows[0], [10**17, 1, 1]])),
+        lambda: one(body([rows[0], [9007199254740993, 1, 1]])),
+        lambda: one(body(rows).replace("<v>", f"<v>{long}", 1)),
+        lambda: one(lines + '<row r="9"><c r="XFE9"><v>1</v></c></row></sheetData>'),
+        lambda: one(lines + row_of(1_048_576, [7000, 1, 1]) + "</sheetData>"),
+    ]
+    return made[turn % len(made)]()
+
+
+def encrypted(turn, rows):
+    data = bytearray(plain(turn, rows))
+    if turn % 3 == 0:
+        return b"\xd0\xcf\x11\xe0\xa1\xb1\x1a\xe1" + bytes(data)
+    at = data.rfind(b"PK\x01\x02")
+    if turn % 3 == 1:
+        while at >= 0:
+            data[at + 8] |= 1
+            at = data.rfind(b"PK\x01\x02", 0, at)
+        return bytes(data)
+    while at >= 0:
+        data[at + 10] = 99
+        at = data.rfind(b"PK\x01\x02", 0, at)
+    return bytes(data)
+
+
+def bombs(turn, rows):
+    inner = body(rows)
+    entities = '<!DOCTYPE x [<!ENTITY a "aaaaaaaaaa"><!ENTITY b "&a;&a;&a;&a;&a;&a;&a;&a;">]>'
+    book = Raw(("Bids", inner))
+    part = "xl/worksheets/sheet1.xml"
+    made = [
+        lambda: one("<!--" + " " * 15_000_000 + "-->" + inner),
+        lambda: one("<!--" + " " * 60_000_000 + "-->" + inner),
+        lambda: one(" " * 2**27 + inner),
+        lambda: book.changed(part, "<worksheet", entities + "<worksheet").bytes(),
+        lambda: one("<a>" * 100_000 + "</a>" * 100_000 + inner),
+        lambda: one(f'<a b="{" " * 10_000_000}"/>' + inner),
+        lambda: Raw(("Bids", inner), texts="<si/>" * 2_000_000).bytes(),
+        lambda: book.bytes(again=[(f"x{n}", "") for n in range(5_000)]),
+    ]
+    return made[turn % len(made)]()
+
+
+# of numbers; after the first ones it is said that they show another number
+FORMATS = ["0", "#,##0", "General", "[$£-809]#,##0", '#,##0" pounds"', "0.00", "0;-0;;@"]
+SCALED = ["#,##0,", "0,,", "0%", "0&quot;000&quot;", "#,##0,&quot;k&quot;", "0\\0\\0"]
+UNSEEN = [";;;", "&quot;many&quot;", "yyyy-mm-dd", "h:mm", "[h]:mm", "d. mmm"]
+
+
+def formats(turn, rows):
+    code = [*SCALED, *FORMATS, *UNSEEN][turn % 19].replace('" pounds"', "&quot; pounds&quot;")
+    return one(body(rows, ' s="1"'), formats=[code])
+
+
+VALUES = [
+    '<c r="A2"><v>1_0</v></c>',
+    '<c r="A2" t="n"><v> 5000 </v></c>',
+    '<c r="A2"><v>5.0E3</v></c>',
+    '<c r="A2" t="str"><f>"50"</f><v>50</v></c>',
+    '<c r="A2"><f>2500*2</f><v>5000</v></c>',
+    '<c r="A2"><f>2500*2</f></c>',
+    '<c r="A2" t="b"><v>1</v></c>',
+    '<c r="A2" t="e"><v>#REF!</v></c>',
+    '<c r="A2" t="d"><v>2026-05-01</v></c>',
+    '<c r="A2" t="inlineStr"><is><t>5000</t></is></c>',
+    '<c r="A2"><v>0x1388</v></c>',
+    '<c r="A2"><v>1300.5</v></c>',
+    '<c r="A2"><v>-5000</v></c>',
+    '<c r="A2" t="s"><v>0</v></c>',
+    '<c r="A2" t="odd"><v>5000</v></c>',
+    '<c r="A2"><v>5000</v><x/></c>',
+]
+
+
+def values(turn, rows):
+    value = VALUES[turn % len(VALUES)]
+    first = row_of(1, rows[0])
+    second = f'<row r="2">{value}{cell(2, "B2")}{cell(1, "C2")}</row>'
+    return one(f"<sheetData>{first}{second}</sheetData>")
+
+
+def texts(turn, rows):
+    """The heading by shared texts: of pieces, and with a word on how to say it."""
+    rich = "<si><r><t>F</t></r><r><t>ox</t></r><rPh sb='0' eb='1'><t>x</t></rPh></si>"
+    made = [rich, "<si><t>Fox</t></si>", "<si><t>fox</t></si>", "<si/>"]
+    first = f'<c r="A1" t="s"><v>0</v></c>{cell("Low", "B1")}{cell("High", "C1")}'
+    lines = "".join(row_of(number, row) for number, row in enumerate(rows[1:], 2))
+    inner = f'<sheetData><row r="1">{first}</row>{lines}</sheetData>'
+    return one(inner, texts=made[turn % len(made)])
+
+
+def sheets(turn, rows):
+    second = [[["Fox", "Low", "High"], [1, 1, 1]], [["Notes"]], [["fox"]], [[]], [["Ant", "Low", "High"]]]
+    odd = Raw(("Bids", body(rows)), ("Other", body(second[turn % len(second)])))
+    if turn % 3 == 1:
+        odd.changed("xl/_rels/workbook.xml.rels", "sheet2.xml", "sheet1.xml")
+    elif turn % 7 == 6:
+        other = '/worksheet" Target="worksheets/sheet2'
+        odd.changed("xl/_rels/workbook.xml.rels", other, other.replace("/work", "/chart", 1))
+    return odd.bytes()
+
+
+KINDS = [plain, hidden, merged, sparse, repeated, order, huge, encrypted, bombs, formats, values]
+KINDS += [texts, sheets]
+
+
+def all_names():
+    return [f"{kind.__name__}_{turn:02}" for kind in KINDS for turn in range(COUNT)]
+
+
+def made(name):
+    """The workbook of a name, as hidden_03."""
+    kind, _, turn = name.rpartition("_")
+    chosen = random.Random(int(turn) // 10 * 7)
+    rows = [list(row) for row in FORM]
+    if int(turn) >= 10:
+        rows = [rows[0], *([chosen.randint(1, 99) * 100, *chosen.choices(range(9), k=2)] for _ in range(3))]
+    return globals()[kind](int(turn), rows)
+
+
+def outcome(data, sheet=None):
+    """What is read of a workbook, and what is said of it: of its rows, or of why they aren't read."""
+    try:
+        file = workbook_of("it", data, 4_002, sheet, BIDDERS)
+    except Unreadable as error:
+        return str(error).removeprefix("it: ").removeprefix("it:")
+    if file.faults:
+        return "; ".join(str(fault).removeprefix("it:") for fault in file.faults)
+    shown = " / ".join(",".join(row.values) for row in file.rows)
+    return "; ".join([shown, *file.changes[1:]])
+
+
+SHOWN = 'csv:Text - txt - csv (StarCalc):44,34,76,1,,0,false,false,false,false,false,-1'
+
+
+def by_libreoffice(folder, kind, *paths):
+    words = ["soffice", "--headless", f"-env:UserInstallation=file://{folder}/profile", "--convert-to", kind]
+    subprocess.run([*words, "--outdir", folder, *paths], capture_output=True, timeout=900, check=False)
+
+
+def shown_by_libreoffice(folder, name):
+    """The rows of each sheet as LibreOffice shows them, without empty ones."""
+    found = {}
+    for path in folder.glob(f"{name}-*.csv"):
+        with open(path, encoding="utf-8", newline="") as file:
+            rows = [",".join(row).rstrip(",") for row in csv.reader(file)]
+        found[path.stem.removeprefix(f"{name}-")] = [row for row in rows if row]
+    return found
+
+
+def taken(path):
+    """What is read of a workbook, or why it is refused."""
+    try:
+        file = workbook_of("it", path.read_bytes(), 4_002, None, BIDDERS)
+    except Unreadable as error:
+        return None, str(error)
+    odd = [value for row in file.rows[1:] for value in row.values if not DIGITS.fullmatch(value)]
+    if file.faults or odd:
+        return None, str(file.faults[0]) if file.faults else f"wdp refuses {odd[0][:40]!r}"
+    return file, ""
+
+
+def compared(folder, path, file):
+    """Whether what is read is what LibreOffice shows of the same sheet, or what the receipt names; and both."""
+    shown = shown_by_libreoffice(folder, path.stem)
+    first = next(iter(file.rows)).places[0].rpartition("!")[0] if file.rows else "Bids"
+    own = [",".join(row.values).rstrip(",") for row in file.rows]
+    is_named = any("shown as another number" in change for change in file.changes)
+    kind = "same" if shown.get(first) == own else "named" if is_named else "wrong"
+    return kind, f"{own} {shown} {file.changes}"
+
+
+def main():
+    folder = Path(sys.argv[1] if sys.argv[1:] else tempfile.mkdtemp(prefix="workbooks."))
+    folder.mkdir(exist_ok=True)
+    paths = []
+    for name in all_names():
+        paths.append(folder / f"{name}.xlsx")
+        paths[-1].write_bytes(made(name))
+    for turn in range(COUNT):
+        lines = [["Fox", "Low", "High"], *([turn * 100 + at, at, 1] for at in range(1, 4))]
+        lines[2:2] = [[]] * (turn % 3)
+        text = "".join(",".join(map(str, line)) + "\n" for line in lines)
+        (folder / f"libreoffice_{turn:02}.csv").write_text(text)
+    by_libreoffice(folder, "xlsx", *folder.glob("libreoffice_*.csv"))
+    paths += sorted(folder.glob("libreoffice_*.xlsx"))
+    found = {path: taken(path) for path in paths}
+    read = [path for path, (file, _) in found.items() if file]
+    for at in range(0, len(read), 50):
+        by_libreoffice(folder, SHOWN, *read[at : at + 50])
+    counts = {"same": 0, "refused": 0, "named": 0, "wrong": 0}
+    for path, (file, why) in found.items():
+        kind, both = compared(folder, path, file) if file else ("refused", why)
+        counts[kind] += 1
+        print(f"{path.stem}: {kind}: {both[:300]}")
+    print("{same} the same, {refused} refused, {named} named, {wrong} wrong".format(**counts))
+    return int(counts["wrong"] > 0)
+
+
+if __name__ == "__main__":
+    sys.exit(main())
