@@ -11,6 +11,7 @@ import sys
 from decimal import Decimal
 
 import pytest
+import workbooks
 from commands import content, is_in, rows
 
 import wdp
@@ -83,8 +84,14 @@ def refused(call, names="kind bidder row column"):
 def test_calls(tmp_path, monkeypatch, calls, wanted):
     monkeypatch.chdir(tmp_path)
     parts = [part.partition("\n")[2] for part in example.INPUT.split("%")[1:3]]
-    for name, text in zip(("rules", "form", "forged", "cut"), (*parts, FORGED, "Alpha,A,B")):
-        (tmp_path / name).write_text(text)
+    semicolons = "\ufeff" + parts[1].replace(",", ";").replace("\n", "\r\n")
+    texts = {"rules": parts[0], "form": parts[1], "forged": FORGED, "cut": "Alpha,A,B"}
+    texts |= {"Alpha.csv": semicolons, "groups.txt": "-\r\nAlpha\r\n", "open.csv": 'Alpha,A,B\n"1,1,0\n'}
+    for name, text in texts.items():
+        (tmp_path / name).write_bytes(text.encode())
+    lines = [[int(x) if x.isdecimal() else x for x in line.split(",")] for line in parts[1].split()]
+    (tmp_path / "Alpha.xlsx").write_bytes(workbooks.written(lines))
+    (tmp_path / "hidden.xlsx").write_bytes(workbooks.written(lines, workbooks.hide_row))
     os.mkfifo("pipe")
     os.symlink("loop", "loop")
     for call in calls.split("; "):

@@ -74,7 +74,7 @@ class Desk:
         return json.loads((self.out / "results.json").read_bytes())
 
     def table(self, name):
-        return list(csv.DictReader((self.out / f"{name}.csv").read_text().splitlines()))
+        return list(csv.DictReader((self.out / f"{name}.csv").read_text("utf-8-sig").splitlines()))
 
 
 @pytest.fixture
@@ -182,8 +182,8 @@ def test_titles_currencies_and_names_are_text(desk):
     assert (desk.json()["currency"], desk.json()["names"]["A"]) == ("GBP", "800 MHz")
 
 
-def test_what_a_reader_may_take_for_a_formula_is_quoted():
-    for cell in ("=1+1", "+1", "-", "@x", "%form", "\tx", "a,b", 'a"b', "a\nb"):
+def test_what_a_reader_may_take_for_more_than_a_text_is_quoted():
+    for cell in ("-", "%form", "a,b", 'a"b', "a\nb"):
         assert cell_text(cell) == '"' + cell.replace('"', '""') + '"'
     for cell, text in (("Alpha", "Alpha"), ("a=b", "a=b"), (-5, "-5"), (None, ""), ("", "")):
         assert cell_text(cell) == text
@@ -192,7 +192,7 @@ def test_what_a_reader_may_take_for_a_formula_is_quoted():
 def first_lines(desk):
     """The first line that one reads of the page's text, and of each table."""
     page = re.sub("<[^>]*>", "", desk.text().partition("</h1>")[2]).strip().splitlines()[0]
-    return [page, *((desk.out / name).read_text().splitlines()[0] for name in FILES[:4])]
+    return [page, *((desk.out / name).read_text("utf-8-sig").splitlines()[0] for name in FILES[:4])]
 
 
 def test_nothing_but_an_audit_certifies(desk, wdp):
@@ -296,6 +296,31 @@ def test_a_folder_that_cannot_be_replaced_stays(tmp_path, monkeypatch):
         files.write_folder(str(tmp_path / "it"), {"a": b"newer"})
     assert [path.read_bytes() for path in tmp_path.rglob("*") if path.is_file()] == [b"older"]
     assert os.listdir(tmp_path) == ["it"]
+
+
+FORMULAS = ["=1+1", "+44 20", "-5", "@SUM(A1)", "\t=1", "\r=1", "＝1+1", "＋1", "－1", "＠x"]
+
+
+def test_spreadsheets_take_names_for_texts_in_utf_8(desk):
+    """A cell that begins as a formula gets an apostrophe, which spreadsheets take for the beginning of a text, and each table a
+    byte order mark."""
+    for name in FORMULAS:
+        assert cell_text(name) == (f'"\'{name}"' if "\r" in name else f"'{name}")
+    for name in ("Astér", "A-1", "1+1", "a=b"):
+        assert cell_text(name) == name
+    names = desk.write("names.csv", "Alpha,=1+1\nBeta,Astér\nGamma,'tis\n")
+    desk.page(*POOL, "--names", names)
+    for path in desk.out.glob("*.csv"):
+        assert path.read_bytes().startswith("\ufeff".encode()), path
+    assert [row["name"] for row in desk.table("bidders")] == ["'=1+1", "Astér", "'tis"]
+    assert "Alpha (=1+1)" in desk.text() and desk.json()["names"]["Alpha"] == "=1+1"
+
+
+def test_sums_are_at_the_end_of_a_printed_table_alone(desk):
+    """(Browsers repeat what they take for a table's foot on each sheet of paper.)"""
+    desk.page(*POOL)
+    printed = desk.text().partition("@media print {")[2].partition("</style>")[0]
+    assert "tfoot { display: table-row-group; }" in printed
 
 
 # widths in CSS pixels; of paper what a page shows of 1/96 inch: A4 upright is 210 mm, less margins of 12 mm

@@ -10,7 +10,7 @@ from wdp.results import Allocation, Certified, Counts, Group, Matrix, Prices, Pr
 from wdp.results import Solutions, Tie, Winner
 from wdp.texts.refusals import Missing, NotFound, NotSolved, Refused, Unclear, WrongWords
 
-__version__ = "1.2.0"
+__version__ = "2.0.0"
 __all__ = ["Allocation", "Auction", "Certified", "Counts", "Explained", "Finding", "Group"]
 __all__ += ["Matrix", "Missing", "NotFound", "NotSolved", "Prices", "Program", "Refused"]
 __all__ += ["Report", "Solutions", "Tie", "Unclear", "Winner", "WrongWords"]

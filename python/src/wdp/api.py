@@ -2,20 +2,25 @@
 from __future__ import annotations
 
 import os
-from collections.abc import Iterable
-from contextlib import nullcontext
+from collections.abc import Callable, Iterable
+from dataclasses import replace
+from functools import partial
 from numbers import Real
 from typing import Any
 
 from wdp import certify, files, solve
 from wdp import prices as pricing
 from wdp.office.judge import Explained, explained
+from wdp.office.reading import form_file, groups_text, rules_file
+from wdp.office.sheets import MOST_OF_A_FILE, File, lines_of
 from wdp.program import Limits, Path, answer, found_program
 from wdp.results import Allocation, Certified, Counts, Program, Report, Solutions, joined
 from wdp.texts import answers, records
-from wdp.texts.parts import MOST_OF_INPUT, with_groups
+from wdp.texts.accepted import Category, Rules
+from wdp.texts.parts import names_in, with_groups
 from wdp.texts.records import Text
 from wdp.texts.refusals import NotFound, NotSolved, Refused, WrongWords
+from wdp.texts.tables import encoded
 
 UNENDED = "the last line has no end, as in a file that was cut off; say allow_unended=True if it is complete"
 
@@ -30,7 +35,8 @@ class Auction:
     frame); or one table of all bids, a list of dicts or a data frame with `bidder`, `amount` and the categories. A data frame
     must have a column for each category, and a dict an entry unless `missing_as_zero` is true.
     `groups`: a text, or a list of lines or of tuples of names; by default the one group that leaves nobody out.
-    Amounts are whole pounds, quantities lots. Nothing is rounded.
+    Amounts are whole pounds, quantities lots. Nothing is rounded. A bidder has one form, unless `last_wins` says that of
+    several the last one counts.
 
     `program` is the path of the proved program, `time_limit` how many seconds each call of it may take; by default there is
     no limit.
@@ -54,6 +60,7 @@ class Auction:
         forms: Any = (),
         groups: Any = None,
         missing_as_zero: bool = False,
+        last_wins: bool = False,
         program: Path | None = None,
         time_limit: float | None = None,
     ) -> None:
@@ -62,6 +69,8 @@ class Auction:
         parts = [records.part("rules", rules)]
         parts += [records.part("form", form.text, n) for n, form in enumerate(self._forms, 1)]
         parts.append(records.part("groups", records.groups_text(groups)))
+        if not last_wins:
+            records.check_bidders(self._forms)
         self._given = b"".join(parts)
         self._program = found_program(program)
         self._time_limit = seconds_of(time_limit)
@@ -83,18 +92,33 @@ class Auction:
         groups: Path | None = None,
         *,
         allow_unended: bool = False,
+        last_wins: bool = False,
+        sheet: str | None = None,
         program: Path | None = None,
         time_limit: float | None = None,
     ) -> Auction:
-        """The auction of a file of rules, a file for each form, and a file of groups; nobody is left out without one. Of several
-        forms of a bidder the last one counts. Raises what Auction(..) does, NotFound if a file isn't there, and Refused if it
-        can't be read, or if its last line has no end, as in a file that was cut off: `allow_unended` says that such files
-        are complete."""
+        """The auction of a file of rules, a file for each form, and a file of groups; nobody is left out without one. Files are read
+        as `wdp-office gather` reads them: workbooks, of which `sheet` names the sheet, CSV with semicolons, UTF-16. Raises what
+        Auction(..) does, NotFound if a file isn't there, and Refused if it can't be read, or if its last line has no end, as in
+        a file that was cut off: `allow_unended` says that such files are complete."""
         paths = [forms] if isinstance(forms, (str, bytes, os.PathLike)) else listed(forms, "forms")
+        read_rules = partial(rules_file, sheet=sheet)
+        file = content(rules, read_rules, "rules", allow_unended=allow_unended)
+        known = names_of(file)
+        read_form = partial(form_file, rules=known, sheet=sheet)
+        texts = [
+            content(path, read_form, "form", number, allow_unended=allow_unended).text
+            for number, path in enumerate(paths, 1)
+        ]
+        lines = None
+        if groups is not None:
+            listing = content(groups, read_groups, "groups", allow_unended=allow_unended)
+            lines = encoded(groups_text(listing.rows))
         return cls(
-            rules=content(rules, allow_unended, "rules"),
-            forms=[content(path, allow_unended, "form", n) for n, path in enumerate(paths, 1)],
-            groups=None if groups is None else content(groups, allow_unended, "groups"),
+            rules=file.text,
+            forms=texts,
+            groups=lines,
+            last_wins=last_wins,
             program=program,
             time_limit=time_limit,
         )
@@ -107,7 +131,7 @@ class Auction:
         tie: Any = None,
         prices: Text | None = None,
         cover: Text | None = None,
-        weights: Text | None = None,
+        rule: Text | None = None,
     ) -> bytes:
         """The input followed by these parts, as the program reads it: with certificates it is an audit, which `wdp verify`
         judges anywhere. Raises WrongWords or Refused if a text would be more than its part."""
@@ -115,7 +139,7 @@ class Auction:
         parts = [records.part("solution", x, n) for n, x in enumerate(solution_texts(solutions), 1)]
         parts += [records.part("certificate", text, n) for n, text in enumerate(shown, 1)]
         tie = None if tie is None else records.solution_text(tie, "tie")
-        others = dict(unique=unique, tie=tie, prices=prices, cover=cover, weights=weights)
+        others = dict(unique=unique, tie=tie, prices=prices, cover=cover, rule=rule)
         parts += [records.part(head, text) for head, text in others.items() if text is not None]
         return self._given + b"".join(parts)
 
@@ -206,10 +230,15 @@ class Auction:
     def prices(
         self, certified: Certified, solver: str | None = None, time_limit: float | None = None
     ) -> Certified:
-        """What is certified, with prices: whole ones of the least sum that cover every group of bidders, and of these the nearest
-        to what each winner costs alone. Its report has them, and after the groups of the auction those that show them: each
-        winner alone, and what binds the sum. `time_limit` is in seconds, for each solver's run and each certificate. Raises what
-        `solve` and `certify` do."""
+        """What is certified, with the prices of the rule: of those that cover every group of bidders and meet the reserves the ones of
+        least sum, and of these the nearest to what each winner would pay alone, rounded up to whole pounds. Its report has them,
+        and after the groups of the auction those that show them: each winner alone, and what binds the prices. `time_limit` is
+        in seconds, for each solver's run and each certificate. Raises what `solve` and `certify` do.
+        """
+        if not isinstance(certified, Certified):
+            found_type = type(certified).__name__
+            why = f"what Auction.certify gives is asked for, and this is of type {found_type}"
+            raise WrongWords(f"certified: {why}")
         name, seconds = checked_solver(solver), seconds_of(time_limit)
         given = zip(certified.solutions, certified.certificates)
         found = [Found(text.encode(), shown.encode(), 0) for text, shown in given]
@@ -226,13 +255,13 @@ class Auction:
                 found.append(certify.certified(program.text.encode(), begin, seconds))
             return grown
 
-        winners = [winner.bidder for winner in certified.report[0].winners]
-        with_more([winner for winner in winners if winner not in listed])
+        with_more(pricing.alone_in(self._given, found[0].solution, listed))
         points = [each.solution for each in found]
         award = pricing.Award(self._given, programs[0].text.encode(), points, listed)
-        more, parts = award.priced(name, seconds, nullcontext, None)
+        priced = pricing.Search(award, solver=name, seconds=seconds).run()
         claims = {"unique": certified.unique, "tie": certified.tie}
-        return with_more(more)._certified(found, name, parts, claims)
+        made = with_more(priced.added)._certified(found, name, priced.parts, claims)
+        return replace(made, limit=priced.limit)
 
     def report(self, solutions: Iterable[Any], workers: int = 1) -> Report:
         """Winners, total and opportunity cost of each group in pounds, from a solution for each: texts, or dicts of columns
@@ -250,15 +279,15 @@ class Auction:
         *,
         prices: Text | None = None,
         cover: Text | None = None,
-        weights: Text | None = None,
+        rule: Text | None = None,
     ) -> Report:
         """The same as `report`, proved: a certificate for each group shows that no total is greater. With `unique`, a
         certificate that the solution of group 1 is the only optimal one, or `tie`, another solution with the same total, the
         report's `uniqueness` is what that shows. With `prices`, a line `NAME PRICE` for each winner of group 1, and `cover`, a
-        certificate that they cover every group, perhaps with `weights` that show their sum to be the least one, the report has
-        `prices`; docs/REFERENCE.md has these texts. Raises Refused if `report` does, if a certificate doesn't show its bound,
+        certificate that they cover every group, perhaps with `rule`, which shows that they are those of the rule, the report
+        has `prices`; docs/REFERENCE.md has these texts. Raises Refused if `report` does, if a certificate doesn't show its bound,
         and if a claim doesn't hold."""
-        given = self.input(solutions, certificates, unique, tie, prices, cover, weights)
+        given = self.input(solutions, certificates, unique, tie, prices, cover, rule)
         return self._report("verify", given, workers)
 
     def map(self, solution: Any, group: int = 1) -> Allocation:
@@ -314,16 +343,36 @@ def seconds_of(time_limit: float | None) -> float | None:
     return float(time_limit)
 
 
-def content(path: Path, allow_unended: bool, head: str, number: int | None = None) -> bytes:
-    """The bytes of a file that becomes a part of the input, with the part's number if there are several."""
+def names_of(file: File) -> Rules:
+    """The names in a file of rules, of which nothing else is known."""
+    categories = [Category(name, 0, 0, 0) for name in names_in(file.rows, "category")]
+    return Rules(1, categories, names_in(file.rows, "bidder"))
+
+
+def read_groups(path: str) -> File:
+    """The lines of a file of groups."""
+    return lines_of(path, files.read(path, MOST_OF_A_FILE, regular=True))
+
+
+def content(
+    path: Path,
+    read: Callable[[str], File],
+    head: str,
+    number: int | None = None,
+    *,
+    allow_unended: bool,
+) -> File:
+    """A file that becomes a part of the input, with the part's number if there are several. Raises Refused at its first fault."""
     name = head if number is None else f"{head} {number}"
     if not isinstance(path, (str, bytes, os.PathLike)):
         raise WrongWords(f"{name}: a path is asked for, and this is of type {type(path).__name__}")
     try:
-        data = files.read(os.fsdecode(path), MOST_OF_INPUT, regular=True)
-        if data and not data.endswith((b"\n", b"\r")) and not allow_unended:
-            raise files.Unreadable(os.fsdecode(path), UNENDED)
-        return data
+        file = read(os.fsdecode(path))
     except files.Unreadable as error:
         kind = NotFound if isinstance(error.__cause__, FileNotFoundError) else Refused
         raise kind(f"{name}: {error.text}", head, number) from None
+    if file.faults:
+        raise Refused(f"{name}: {file.faults[0]}", head, number)
+    if file.rows and not file.is_ended and not allow_unended:
+        raise Refused(f"{name}: {file.path}: {UNENDED}", head, number)
+    return file

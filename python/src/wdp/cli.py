@@ -9,7 +9,7 @@ from functools import partial
 from typing import NoReturn
 
 from wdp import files
-from wdp.steps import INTERRUPTED, Step
+from wdp.steps import INTERRUPTED, Step, heed_children
 from wdp.texts.refusals import Refused, escaped, shortened
 
 NAME = "wdp-office"
@@ -102,6 +102,8 @@ def reported(say: Callable[[str], None], label: str, step: Step) -> int:
 def main(words: list[str] | None = None) -> int:
     """Does what the words ask for, and gives the status; whatever goes wrong is one line on standard error."""
     asked = sys.argv[1:] if words is None else words
+    files.open_standard_streams()
+    heed_children()
     say = partial(files.say, asked[0] if asked and asked[0] in COMMANDS else NAME)
 
     def called() -> int:

@@ -1,296 +1,334 @@
-"""What the winners pay: whole prices of the least sum that cover every group of bidders and meet the reserves, and of these
-the nearest, in squares, to what each winner costs alone; of several the first, compared by the order of the rules.
+"""Finds what the winners pay, by the rule of clock auctions: of all prices that cover every group of bidders and meet the reserves
+those of least sum, and of these the nearest, by the sum of squares, to what each winner would pay alone, the greater of its
+opportunity cost and its reserve. Each price is then rounded up to whole pounds.
 
 A group is covered if its winners pay at least its opportunity cost. Every allocation shows what the winners whom it leaves out
 cost at least. Some allocations give prices; then the program that is raised by the winners' surplus has a better point, which
-is a further allocation, or a certificate shows that it has none, and the prices cover every group. Floating point proposes,
-whole numbers decide, and `wdp verify` is the judge of what comes of it.
+is a further allocation, or a certificate shows that it has none, and the prices cover every group. `wdp verify` is the judge of
+what comes of it.
 """
 import argparse
+import functools
 import math
 import re
-from collections.abc import Callable, Sequence
-from contextlib import AbstractContextManager
+from collections.abc import Callable, Iterable, Sequence
+from contextlib import AbstractContextManager, nullcontext
+from dataclasses import dataclass
 from fractions import Fraction
 from operator import mul
 from pathlib import Path
-from typing import Any, NamedTuple
+from typing import TYPE_CHECKING
 
 from wdp import certify, solve
+from wdp.certify import Say
+from wdp.office.faults import figure
+from wdp.rule import Group, Rule, WholeRule, paid, prices_above
 from wdp.texts import accepted
 from wdp.texts.refusals import NotSolved, Refused
-from wdp.texts.zero_one import read_program, read_solution
 
-COST = re.compile(rb"(?m)^( X([0-9]+)_[0-9]+ OBJ )(-?[0-9]+)$")
+if TYPE_CHECKING:
+    from wdp.certify.problem import Problem
+
 BID = re.compile(r"X([0-9]+)_([0-9]+)")
 MOST_GROUPS = 1024
-WINDOW = 8  # pounds by which a price is moved at once
-STRONGEST = 1e6  # of what a pound brings nearer; more is no different
-LARGEST_SCALE = 10_000  # of weights
-MOST_NODES = 20_000  # of a solver's search for one move
-TRIES = 50  # of a solver that rounds
+MOST_PARTS = 10**6  # of a pound
+MOST_COST = 10**18  # of a column, in parts
+MOST_DIGITS = 18
 
-Group = frozenset[int]  # winners, by their places in the order of the rules
-Prices = list[int]
 AtOnce = Callable[[], AbstractContextManager[None]]
+Keep = Callable[[bytes], None]
 
 
-class Weights(NamedTuple):
-    """What shows a least sum: a scale, weights of groups, and of each winner's reserve."""
+@dataclass(frozen=True)
+class Payment:
+    """What each winner pays, in parts of a pound."""
 
-    scale: int
-    groups: dict[Group, int]
-    reserves: Prices
+    parts: int
+    prices: list[int]
+
+    @classmethod
+    def exact(cls, prices: Sequence[Fraction]) -> "Payment":
+        parts = math.lcm(*(price.denominator for price in prices))
+        return cls(parts, [int(price * parts) for price in prices])
+
+    @classmethod
+    def rounded_up(cls, prices: Sequence[Fraction]) -> "Payment":
+        return cls(1, [math.ceil(price) for price in prices])
+
+    def fractions(self) -> list[Fraction]:
+        return [Fraction(price, self.parts) for price in self.prices]
+
+
+@dataclass(frozen=True)
+class Plan:
+    """Prices that cover the groups that are known. They are those of the rule for these groups, as `text` shows if the groups of
+    `added` follow the listed ones; or these rounded up, if they are beyond a limit."""
+
+    payment: Payment
+    added: list[str]
+    text: str
+    limit: str | None = None
+
+
+@dataclass(frozen=True)
+class Priced:
+    """The groups that are to be added to the listed ones, and the parts of an audit. If the exact prices are beyond a limit, these
+    are rounded up, and only shown to cover every group."""
+
+    added: list[str]
+    parts: bytes
+    limit: str | None
+
+
+class Beyond(Refused):
+    """Why exact prices can't be written with what shows them."""
 
 
 class Award:
-    """The award of group 1: what its winners bid, and what groups of them are known to cost at least, from the input, the first
-    program, and each group's solution with the names that it leaves out."""
+    """The award of group 1: the names, amounts and reserves of its winners, in the order of the rules, and what groups of them are
+    known to cost at least. `places` are those of the winners, by their numbers in the rules."""
 
     def __init__(
         self, data: bytes, program: bytes, solutions: Sequence[bytes], listed: Sequence[str]
     ) -> None:
+        """Of the input, the first program, and each group's solution with the line of the names that it leaves out."""
         auction = accepted.read(data, "the input")
-        self.text, self.solution, self.listed = program, solutions[0], listed
-        self.program = read_program(program)
-        ones = read_solution(self.solution, self.program, "solution 1")
-        self.total = -self.program.objective(ones)
-        named = [BID.fullmatch(column.name) for column in self.program.columns]
-        won = [tuple(map(int, found.groups())) for at in sorted(ones) if (found := named[at])]
+        self.problem = certify.read_problem(program)
+        self.solution = solutions[0]
+        ones = self.problem.ones(self.solution)
+        self.total = -self.problem.program.objective(ones)
+        columns = self.problem.program.columns
+        found = (BID.fullmatch(columns[place].name) for place in sorted(ones))
+        won = [(int(bid[1]), int(bid[2])) for bid in found if bid]
         self.names = [auction.rules.bidders[bidder - 1] for bidder, _ in won]
-        bids = [auction.bids[name][bid - 1] for name, (_, bid) in zip(self.names, won)]
-        self.amounts: Prices = [bid.amount for bid in bids]
+        bids = [auction.bids[name][bid - 1] for name, (_, bid) in zip(self.names, won, strict=True)]
+        self.amounts = [bid.amount for bid in bids]
         reserves = [category.reserve for category in auction.rules.categories]
-        self.reserves: Prices = [sum(map(mul, bid.lots, reserves)) for bid in bids]
+        self.reserves = [sum(map(mul, bid.lots, reserves)) for bid in bids]
+        self.places = {bidder: place for place, (bidder, _) in enumerate(won)}
         self.costs: dict[Group, int] = {}
-        # the places of winners by their numbers in the rules, and of each column's bidder
-        self.places = {bidder: at for at, (bidder, _) in enumerate(won)}
-        self.holders = [self.places.get(int(found[1])) if found else None for found in named]
-        for solution, names in zip(solutions, listed):
+        self.listed = [line.split("+") for line in listed]
+        for solution, names in zip(solutions, self.listed, strict=True):
             self.learn(solution, names)
 
-    def learn(self, solution: bytes, names: str = "") -> None:
-        """Takes from an allocation what the winners cost at least whom it leaves out, and what these bidders do."""
-        ones = read_solution(solution, self.program, "a solution")
-        won = {self.holders[place] for place in ones}
-        left_out = frozenset(at for at in range(len(self.names)) if at not in won)
-        asked = frozenset(at for at, name in enumerate(self.names) if name in names.split("+"))
+    def line(self, group: Group) -> str:
+        return "+".join(self.names[place] for place in sorted(group))
+
+    def learn(self, solution: bytes, names: Iterable[str] = ()) -> Group:
+        """Takes from an allocation what the winners cost at least whom it leaves out, and what those of these names do. Returns the
+        former."""
+        ones = self.problem.ones(solution)
+        won = {self.places.get(int(self.problem.holders[place])) for place in ones}
+        left_out = frozenset(place for place in range(len(self.names)) if place not in won)
+        asked = frozenset(place for place, name in enumerate(self.names) if name in names)
+        gain = -self.total - self.problem.program.objective(ones)
         for group in filter(None, (left_out, asked)):
-            bid = sum(self.amounts[at] for at in group)
-            cost = bid - self.total - self.program.objective(ones)
-            self.costs[group] = max(cost, self.costs.get(group, cost))
+            self.set_cost(group, gain + sum(self.amounts[place] for place in group))
+        return left_out
 
-    def covers(self, prices: Prices) -> bool:
-        """Whether prices are between reserves and amounts, and cover the groups that are known."""
-        return all(sum(map(mul, signs, prices)) >= need for signs, need in self.bounds())
+    def set_cost(self, group: Group, cost: int) -> None:
+        self.costs[group] = max(cost, self.costs.get(group, cost))
 
-    def far(self, prices: Prices) -> int:
-        """How far prices are from the costs alone, in squares."""
-        return sum((price - cost) ** 2 for price, cost in zip(prices, self.alone()))
+    def covers(self, prices: Sequence[Fraction]) -> bool:
+        """Whether prices cover the groups that are known."""
+        return all(paid(group, prices) >= cost for group, cost in self.costs.items())
 
-    def alone(self) -> Prices:
-        return [self.costs[frozenset([at])] for at in range(len(self.names))]
+    def cost_alone(self, place: int) -> int:
+        return self.costs.get(frozenset([place]), 0)
 
-    def raised(self, prices: Prices) -> bytes:
-        """The program in which each winner's columns cost more by its surplus."""
-        surplus = {b: self.amounts[at] - prices[at] for b, at in self.places.items()}
+    def alone(self) -> list[int]:
+        """What each winner would pay alone."""
+        pairs = enumerate(self.reserves)
+        return [max(self.cost_alone(place), reserve) for place, reserve in pairs]
 
-        def line(found: re.Match[bytes]) -> bytes:
-            return found[1] + str(int(found[3]) + surplus.get(int(found[2]), 0)).encode()
-
-        return COST.sub(line, self.text)
-
-    def bounds(self) -> list[tuple[list[int], int]]:
-        """What prices have to meet: a sign of each, and what they add up to at least."""
-        own = [[int(at == it) for it in range(len(self.names))] for at in range(len(self.names))]
-        rows = [([int(at in g) for at in range(len(own))], n) for g, n in self.costs.items()]
-        rows += list(zip(own, self.reserves))
-        return rows + [([-n for n in one], -a) for one, a in zip(own, self.amounts)]
-
-    def nearest(self) -> Prices:
-        """Of the whole prices of the least sum, by the groups that are known, the nearest to the costs alone."""
-        if not self.names:
-            return []
-        prices = self.least()
-        total, first = sum(prices), -1
-        near, pull = self.projected(prices)
-        while first < len(prices):
-            moved = Moves(self, near, pull).nearest(total, first)
-            is_nearer = (self.far(moved), moved) < (self.far(prices), prices)
-            if is_nearer and self.covers(moved) and sum(moved) == total:
-                prices = moved
-            else:
-                first += 1
-            near = prices
-        return prices
-
-    def least(self) -> Prices:
-        """Some whole prices of the least sum."""
-        import numpy as np
-        from scipy.optimize import linprog
-
-        signs, needs = zip(*self.bounds())
-        unit = float(max(self.amounts))
-        right = np.array(needs, float) / unit
-        found = linprog(np.ones(len(self.names)), -np.array(signs, float), -right)
-        prices = [round(x * unit) for x in found.x]
-        for _ in range(TRIES):
-            moves = Moves(self, prices, np.zeros(len(signs)))
-            before, prices = prices, moves.found(moves.each)
-            if prices == before:
-                break
-        if not self.covers(prices):
-            raise Refused("the least sum isn't found: the solver's prices don't cover its groups")
-        return prices
-
-    def projected(self, prices: Prices) -> tuple[Prices, Any]:
-        """The prices of this sum, in parts of a pound, nearest to the costs alone, rounded; and what a pound at each bound brings nearer."""
-        import numpy as np
-        from scipy.optimize import nnls
-
-        signs, needs = zip(*self.bounds())
-        alone, total = np.array(self.alone(), float), sum(prices)
-        rows = np.vstack([np.array(signs, float), np.ones(len(prices)), -np.ones(len(prices))])
-        apart = np.array([*needs, total, -total], float) - rows @ alone
-        unit, last = float(abs(apart).max()) or 1.0, np.append(np.zeros(len(prices)), 1.0)
-        try:
-            for _ in range(2):  # the second time in units of the distance
-                pull, _ = nnls(np.vstack([rows.T, apart / unit]), last)
-                pull = pull * unit / (1 - apart @ pull / unit)
-                unit = float(np.linalg.norm(rows.T @ pull)) or 1.0
-            return [round(x) for x in alone + rows.T @ pull], 2 * pull[:-2]
-        except (RuntimeError, ValueError, OverflowError):  # too many turns, or no numbers
-            return prices, np.zeros(len(signs))
-
-    def weights(self, least: int) -> Weights | None:
-        """What shows that no whole prices come to less than this; None where the dual of the least sum doesn't."""
-        import numpy as np
-        from scipy.optimize import linprog
-
-        winners = range(len(self.names))
-        if not winners:
-            return Weights(1, {}, [])
+    def exact(self) -> tuple[list[Fraction], Rule]:
+        """The prices of the rule by the groups that are known, and what shows them."""
         while True:
-            groups, gains = list(self.costs), [*self.costs.values(), *self.reserves]
-            unit = max([1, *gains])
-            rows = [[at in g for g in groups] + [at == own for own in winners] for at in winners]
-            found = linprog([-n / unit for n in gains], np.array(rows, float), np.ones(len(rows)))
-            exact = [Fraction(y).limit_denominator(LARGEST_SCALE) for y in found.x]
-            if sum(y * n for y, n in zip(exact, gains)) > least - 1:
-                break
-            # weights know no amounts: prices above them are of no use once these groups are known
-            price = [-n * unit for n in found.ineqlin.marginals]
-            over = [at for at in winners if price[at] > self.amounts[at] + 0.5]
-            pairs = [(g, at) for g, y in zip(groups, exact) if y for at in over if at in g]
-            less = {g - {at}: self.costs[g] - self.amounts[at] for g, at in pairs}
-            news = {g: n for g, n in less.items() if g and n > self.costs.get(g, -1)}
-            if not news:
-                return None
-            self.costs.update(news)
-        scale = math.lcm(*(y.denominator for y in exact))
-        whole = [int(y * scale) for y in exact]
-        if any(sum(y for y, is_in in zip(whole, row) if is_in) > scale for row in rows):
-            return None
-        return Weights(scale, {g: y for g, y in zip(groups, whole) if y}, whole[len(groups) :])
+            alone = self.alone()
+            gaps = {
+                group: cost - sum(alone[at] for at in group) for group, cost in self.costs.items()
+            }
+            rule = prices_above(gaps, len(alone))
+            prices = [floor + more for floor, more in zip(alone, rule.above, strict=True)]
+            if not self.learn_from_amounts(prices):
+                return prices, rule
 
-    def found(
-        self, solver: str, seconds: float | None, at_once: AtOnce, log: Path | None
-    ) -> tuple[Prices, bytes]:
-        """Prices, and the certificate that they cover every group. The solver looks for allocations that show what further groups
-        cost, and the certificate is the judge."""
-        while True:
-            with at_once():
-                prices = self.nearest()
-            raised = self.raised(prices)
-            try:
-                self.learn(solve.point_of(raised, solver, seconds, log))
-            except NotSolved as failed:
-                if failed.status != solve.TIME_OUT:
-                    raise
-            if not self.covers(prices):
+    def learn_from_amounts(self, prices: Sequence[Fraction]) -> bool:
+        """Whether a price is above the winner's amount. Then what the others of its groups cost follows: at least what the group
+        costs, less that amount."""
+        over = [place for place, price in enumerate(prices) if price > self.amounts[place]]
+        for place in over:
+            for group, cost in list(self.costs.items()):
+                if place in group and paid(group, prices) <= cost:
+                    self.set_cost(group - {place}, cost - self.amounts[place])
+        return bool(over)
+
+    def raised(self, payment: Payment) -> "Problem":
+        """The program in parts, in which each winner's columns cost more by its surplus."""
+        surplus = {
+            bidder: payment.parts * self.amounts[place] - payment.prices[place]
+            for bidder, place in self.places.items()
+        }
+        return self.problem.raised(surplus, payment.parts)
+
+    def check(self, payment: Payment, shown: WholeRule) -> None:
+        """Beyond if a number of exact prices or of what shows them is too large."""
+        parts = payment.parts
+        if parts > MOST_PARTS:
+            raise Beyond(f"they have {parts:,} parts of a pound, which is above {MOST_PARTS:,}")
+        largest = max([0, *payment.prices, *shown.numbers()])
+        if len(str(largest)) > MOST_DIGITS:
+            raise Beyond(f"the number {largest:,} has more than {MOST_DIGITS} digits")
+        cost = parts * max([self.problem.layout.largest_cost, *self.amounts])
+        if cost > MOST_COST:
+            raise Beyond(f"a column costs {cost:,} parts of a pound, which is above {MOST_COST:,}")
+
+    def rule_part(self, shown: WholeRule) -> tuple[list[str], str]:
+        """The groups that show prices beside the listed ones, and the part that does. Beyond if there are too many groups."""
+        numbers: dict[frozenset[str], int] = {}
+        for number, names in enumerate(self.listed, 1):
+            # (of a group that is listed twice the first one counts)
+            numbers.setdefault(frozenset(names), number)
+        if any(frozenset([name]) not in numbers for name in self.names):
+            raise Beyond(f"with each winner alone there are more than {MOST_GROUPS:,} groups")
+        added: list[str] = []
+        of_groups: dict[int, str] = {}
+        of_reserves: list[str] = []
+        for group in shown.groups():
+            weights = f"{shown.least.get(group, 0)} {shown.near.get(group, 0)}"
+            if self.is_reserve(group):
+                of_reserves.append(f"{self.line(group)} {weights}")
                 continue
-            with at_once():
-                cover = certify.certified(raised, self.solution, seconds)
-            self.learn(cover.solution)
-            if self.covers(prices):
-                return prices, cover.certificate
+            left_out = frozenset(self.names[place] for place in group)
+            if left_out not in numbers:
+                added.append(self.line(group))
+                numbers[left_out] = len(self.listed) + len(added)
+            of_groups[numbers[left_out]] = weights
+        if len(self.listed) + len(added) > MOST_GROUPS:
+            raise Beyond(f"with what binds them there are more than {MOST_GROUPS:,} groups")
+        lines = [f"{shown.scale} {shown.near_scale} {shown.push}"]
+        lines += [f"{number} {of_groups[number]}" for number in sorted(of_groups)]
+        return added, "%rule\n" + "".join(f"{line}\n" for line in [*lines, *of_reserves])
 
-    def priced(
-        self, solver: str, seconds: float | None, at_once: AtOnce, log: Path | None
-    ) -> tuple[list[str], bytes]:
-        """The groups to be added to those that are listed, and the parts of an audit; without `%weights` it isn't shown that the
-        sum is the least. Within `at_once` nothing is begun that would have to be put away."""
-        prices, cover = self.found(solver, seconds, at_once, log)
-        with at_once():
-            weights = self.weights(sum(prices))
-        text = "%prices\n" + "".join(f"{n} {p}\n" for n, p in zip(self.names, prices))
-        text += "%cover\n" + cover.decode()
-        of_groups = [sorted(group) for group in weights.groups] if weights else []
-        shown = ["+".join(self.names[at] for at in group) for group in of_groups]
-        listed = list(dict.fromkeys([*self.listed, *shown]))
-        if not weights or len(listed) > MOST_GROUPS:
-            return [], text.encode()
-        given = {str(listed.index(k) + 1): n for k, n in zip(shown, weights.groups.values())}
-        given.update(zip(self.names, weights.reserves))
-        text += f"%weights\n{weights.scale}\n"
-        text += "".join(f"{k} {n}\n" for k, n in given.items() if n)
-        return listed[len(self.listed) :], text.encode()
+    def is_reserve(self, group: Group) -> bool:
+        """Whether a group is of one winner, whose reserve is above its opportunity cost."""
+        return len(group) == 1 and all(self.reserves[at] > self.cost_alone(at) for at in group)
+
+    def priced(self, plan: Plan, cover: bytes) -> Priced:
+        """What a plan comes to whose prices a certificate shows to cover every group."""
+        prices = zip(self.names, plan.payment.fractions(), strict=True)
+        text = "%prices\n" + "".join(f"{name} {price}\n" for name, price in prices)
+        parts = text.encode() + b"%cover\n" + cover + plan.text.encode()
+        return Priced(added=plan.added, parts=parts, limit=plan.limit)
 
 
-class Moves:
-    """Whole moves, of some pounds each, away from prices to others that meet the bounds, which a solver is asked for. `pull` has what
-    a pound at each bound brings nearer to the costs alone: less that, numbers are small.
+def forget(solution: bytes) -> None:
+    """Keeps no allocation."""
 
-    The columns: the move of each price, its pounds up and down, and by how much each bound that is near is then exceeded.
+
+def silence(text: str) -> None:
+    """Says nothing."""
+
+
+@dataclass
+class Search:
+    """The search for prices that cover every group: a solver looks for allocations that show what further groups cost, and the
+    certificate is the judge. Within `at_once` nothing is begun that would have to be put away. `keep` gets each allocation that
+    showed something, and `say` a line about it. `limit` is what no exact prices can be within, once that is known.
     """
 
-    def __init__(self, award: Award, prices: Prices, pull: Any) -> None:
-        import numpy as np
+    award: Award
+    solver: str
+    seconds: float | None = None
+    at_once: AtOnce = nullcontext
+    log: Path | None = None
+    say: Say = silence
+    keep: Keep = forget
+    limit: str | None = None
 
-        self.prices, count, bounds = prices, len(prices), award.bounds()
-        needs = [need - sum(n * p for n, p in zip(signs, prices)) for signs, need in bounds]
-        near = [at for at, need in enumerate(needs) if need > -WINDOW * count]
-        signs = np.array([bounds[at][0] for at in near], float).reshape(-1, count)
-        self.needs = np.array([needs[at] for at in near], float)
-        many, none = np.kron(np.eye(count), np.ones(WINDOW)), np.zeros((count, len(near)))
-        more = np.zeros((len(near), 2 * count * WINDOW))
-        of_prices, of_bounds = [np.eye(count), -many, many, none], [signs, more, -np.eye(len(near))]
-        self.links = np.block([of_prices, of_bounds])
-        gaps = np.array([2.0 * (price - cost) for price, cost in zip(prices, award.alone())])
-        rest, self.pull = gaps - signs.T @ pull[near], np.minimum(pull[near], STRONGEST)
-        pounds = np.tile(np.arange(1.0, 2 * WINDOW, 2), 2 * count)
-        self.distance = np.hstack([rest - np.median(rest), pounds, self.pull])
-        self.each = (np.arange(len(self.distance)) < count).astype(float)
-        self.low, self.high = -WINDOW * self.each, 1 + (WINDOW - 1) * self.each
-        self.high[len(self.high) - len(near) :] = np.inf
+    def run(self) -> Priced:
+        """What the winners pay, with what shows it."""
+        while True:
+            with self.at_once():
+                plan = self.plan()
+                raised = self.award.raised(plan.payment)
+                promising = raised.promising()
+            answer = functools.cache(self.answer)
+            if self.learn(answer(promising), plan):
+                continue
+            cover = self.cover(plan, raised, answer)
+            if cover is not None and not self.learn(cover.solution, plan):
+                return self.award.priced(plan, cover.certificate)
 
-    def nearest(self, total: int, first: int) -> Prices:
-        """Of this sum the nearest to the costs alone; or as near as now, the same before the place `first`, and the least there."""
-        more = total - sum(self.prices)
-        if first < 0:
-            return self.found(self.distance, (self.each, more, more))
-        self.low[:first] = self.high[:first] = 0
-        limit, goal = 0.5 - self.pull @ self.needs, 0 * self.each
-        goal[first] = 1
-        return self.found(goal, (self.each, more, more), (self.distance, -math.inf, limit))
+    def plan(self) -> Plan:
+        """The prices of the rule by the groups that are known, or these rounded up if they are beyond a limit."""
+        prices, rule = self.award.exact()
+        payment = Payment.exact(prices)
+        shown = rule.in_parts(payment.parts)
+        try:
+            if self.limit is not None:
+                raise Beyond(self.limit)
+            self.award.check(payment, shown)
+            added, text = self.award.rule_part(shown)
+        except Beyond as beyond:
+            return Plan(Payment.rounded_up(prices), added=[], text="", limit=beyond.text)
+        return Plan(payment, added=added, text=text)
 
-    def found(self, goal: Any, *rows: tuple[Any, float, float]) -> Prices:
-        """The prices to which the solver moves, at the least of the goal; it is the caller who judges them."""
-        import numpy as np
-        from scipy.optimize import Bounds, LinearConstraint, milp
+    def answer(self, program: bytes) -> bytes | None:
+        """A solver's point of a raised program, if it has one in its time."""
+        try:
+            return solve.point_of(program, self.solver, self.seconds, self.log)
+        except NotSolved as failed:
+            if failed.status != solve.TIME_OUT:
+                raise
+            return None
 
-        sides = np.append(np.zeros(len(self.prices)), self.needs)
-        within, limits = Bounds(self.low, self.high), [LinearConstraint(self.links, sides, sides)]
-        limits += [LinearConstraint(row[None, :], low, high) for row, low, high in rows]
-        how = {"mip_rel_gap": 0, "node_limit": MOST_NODES}
-        found = milp(goal, integrality=self.each, bounds=within, constraints=limits, options=how)
-        moves = [0] * len(self.prices) if found.x is None else found.x
-        return [price + round(move) for price, move in zip(self.prices, moves)]
+    def learn(self, solution: bytes | None, plan: Plan) -> bool:
+        """Whether an allocation shows that prices don't cover a group. It is kept then."""
+        if solution is None:
+            return False
+        prices = plan.payment.fractions()
+        group = self.award.learn(solution)
+        if self.award.covers(prices):
+            return False
+        cost = self.award.costs[group]
+        covered = figure(paid(group, prices))
+        self.say(f"{self.award.line(group)} costs {cost:,} at least, and {covered} was covered")
+        self.keep(solution)
+        return True
+
+    def cover(
+        self, plan: Plan, raised: "Problem", answer: Callable[[bytes], bytes | None]
+    ) -> certify.Certified | None:
+        """The certificate that no point of the raised program is better than the award, or of a point that is. None if that has no
+        room for exact prices."""
+        from wdp.certify.search import TooLarge
+        from wdp.certify.settling import settle
+
+        known = self.award.solution
+
+        def ask(turn: int, text: bytes | None) -> bytes | None:
+            found = answer(raised.text() if text is None else text)
+            if found is None or raised.objective(found) > raised.objective(known):
+                return known
+            return found
+
+        try:
+            return settle(raised, ask, self.seconds, self.at_once)
+        except TooLarge as large:
+            if plan.limit is not None:
+                raise
+            self.limit = large.text
+            return None
 
 
-def winners_in(data: bytes, solution: bytes) -> list[str]:
+def alone_in(data: bytes, solution: bytes, listed: Sequence[str]) -> list[str]:
+    """The winners of a solution who are no group alone yet, if there may be so many groups; else none of them."""
     rules = accepted.read(data, "the input").rules
-    return [rules.bidders[int(n) - 1] for n in re.findall(rb"(?m)^X([0-9]+)_", solution)]
+    won = re.findall(rb"(?m)^X([0-9]+)_", solution)
+    winners = [rules.bidders[int(number) - 1] for number in won]
+    added = [name for name in winners if name not in listed]
+    return added if len(listed) + len(added) <= MOST_GROUPS else []
 
 
 def add_words(parser: argparse.ArgumentParser) -> None:

@@ -2,8 +2,9 @@
 from __future__ import annotations
 
 from dataclasses import dataclass, field
+from fractions import Fraction
 from collections.abc import Mapping, Sequence
-from operator import attrgetter
+from itertools import chain
 from typing import TYPE_CHECKING
 
 from wdp.texts.refusals import need
@@ -83,13 +84,27 @@ class Group(Allocation):
 
 @dataclass(frozen=True)
 class Prices:
-    """What each winner of group 1 pays, in whole pounds, by the bidder's name, and their sum. It is proved that no group of
-    bidders, listed or not, pays less than its opportunity cost, and that nobody pays less than the reserve; with `is_least`
-    also that no whole prices of which that is true come to less."""
+    """What each winner of group 1 pays, by the bidder's name, and their sum: `exact` prices in pounds, and `paid`, each rounded up to
+    whole pounds. It is proved that no group of bidders, listed or not, pays less than its opportunity cost, and that nobody pays
+    less than the reserve.
+
+    With `is_by_rule` it is proved, too, that for these winners no lower sum of exact prices does this, and that of such prices
+    these are the nearest, by the sum of squares, to what each winner would pay alone, the greater of its opportunity cost and its
+    reserve."""
 
     paid: Mapping[str, int]
-    total: int
-    is_least: bool
+    exact: Mapping[str, Fraction]
+    is_by_rule: bool
+
+    @property
+    def total(self) -> int:
+        """What is paid in all."""
+        return sum(self.paid.values())
+
+    @property
+    def exact_total(self) -> Fraction:
+        """The sum of the exact prices."""
+        return sum(self.exact.values(), Fraction(0))
 
 
 @dataclass(frozen=True)
@@ -155,17 +170,32 @@ class Matrix:
     @classmethod
     def of(cls, program: ZeroOne) -> Matrix:
         """A program as a matrix; Missing without scipy."""
-        need("a matrix", "scipy")
-        import scipy.sparse
+        return cls(
+            columns=tuple(column.name for column in program.columns),
+            costs=tuple(column.cost for column in program.columns),
+            lower=tuple(column.lower for column in program.columns),
+            upper=tuple(column.upper for column in program.columns),
+            rows=tuple(row.name for row in program.rows),
+            senses=tuple(row.kind for row in program.rows),
+            right_sides=tuple(row.right_side for row in program.rows),
+            entries=entries_of(program),
+        )
 
-        columns, rows = program.columns, program.rows
-        entries = [(n, row, place) for place, each in enumerate(columns) for row, n in each.entries]
-        numbers, *places = zip(*entries) if entries else ((), (), ())
-        shape = (len(rows), len(columns))
-        fields = [tuple(map(attrgetter(it), columns)) for it in ("name", "cost", "lower", "upper")]
-        fields += [tuple(map(attrgetter(it), rows)) for it in ("name", "kind", "right_side")]
-        fields.append(scipy.sparse.csr_matrix((numbers, places), shape=shape, dtype="int64"))
-        return cls(*fields)
+
+def entries_of(program: ZeroOne) -> scipy.sparse.csr_matrix:
+    """What each column takes of each row; Missing without scipy."""
+    need("a matrix", "scipy")
+    import numpy as np
+    import scipy.sparse
+
+    counts = [len(column.entries) for column in program.columns]
+    starts = np.concatenate([[0], np.cumsum(counts, dtype=np.int64)])
+    entries = chain.from_iterable(column.entries for column in program.columns)
+    pairs = np.fromiter(chain.from_iterable(entries), np.int64, 2 * int(starts[-1]))
+    shape = (len(program.rows), len(program.columns))
+    by_columns = scipy.sparse.csc_matrix((pairs[1::2], pairs[::2], starts), shape=shape)
+    by_columns.sum_duplicates()
+    return by_columns.tocsr()
 
 
 @dataclass(frozen=True)
@@ -194,7 +224,8 @@ class Solutions(Sequence[str]):
 @dataclass(frozen=True)
 class Certified:
     """A certified outcome: the report, the solutions that are optimal, and the certificate of each; what is proved of other winners
-    of group 1, if asked; and the audit, an input of which `wdp verify` prints the report."""
+    of group 1, if asked; and the audit, an input of which `wdp verify` prints the report. If prices aren't shown to be those of
+    the rule, `limit` says which limit of the formats exact ones are beyond."""
 
     report: Report
     solutions: Solutions
@@ -202,6 +233,7 @@ class Certified:
     unique: str | None
     tie: str | None
     audit: bytes = field(repr=False)
+    limit: str | None = None
 
 
 def joined(names: Sequence[str]) -> str:

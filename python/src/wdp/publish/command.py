@@ -12,9 +12,9 @@ repeat the audit. Nothing else certifies a result.
 Exit status: 0 the files are written; 1 a text is refused or a package is missing; 2 the options are wrong.
 """
 import argparse
-import re
 from collections.abc import Callable
 from dataclasses import dataclass
+from itertools import islice
 
 from wdp.files import put, read, tell, write_folder
 from wdp.office import choices
@@ -26,7 +26,7 @@ from wdp.publish.results import AUDIT, Results, figures_of
 from wdp.results import Report, Tie
 from wdp.texts import accepted
 from wdp.texts.accepted import Accepted, Rules
-from wdp.texts.answers import Asked, read_report
+from wdp.texts.answers import GROUP, Asked, read_report
 from wdp.texts.parts import MOST_OF_INPUT, end_of_groups, groups_in, parts_of, with_groups
 from wdp.texts.refusals import Refused, Unclear, WrongWords
 from wdp.texts.tables import digest_of
@@ -35,6 +35,12 @@ from wdp.texts.tables import digest_of
 MOST_OF_AN_AUDIT = 2**31
 LONGEST, LONGEST_NAME = {"title": 200, "currency": 20}, 100
 TITLE = "Results of the auction"
+OF_PRICES = (
+    "prices",
+    "cover",
+    "rule",
+    "weights",
+)  # kinds of parts; `weights` is of an earlier version
 # of an award the audit that has it first, and what the program prints of that, as it is and as a report
 Award = tuple[bytes | None, bytes, Report]
 
@@ -151,9 +157,15 @@ def of_report(given: Given, auction: Accepted) -> Award:
     return None, text, report
 
 
+def without_prices(audit: bytes) -> bytes:
+    """The audit without its prices and what shows them, as this version has them or an earlier one."""
+    parts = [part for part in parts_of(audit) if part.kind not in OF_PRICES]
+    return b"".join(part.head + part.text for part in parts)
+
+
 def with_tie_first(audit: bytes) -> bytes:
     """The audit with group 1's solution and the one that ties in each other's place, without the first one's prices."""
-    parts = [part for part in parts_of(audit) if part.kind not in ("prices", "cover", "weights")]
+    parts = list(parts_of(without_prices(audit)))
     kinds, texts = [part.kind for part in parts], [part.text for part in parts]
     one, two = kinds.index("solution"), kinds.index("tie")
     texts[one], texts[two] = texts[two], texts[one]
@@ -183,8 +195,11 @@ def awards_in(given: Given, audit: bytes, count: int) -> list[Award]:
 
 
 def report_in(output: bytes, count: int) -> bytes:
-    """What is printed of the input's own groups, without what is proved of prices and of the winners."""
-    return re.split(rb"(?m)^(?:group %d .*|prices|unique|tie)$" % (count + 1), output, 1)[0]
+    """What is printed of the input's own groups, which come first, without what is proved of prices and of the winners."""
+    end = 0
+    for group in islice(GROUP.finditer(output.decode("ascii", "replace")), count):
+        end = group.end()
+    return output[:end]
 
 
 def with_added(given: Given, audit: bytes) -> bytes:

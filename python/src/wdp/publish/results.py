@@ -2,24 +2,29 @@
 import json
 import re
 from collections.abc import Iterable, Iterator, Sequence
+from fractions import Fraction
 from pathlib import Path
 from typing import Any, NamedTuple, cast
 
-from wdp.office.faults import Cell, aligned, printed
+from wdp.office.faults import Cell, aligned, figure, printed
 from wdp.results import Group, Report
 from wdp.texts.accepted import Accepted
 from wdp.texts.refusals import need
 from wdp.texts.tables import field_text
 
-# what parts fields, and the first signs by which spreadsheets know a formula
-SPECIAL = re.compile(r'[,"\r\n]|^[=+\-@%\t]')
+# what parts fields or heads a part, and the first signs by which spreadsheets know a formula
+SPECIAL = re.compile(r'[,"\r\n]|^[-%]')
+FORMULA = re.compile(r"[=+\-@\t\r\n＝＋－＠]")
+NOBODY = "-"
 TEMPLATE, AUDIT = Path(__file__).with_name("page.html.jinja"), "audit.txt"
 MOST_BOUND = 4  # groups that are named as binding a price
 # the figures of each table below their headings; those of CSV files are the same or, of groups, in another order
 BIDDERS = {"Bidder": "name", "Amount": "amount", "Price": "price", "Opportunity cost": "cost"}
 BIDDERS |= {"Group": "cost_group", "Reserve": "reserve", "Bid": "bid", "Lots": "lots"}
-PRICES = {"Winner": "name", "Cost alone": "cost", "Price": "price", "Amount": "amount"}
-PRICES |= {"Bound by": "bound"}
+BIDDERS_CSV = {it: BIDDERS[it] for it in ("Bidder", "Amount", "Price")}
+BIDDERS_CSV |= {"Exact price": "exact_price", **BIDDERS}
+PRICES = {"Winner": "name", "Alone": "alone", "Exact price": "exact_price", "Price": "price"}
+PRICES |= {"Amount": "amount", "Bound by": "bound"}
 CATEGORIES = {"Category": "name", "Supply": "supply", "Sold": "sold", "Unsold": "unsold"}
 CATEGORIES |= {"Reserve of a lot": "reserve", "Value of an unsold lot": "value"}
 CATEGORIES |= {"Value left": "value_left"}
@@ -30,9 +35,10 @@ GROUPS_CSV = {it: GROUPS[it] for it in ("Group", "Left out", "Winners", "Total")
 GROUPS_CSV |= {"Opportunity cost": "cost", "Paid": "paid", "Added": "is_added"}
 LEFT_OUT = {"Bidder": "bidder", "Bid": "why"}
 # headings of columns that are added up, figures that are amounts, and words in the place of a figure that there isn't
-SUMMED = {"Amount", "Price", "Cost alone", "Reserve", "Lots"}
+SUMMED = {"Amount", "Alone", "Exact price", "Price", "Reserve", "Lots"}
 SUMMED |= {"Supply", "Sold", "Unsold", "Value left"}
 AMOUNTS = {"amount", "price", "cost", "reserve", "total", "paid", "value", "value_left"}
+AMOUNTS |= {"alone", "exact_price"}
 BLANKS = NOT_ASKED_FOR, NONE_WON, NO_BIDS = "not asked for", "none won", "no bids"
 
 Figures = dict[str, Any]  # of the whole, or of a bidder, a group and so on
@@ -62,6 +68,7 @@ def bidders_of(won: list[Figures], report: Report, auction: Accepted) -> Iterato
             "bid": own["bid"],
             "amount": own["amount"],
             "price": prices.paid.get(name, 0) if prices else None,
+            "exact_price": str(prices.exact.get(name, 0)) if prices else None,
             "reserve": sum(lots * each.reserve for lots, each in zip(own["lots"], categories)),
             "cost": group.cost if group else None,
             "cost_group": group.number if group else None,
@@ -122,9 +129,13 @@ def cell_text(value: Any) -> str:
     if isinstance(value, bool):
         value = "yes" if value else "no"
     if isinstance(value, list):
-        value = "+".join(names_in(value)) or "-"
+        value = "+".join(names_in(value)) or NOBODY
     if value is None:
         return ""
+    if isinstance(value, Fraction):
+        return figure(value).replace(",", "")
+    if isinstance(value, str) and FORMULA.match(value) and value != NOBODY:
+        value = f"'{value}"
     return field_text(value, SPECIAL) if isinstance(value, str) else str(value)
 
 
@@ -141,8 +152,8 @@ class Results(Figures):
     def called(self, name: str) -> str:
         return f"{name} ({self['names'][name]})" if name in self["names"] else name
 
-    def money(self, amount: int) -> str:
-        return f"{amount:,} {self['currency'] or ''}".rstrip()
+    def money(self, amount: int | Fraction) -> str:
+        return f"{figure(amount)} {self['currency'] or ''}".rstrip()
 
     def lots_text(self, lots: Iterable[int]) -> str:
         """Lots in words: `2 of A, 1 of B`."""
@@ -150,11 +161,15 @@ class Results(Figures):
         return ", ".join(f"{quantity:,} of {each['name']}" for quantity, each in pairs if quantity)
 
     def proved_of_prices(self) -> str:
-        words = "no group of bidders, listed or not, pays less than its opportunity cost, and nobody less than the reserve; "
-        words += f"the prices come to {self.money(self['prices']['total'])}, and "
-        if self["prices"]["is_least"]:
-            return words + "no whole prices of which that is true come to less"
-        return words + "whether others come to less isn't shown"
+        words = "no group of bidders, listed or not, pays less than its opportunity cost, and nobody less than the reserve"
+        total = self["prices"]["total"]
+        exact_total = Fraction(self["prices"]["exact_total"])
+        if not self["prices"]["is_by_rule"]:
+            return f"{words}; the prices come to {self.money(total)}, and no more is shown of them"
+        words += f"; for these winners no exact prices of a lower sum than {self.money(exact_total)} do this, "
+        words += "and of those of that sum these are the nearest to what each would pay alone"
+        paid = f"; rounded up to whole pounds they come to {self.money(total)}"
+        return words + (paid if total != exact_total else "")
 
     def sentences(self) -> dict[str, str]:
         """What is to be said in sentences, by the places of the page; `prices` is empty if there are none."""
@@ -166,12 +181,10 @@ class Results(Figures):
         if self["value_left"]:
             sums += f", and the unsold lots have a value of {self.money(self['value_left'])}"
             sums += f", in all {self.money(self['total'])}"
-        prices = f"Proved: {self.proved_of_prices()}. " if self["prices"] else ""
-        if prices:
-            prices += "Not proved: that of such prices these are the nearest to what each winner costs alone."
+        prices = f"Proved: {self.proved_of_prices()}." if self["prices"] else ""
         if prices and self["tied_award"]:
             prices += " They belong to the winners of this page; "
-            prices += "by the other award there are others."
+            prices += "by the other award there are others, perhaps of another sum."
         proof = "Proved: another award reaches the same total, and none reaches more. The audit shows it."
         if self["proof"] == "only":
             proof = "Proved: these are the only winners. No other combination of bids reaches the same total. The audit shows it."
@@ -196,10 +209,12 @@ class Results(Figures):
             return ", ".join(names_in(value)) or "nobody"
         if key == "bid" and not value:
             return NONE_WON if of["bids"] else NO_BIDS
+        if key == "exact_price" and value is not None:
+            return Fraction(value)
         return NOT_ASKED_FOR if key == "cost" and value is None else cast(Cell, value)
 
     def sum_of(self, key: str, rows: Sequence[Figures]) -> Cell:
-        values = [row[key] for row in rows if row[key]]
+        values = [self.cell_of(key, row) for row in rows if row[key]]
         return self.lots_text(map(sum, zip(*values))) if key == "lots" else sum(values)
 
     def table(self, name: str, of: dict[str, str], rows: Sequence[Figures]) -> Table:
@@ -213,7 +228,7 @@ class Results(Figures):
         return Table(name, headings, list(zip(*known.values())), sums)
 
     def bound_by(self, name: str) -> str:
-        """What binds a winner's price: the groups that pay exactly their cost, and the reserve."""
+        """What binds a winner's exact price: the groups that pay just their cost, and the reserve."""
         left_out = (self["groups"][k - 1]["left_out"] for k in self["prices"]["groups"])
         bound = [" + ".join(names) for names in left_out if name in names]
         bound += ["reserve"] if name in self["prices"]["reserves"] else []
@@ -222,8 +237,15 @@ class Results(Figures):
 
     def prices_table(self) -> Table:
         """What each winner pays, if there are prices."""
-        winners = [{**each, "bound": self.bound_by(each["name"])} for each in self.winners()]
+        winners = [
+            {**each, "alone": self.alone(each), "bound": self.bound_by(each["name"])}
+            for each in self.winners()
+        ]
         return self.table("prices", PRICES, winners)
+
+    def alone(self, winner: Figures) -> int | None:
+        """What a winner would pay alone, if its cost is known."""
+        return None if winner["cost"] is None else max(winner["cost"], winner["reserve"])
 
     def ties_table(self) -> Table:
         """What differs between the award of the page and the other one: a row for each bidder who doesn't win the same in both,
@@ -261,25 +283,30 @@ class Results(Figures):
         said = printed(filter(None, [self["title"], *self.sentences().values()]))
         return "\n".join([said, *(table.text() for table in self.tables())])
 
+    def cell_of(self, key: str, of: Figures) -> Any:
+        """A figure as CSV has it."""
+        return self.cell(key, of) if key == "exact_price" else of[key]
+
     def csv(self, of: dict[str, str], rows: list[Figures], more: Iterable[str] = ()) -> bytes:
-        """A CSV text with more columns at its end. Its first field says so if the totals aren't certified. Names that an office gave
-        are beside the codes."""
+        """A CSV text with more columns at its end, and a byte order mark, by which spreadsheets know UTF-8. Its first field says so
+        if the totals aren't certified. Names that an office gave are beside the codes."""
         columns = {heading.lower(): key for heading, key in of.items() if key != "lots"}
         columns |= {key: key for key in more}
         kind, *headings = columns
         first = kind if self["certified"] else f"{kind} (results not certified)"
-        lines = [[first, *headings], *([row[key] for key in columns.values()] for row in rows)]
+        lines = [[first, *headings]]
+        lines += [[self.cell_of(key, row) for key in columns.values()] for row in rows]
         if self["names"] and kind in ("bidder", "category"):
             beside = ["name", *(self["names"].get(row["name"], "") for row in rows)]
             lines = [[line[0], name, *line[1:]] for line, name in zip(lines, beside)]
-        return "".join(",".join(map(cell_text, line)) + "\n" for line in lines).encode()
+        return "".join(",".join(map(cell_text, line)) + "\n" for line in lines).encode("utf-8-sig")
 
     def files(self) -> dict[str, bytes]:
         lots = [f"lots of {each['name']}" for each in self["categories"]]
         bidders = [{**each, **dict(zip(lots, each["lots"]))} for each in self["bidders"]]
         groups = [{**each, "certified": self["certified"]} for each in self["groups"]]
         files = {
-            "bidders.csv": self.csv(BIDDERS, bidders, lots),
+            "bidders.csv": self.csv(BIDDERS_CSV, bidders, lots),
             "categories.csv": self.csv(CATEGORIES, self["categories"]),
             "pools.csv": self.csv(POOLS, self["pools"]),
             "groups.csv": self.csv(GROUPS_CSV, groups, ["certified"]),
@@ -296,7 +323,20 @@ class Results(Figures):
         text = TEMPLATE.read_text("utf-8")
         page = Template(text, autoescape=True, undefined=StrictUndefined, **how)
         about = dict(said=self.sentences(), winners=self.winners(), tables=self.tables())
-        return page.render(self, **about, called=self.called, blanks=BLANKS).encode()
+        calls = dict(called=self.called, figure=figure)
+        return page.render(self, **about, **calls, blanks=BLANKS).encode()
+
+
+def bound_in(report: Report) -> list[int]:
+    """The numbers of the groups whose exact prices come to just their opportunity cost."""
+    if not report.prices:
+        return []
+    exact = report.prices.exact
+    return [
+        group.number
+        for group in report.groups
+        if group.names and sum(exact.get(name, 0) for name in group.names) == group.cost
+    ]
 
 
 def figures_of(auction: Accepted, report: Report, other: Report | None, is_drawn: bool) -> Figures:
@@ -308,9 +348,8 @@ def figures_of(auction: Accepted, report: Report, other: Report | None, is_drawn
     sold = [sum(lots) for lots in zip(*(each["lots"] for each in bidders))]
     categories = categories_of(sold, auction)
     loads = [(pool, auction.rules.load(pool, sold)) for pool in auction.rules.pools]
-    bound = [each["number"] for each in groups if each["left_out"] and each["paid"] == each["cost"]]
-    reserves = [x["name"] for x in bidders if x["bid"] and x["price"] == x["reserve"]]
-    shown: Figures = {"groups": bound, "reserves": reserves}
+    reserves = [x["name"] for x in bidders if x["bid"] and x["exact_price"] == str(x["reserve"])]
+    shown: Figures = {"groups": bound_in(report), "reserves": reserves}
     costs = [group.cost for group in other.groups] if other else []
     return {
         "total": report.groups[0].total,
@@ -323,7 +362,13 @@ def figures_of(auction: Accepted, report: Report, other: Report | None, is_drawn
             for pool, load in loads
         ],
         "groups": groups,
-        "prices": prices and {"total": prices.total, "is_least": prices.is_least, **shown},
+        "prices": prices
+        and {
+            "total": prices.total,
+            "exact_total": str(prices.exact_total),
+            "is_by_rule": prices.is_by_rule,
+            **shown,
+        },
         "proof": "tie" if other else "only" if report.uniqueness == "only" else "none",
         "is_drawn": is_drawn,
         "tied_award": other and {"winners": won_in(other.groups[0], auction), "costs": costs},

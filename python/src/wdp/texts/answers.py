@@ -1,7 +1,9 @@
 """What the program prints, read by docs/REFERENCE.md: an answer with anything more or less is refused."""
+import math
 import re
 from collections.abc import Sequence
 from contextlib import suppress
+from fractions import Fraction
 from functools import cached_property
 
 from wdp.texts.refusals import Unclear, escaped
@@ -17,7 +19,13 @@ SIZE = "(0|[1-9][0-9]{0,17})"
 PROGRAM = re.compile(rf"^\* program {HEAD}", re.MULTILINE)
 ALLOCATION = re.compile(WON)
 GROUP = re.compile(rf"group {HEAD}{WON}cost (0|-?[1-9][0-9]{{0,29}})\n")
-PRICES = re.compile(rf"prices\n((?:{NAME} (?:0|[1-9][0-9]{{0,12}})\n)*)sum {TOTAL}(least\n)?")
+WHOLE = "(?:0|[1-9][0-9]{0,29})"
+FRACTION = "[1-9][0-9]{0,29}/[1-9][0-9]{0,6}"
+# (the last of the lines of names and numbers is the sum's, whatever the winners are called)
+PAID = rf"{NAME} {WHOLE}(?: {FRACTION})?\n"
+PRICES = re.compile(
+    rf"prices\n((?:{PAID})*)sum ({WHOLE})(?: ({FRACTION}|{WHOLE}))?\n(by the rule\n)?"
+)
 CLAIM = re.compile(rf"unique\n|tie\n{WON}")
 COUNTS = re.compile(rf"rows {SIZE} columns {SIZE} entries {SIZE}\n")
 END = re.compile(r"\Z")
@@ -125,10 +133,19 @@ def read_report(output: bytes, asked: Asked, is_certified: bool) -> Report:
 
 def prices_of(found: re.Match[str], winners: Sequence[Winner]) -> Prices:
     """What follows a report if prices are given: one for each winner of group 1."""
-    prices = [line.split() for line in found[1].splitlines()]
-    if [name for name, _ in prices] != [winner.bidder for winner in winners]:
+    lines, total, exact_total, by_rule = found.groups()
+    paid: dict[str, int] = {}
+    exact: dict[str, Fraction] = {}
+    for name, price, *fraction in (line.split() for line in lines.splitlines()):
+        paid[name] = int(price)
+        exact[name] = Fraction(*fraction or [price])
+    if list(paid) != [winner.bidder for winner in winners]:
         raise unclear("the prices aren't those of the winners of group 1, in their order")
-    return Prices({name: int(price) for name, price in prices}, int(found[2]), bool(found[3]))
+    prices = Prices(paid, exact, bool(by_rule))
+    is_sum = (prices.total, prices.exact_total) == (int(total), Fraction(exact_total or total))
+    if not is_sum or any(paid[name] != math.ceil(price) for name, price in exact.items()):
+        raise unclear("what is paid isn't the exact prices rounded up, or the sum isn't theirs")
+    return prices
 
 
 def read_counts(output: bytes) -> Counts:

@@ -3,6 +3,8 @@
 Nothing is judged here that the program judges: records are written, and it says what is wrong with them.
 """
 import operator
+import os
+import re
 from collections import defaultdict
 from collections.abc import Iterable, Mapping, Sequence, Set
 from contextlib import suppress
@@ -23,6 +25,8 @@ FIELDS: dict[str, tuple[str, ...]] = {
     "pool": ("name", "cap"),
     "member": ("pool", "category", "weight"),
 }
+NAMES = re.compile("[-+A-Za-z0-9]*")  # of bidders, in a line of groups
+BEGINNING = 65_536  # bytes of a form, in which its first record is
 MOST_EXACT = 2**53  # floating point has each whole number up to this one
 
 
@@ -77,12 +81,24 @@ def encoded(text: Text, name: str) -> bytes:
     """The bytes of a text, in UTF-8; WrongWords if it isn't a text."""
     if isinstance(text, bytes):
         return text
+    if is_name_of_file(text) and not (name == "groups" and NAMES.fullmatch(text)):
+        why = "this is the name of a file, and a text is asked for"
+        raise WrongWords(f"{name}: {why}; Auction.from_files reads files")
     try:
         return text.encode()
     except AttributeError:
         raise WrongWords(f"{name}: a text is asked for, and this is {of_type(text)}") from None
     except UnicodeEncodeError:
         raise WrongWords(f"{name}: the text has a sign that UTF-8 doesn't have") from None
+
+
+def is_name_of_file(text: object) -> bool:
+    """Whether a text is one line, and a file has this name."""
+    if not isinstance(text, str) or "\n" in text:
+        return False
+    with suppress(OSError, ValueError):
+        return os.path.isfile(text)
+    return False
 
 
 def of_type(value: object) -> str:
@@ -194,6 +210,26 @@ def forms_of(forms: Any, rules: Text, missing_as_zero: bool = False) -> list[For
         listed = list(by_bidder(listed).items())
     given = enumerate(listed, 1)
     return [form_of(form, Where(f"form {n}", n), names, missing_as_zero) for n, form in given]
+
+
+def check_bidders(forms: Sequence[Form]) -> None:
+    """Raises WrongWords at a second form of a bidder."""
+    numbers: dict[str, int] = {}
+    for number, form in enumerate(forms, 1):
+        bidder = form.bidder if form.bidder is not None else first_field(form.text)
+        if bidder in numbers:
+            why = f"form {numbers[bidder]} is of {bidder}, too"
+            hint = "say last_wins=True if the last one counts"
+            raise WrongWords(f"form {number}: {why}; {hint}", "form", number)
+        if bidder is not None:
+            numbers[bidder] = number
+
+
+def first_field(text: Text) -> str | None:
+    """The first field of a form's text, which has the bidder's name; None if there is no record."""
+    begin = encoded(text, "form")[:BEGINNING].decode("utf-8", "surrogateescape")
+    rows = iter(Records(begin.removeprefix(BYTE_ORDER_MARK)))
+    return next((row.values[0] for row in rows), None)
 
 
 def by_bidder(rows: Sequence[Mapping[str, Any]]) -> dict[str, dict[int, Any]]:

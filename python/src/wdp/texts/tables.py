@@ -32,13 +32,17 @@ class Row:
 
 
 class Records:
-    """The records of a text as rows. `unclosed` is the place of a field whose quote the text doesn't close, once it is read."""
+    """The records of a text as rows. Once they are read, `unclosed` is the place of a field whose quote the text doesn't close, `blank`
+    how many lines are no record, and `unquoted` and `quoted` how many fields `written` writes without quotes that have some
+    here, and with others.
+    """
 
     def __init__(self, text: str, delimiter: str = ",", line: int = 1) -> None:
         self.text, self.delimiter, self.line = text, delimiter, line
         plain = f"[^\\r\\n{re.escape(delimiter)}]*+"
         self.field = re.compile(f'"((?:[^"]++|"")*+)("?)({plain})|({plain})')
         self.unclosed: str | None = None
+        self.blank = self.unquoted = self.quoted = 0
 
     def __iter__(self) -> Iterator[Row]:
         at = 0
@@ -48,9 +52,19 @@ class Records:
             row = Row(self.text[at:stop].split(self.delimiter), self.line)
             if '"' in self.text[at:stop]:
                 following = self.fill(row, at)
-            if stop > at:
+            if stop == at:
+                self.blank += 1
+            else:
+                self.quoted += self.needs_quotes(self.text[at:stop], row)
                 yield row
             at, self.line = following, self.line + 1
+
+    def needs_quotes(self, line: str, row: Row) -> int:
+        """How many fields of a line without quotes get some."""
+        may_need = "," in line and self.delimiter != "," or "%" in line or BYTE_ORDER_MARK in line
+        if '"' in line or not may_need:
+            return 0
+        return sum(1 for value in row.values if NEEDS_QUOTES.search(value))
 
     def fill(self, row: Row, at: int) -> int:
         """Reads a record with quotes, and returns where the next line begins."""
@@ -61,6 +75,9 @@ class Records:
             places.append(f"{self.line}:{at - begin + 1}")
             quoted, close, more, plain = field.groups()
             row.values.append(plain if quoted is None else quoted.replace('""', '"') + more)
+            now = field_text(row.values[-1])
+            self.unquoted += now != field[0] and not now.startswith('"')
+            self.quoted += now != field[0] and now.startswith('"')
             if quoted is not None and not close:
                 self.unclosed = places[-1]
             for end in LINE_END.finditer(quoted or ""):
