@@ -19,7 +19,8 @@ from trials.planted import BID_PLANTS, GROUP_PLANTS, MOST_LINES, RULES, Planted
 from trials.worked import ALPHA, auction, rules_and
 
 MIB, HUGE = 1 << 20, 3_000_000
-PARTS = b"%rules %form %groups %solution %certificate %unique %tie %prices %cover %weights".split()
+PARTS = b"%rules %form %groups %solution %certificate %unique %tie %prices %cover %rule".split()
+OF_VERSION_1 = ": %weights is of version 1, and wdp-office prices makes %rule in its place"
 # so many damages of each version, and auctions whose bids are left out, are tried in one test; and of those are at least so many
 DAMAGES, LEAST_DAMAGES = 350, {"": 20, "rules": 250, "form": 200, "groups": 40, "input": 75}
 AUCTIONS, LEAST_REASONS = 600, 100
@@ -43,7 +44,8 @@ def fault_of_parts(text):
     if text and not text.startswith(b"%"):
         return "input: bytes before the first part"
     if unknown:
-        return f"input: part {unknown[0]} not known"
+        of_version_1 = names[unknown[0] - 1] == b"%weights"
+        return f"input: part {unknown[0]} not known" + OF_VERSION_1 * of_version_1
     if names.count(b"%rules") != 1:
         return "input: wrong number of rules"
     return "input: wrong number of groups" if names.count(b"%groups") > 1 else ""

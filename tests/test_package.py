@@ -17,7 +17,10 @@ from wdp import cli
 
 SYSTEM = "/usr/sbin:/usr/bin:/sbin:/bin"
 OFFICE = list(cli.COMMANDS)
-COMMANDS = {"wdp": "text compile check map report verify explain".split(), "wdp-office": OFFICE}
+COMMANDS = {
+    "wdp": "text compile check map report verify explain forms".split(),
+    "wdp-office": OFFICE,
+}
 # what the tests of the office's sample type themselves
 INPUT_SHA256 = "167bec43956090a360273a3de95029333b24a0769715c1e611987133781f09f9"
 GATHER = "--last-wins name --allow-unended Wren --allow-missing Teal --output input.txt".split()
@@ -99,12 +102,14 @@ def test_a_program_of_other_sources_is_not_installed(tree, tmp_path):
     assert status == 2 and said.startswith(refusal) and not os.listdir(tmp_path)
 
 
-def test_links_between_the_documents_lead_somewhere(there):
-    """Those to the sources don't."""
-    documents = (there / "share" / "doc" / "wdp").rglob("*.md")
-    link = re.compile(r"\]\((?!\.\./crates/)([^)#:]+)(?:#[^)]*)?\)")
+def test_documents_name_what_is_installed(there):
+    """Each link between them leads somewhere, and the manual page is found by its name."""
+    documents = [*(there / "share" / "doc" / "wdp").rglob("*.md")]
+    link = re.compile(r"\]\(([^)#:]+)(?:#[^)]*)?\)")
     links = [it.parent / to for it in documents for to in link.findall(it.read_text())]
     assert links and not [path for path in links if not path.exists()]
+    assert not [it for it in documents if "docs/wdp.1" in it.read_text()]
+    assert "`man wdp`" in (there / "share/doc/wdp/README.md").read_text()
 
 
 def test_what_was_installed_runs_from_another_folder(there, folder, tmp_path):
