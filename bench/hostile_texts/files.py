@@ -40,6 +40,16 @@ def written(path, text):
     return path
 
 
+def many(folder, count):
+    """The names of so many empty files, which are numbers, in a folder of their own."""
+    os.makedirs(folder, exist_ok=True)
+    names = [str(number) for number in range(count)]
+    for name in names:
+        with open(os.path.join(folder, name), "wb"):
+            pass
+    return names
+
+
 def gather_words(folder, rules, form, bidder="Ant"):
     shutil.rmtree(os.path.join(folder, "forms"), ignore_errors=True)
     where = written(os.path.join(folder, "forms", bidder + ".csv"), form)
