@@ -9,6 +9,7 @@ import time
 import pytest
 from commands import COMMAND, ROOT, Auction, ended, environment, output, run, running
 from commands import solver, start, stopped, wait_for
+from wdp.files import Unreadable, up_to
 
 MPS = ROOT / "fixtures/solvers/three.mps"
 REPORT = (ROOT / "examples/worked.report.txt").read_bytes()
@@ -86,10 +87,20 @@ def test_nested_folders_are_taken_away(tmp_path, wdp):
     assert seen.status == 1 and os.listdir(where) == []
 
 
-def test_files_that_give_nothing_or_are_no_text(tmp_path, wdp, office):
+def test_a_file_that_gives_nothing_is_refused(tmp_path):
+    path = tmp_path / "pipe"
+    os.mkfifo(path)
+    # open for writing too, so that a read finds neither bytes nor an end
+    with open(os.open(path, os.O_RDWR | os.O_NONBLOCK), "rb") as file:
+        with pytest.raises(Unreadable, match="no file that can be read to its end"):
+            up_to(file, str(path), 10)
+
+
+def test_files_of_the_kernel_or_that_are_no_text(tmp_path, wdp, office):
     (office.forms / "Fox.csv").unlink()
     (office.forms / "Fox.csv").symlink_to("/proc/kmsg")
-    stopped(office.gather(), "forms/Fox.csv: ")
+    # it has what the kernel said since it was last read, or gives nothing
+    stopped(office.gather(), "forms/Fox.csv:")
     auction = Auction(tmp_path / "auction", wdp)
     auction.said("--no-prices")
     for data in (b"-\nAl\xffpha\nBeta\nBeta+Gamma\n", b"\xef\xbb\xbf-\nAlpha\nBeta\nBeta+Gamma\n"):
