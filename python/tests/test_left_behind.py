@@ -129,12 +129,12 @@ def test_a_killed_solve_leaves_no_folder(tmp_path, wdp, mark, number):
 def test_programs_without_columns(tmp_path, wdp, solver):
     """One whose rows nothing meets has no solution; of any other nothing is the solution."""
     for right, status in ((1, 3), (0, 0)):
-        text = f"NAME x\nROWS\n N OBJ\n G R1\nCOLUMNS\nRHS\n RHS R1 {right}\nENDATA\n"
+        text = f"NAME x\nROWS\n N OBJ\n G LEAST\nCOLUMNS\nRHS\n RHS LEAST {right}\nENDATA\n"
         (tmp_path / "it.mps").write_text(text)
         assert output(wdp, "check", text.encode()).startswith(b"rows 1 columns 0")
         seen = run("solve", "--solver", solver, tmp_path / "it.mps")
         assert (seen.status, seen.out) == (status, ""), seen
-        assert ("the row R1 is broken" in seen.err) == bool(status)
+        assert ("the row LEAST is broken" in seen.err) == bool(status)
 
 
 FORKED = """
