@@ -1,6 +1,7 @@
 //! Whether prices suffice.
 
 ghost use Rattle.std.specs.Prelude.{◌≡◌, ◌⊎◌, ◌≤◌, ◌^◌, IfErr, OnOk, Some, false};
+ghost use Rattle.auction_terms.specs.declared.limits.TheConstants.{MOST_PARTS};
 ghost use Rattle.auction_terms.specs.Allocations.{IsFeasible};
 ghost use Rattle.auction_terms.specs.Keeping.{kept_of};
 ghost use Rattle.auction_terms.specs.Terms.{lots_in};
@@ -49,7 +50,7 @@ pub fn check_cover(
     requires feasible { IsFeasible (lots_in payments.now.book.now.rules)
         (book_of payments.now.book.now) (λ b. false) payments.now.first.now }
     requires some { 1 ≤ payments.now.parts }
-    requires parts { payments.now.parts ≤ 10 ^ 6 }
+    requires parts { payments.now.parts ≤ MOST_PARTS }
     requires prices { ArePrices (book_of payments.now.book.now) payments.now.first.now
         payments.now.parts (price_in payments.now.prices.now) }
     requires reserves { AreAtLeastReserves (reserves_in payments.now.book.now.rules)

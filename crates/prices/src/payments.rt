@@ -1,6 +1,7 @@
 //! What winners pay; their surplus, which is their amounts less their prices; and the seller's revenue.
 
 ghost use Rattle.std.specs.Prelude.{◌≡◌, ◌≤◌, ◌-◌, ◌*◌, ◌==◌, ◌^◌, count_by, false, length, sum_by};
+ghost use Rattle.auction_terms.specs.declared.limits.TheConstants.{GREATEST_AMOUNT, MOST_PARTS};
 ghost use Rattle.auction_terms.specs.Allocations.{IsFeasible, amount_of};
 ghost use Rattle.auction_terms.specs.Terms.{lots_in};
 ghost use Rattle.bid_desk.specs.Closing.{book_of};
@@ -23,9 +24,9 @@ pub struct Payments<'p> {
 }
 
 /// Pounds, in parts of a pound.
-pub fn in_parts(parts: u64, pounds: u64) -> u64
-    requires parts { parts ≤ 10 ^ 6 }
-    requires pounds { pounds ≤ 10 ^ 12 }
+pub fn amount_in_parts(parts: u64, pounds: u64) -> u64
+    requires parts { parts ≤ MOST_PARTS }
+    requires pounds { pounds ≤ GREATEST_AMOUNT }
     ensures product { result ≡ parts * pounds }
     ensures small { result ≤ 10 ^ 18 }
 {
@@ -34,20 +35,20 @@ pub fn in_parts(parts: u64, pounds: u64) -> u64
 
 /// A winner's amount less its price.
 fn gain_of(payments: &Payments<'_>, choice: Choice) -> u64
-    requires parts { payments.now.parts ≤ 10 ^ 6 }
+    requires parts { payments.now.parts ≤ MOST_PARTS }
     requires price { price_in payments.now.prices.now choice.bidder
         ≤ payments.now.parts * amount_of (book_of payments.now.book.now) choice }
     ensures gain { result ≡ gain (book_of payments.now.book.now) payments.now.parts
         (price_in payments.now.prices.now) choice }
     ensures small { result ≤ 10 ^ 18 }
 {
-    let amount = in_parts(payments.parts, amount_of(payments.book, choice));
+    let amount = amount_in_parts(payments.parts, amount_of(payments.book, choice));
     amount - price_of(payments.prices, choice.bidder)
 }
 
 /// The surplus of a bidder, of whom there is one choice at most.
 pub fn surplus_of(payments: &Payments<'_>, bidder: u16) -> u64
-    requires parts { payments.now.parts ≤ 10 ^ 6 }
+    requires parts { payments.now.parts ≤ MOST_PARTS }
     requires prices { ArePrices (book_of payments.now.book.now) payments.now.first.now
         payments.now.parts (price_in payments.now.prices.now) }
     requires one { count_by (λ c. c.bidder == bidder) payments.now.first.now ≤ 1 }
@@ -65,7 +66,7 @@ pub fn surplus_of(payments: &Payments<'_>, bidder: u16) -> u64
 
 /// What is left to all of them together.
 fn gains_of(payments: &Payments<'_>) -> u128
-    requires parts { payments.now.parts ≤ 10 ^ 6 }
+    requires parts { payments.now.parts ≤ MOST_PARTS }
     requires prices { ArePrices (book_of payments.now.book.now) payments.now.first.now
         payments.now.parts (price_in payments.now.prices.now) }
     ensures { result ≡ sum_by (gain (book_of payments.now.book.now) payments.now.parts
@@ -82,7 +83,7 @@ fn gains_of(payments: &Payments<'_>) -> u128
 pub fn revenue_of(payments: &Payments<'_>) -> u128
     requires feasible { IsFeasible (lots_in payments.now.book.now.rules)
         (book_of payments.now.book.now) (λ b. false) payments.now.first.now }
-    requires parts { payments.now.parts ≤ 10 ^ 6 }
+    requires parts { payments.now.parts ≤ MOST_PARTS }
     requires prices { ArePrices (book_of payments.now.book.now) payments.now.first.now
         payments.now.parts (price_in payments.now.prices.now) }
     ensures revenue { result ≡ revenue (lots_in payments.now.book.now.rules)

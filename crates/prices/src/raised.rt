@@ -3,6 +3,7 @@
 ghost use Rattle.std.specs.Prelude.{◌≡◌, ◌⊎◌, ◌<◌, ◌≤◌, ◌^◌, ◌≤ℤ◌, IfErr, IfOk, Some, false, length, map, nat_le, neg_ℤ, pos, slice_get, true, unsigned_abs};
 ghost use Rattle.std.specs.List.{list_all};
 ghost use Rattle.std.specs.Option.{option_map};
+ghost use Rattle.auction_terms.specs.declared.limits.TheConstants.{MOST_PARTS};
 ghost use Rattle.bid_desk.specs.Closing.{book_of};
 ghost use Rattle.outcome.specs.PointAllocation.{IsMap};
 ghost use Rattle.outcome.specs.Pricing.{price_in};
@@ -15,6 +16,9 @@ use crate::payments::{Payments, surplus_of};
 use auction_terms::Choice;
 use program_rows::Program;
 use std::alloc::{AllocError, AllocFailed, Global};
+
+// The greatest cost of a column in parts of a pound, apart from its sign.
+const GREATEST_COST: i128 = 1_000_000_000_000_000_000;
 
 /// Why there is no raised program.
 #[derive(Clone, Copy, Debug, PartialEq, Eq)]
@@ -48,7 +52,7 @@ impl<T: Drop> From<AllocFailed<T>> for RaiseFault {
 
 /// By how much the cost of the column of a bid is raised; 0 if the column is of no bid.
 fn raise_of(payments: &Payments<'_>, bid: Option<Choice>) -> u64
-    requires parts { payments.now.parts ≤ 10 ^ 6 }
+    requires parts { payments.now.parts ≤ MOST_PARTS }
     requires prices { ArePrices (book_of payments.now.book.now) payments.now.first.now
         payments.now.parts (price_in payments.now.prices.now) }
     requires map { IsMap payments.now.first.now }
@@ -71,7 +75,7 @@ fn small(cost: i128) -> Result<i64, RaiseFault>
     ensures refused { IfErr result (λ fault. (fault ≡ CostTooLarge)
         × (nat_le (unsigned_abs cost) (10 ^ 18) ≡ false)) }
 {
-    if cost > 1_000_000_000_000_000_000 || cost < -1_000_000_000_000_000_000 {
+    if cost > GREATEST_COST || cost < -GREATEST_COST {
         return Err(RaiseFault::CostTooLarge);
     }
     Ok(cost as i64)
@@ -79,7 +83,7 @@ fn small(cost: i128) -> Result<i64, RaiseFault>
 
 /// The raised cost of a column.
 fn raised_cost(program: &Program, payments: &Payments<'_>, column: usize) -> i128
-    requires parts { payments.now.parts ≤ 10 ^ 6 }
+    requires parts { payments.now.parts ≤ MOST_PARTS }
     requires prices { ArePrices (book_of payments.now.book.now) payments.now.first.now
         payments.now.parts (price_in payments.now.prices.now) }
     requires map { IsMap payments.now.first.now }
@@ -101,7 +105,7 @@ fn raised_costs(
     program: &Program,
     payments: &Payments<'_>,
 ) -> Result<Vec<i64>, RaiseFault>
-    requires parts { payments.now.parts ≤ 10 ^ 6 }
+    requires parts { payments.now.parts ≤ MOST_PARTS }
     requires prices { ArePrices (book_of payments.now.book.now) payments.now.first.now
         payments.now.parts (price_in payments.now.prices.now) }
     requires map { IsMap payments.now.first.now }
@@ -132,7 +136,7 @@ pub fn raised(
     program: Program,
     payments: &Payments<'_>,
 ) -> Result<Program, RaiseFault>
-    requires parts { payments.now.parts ≤ 10 ^ 6 }
+    requires parts { payments.now.parts ≤ MOST_PARTS }
     requires prices { ArePrices (book_of payments.now.book.now) payments.now.first.now
         payments.now.parts (price_in payments.now.prices.now) }
     requires map { IsMap payments.now.first.now }

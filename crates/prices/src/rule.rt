@@ -3,7 +3,7 @@
 
 ghost use Rattle.std.specs.Prelude.{◌≡◌, ◌≤◌, ◌*◌, ◌^◌, ◌&&◌, ◌∷◌, [], All, IfErr, None, OnOk, Some, false, length, nat_le};
 ghost use Rattle.std.specs.List.{AllZip, list_all};
-ghost use Rattle.auction_terms.specs.declared.limits.TheConstants.{GREATEST_AMOUNT};
+ghost use Rattle.auction_terms.specs.declared.limits.TheConstants.{GREATEST_AMOUNT, MOST_PARTS};
 ghost use Rattle.auction_terms.specs.Allocations.{weighed_choice};
 ghost use Rattle.auction_terms.specs.FirstFault.{first_failed};
 ghost use Rattle.auction_terms.specs.Groups.{has};
@@ -22,7 +22,7 @@ ghost use Rattle.prices.specs.Weights.{listed_weights};
 ghost use Rattle.program_rows.specs.Faithful.{IsGreatest};
 
 use crate::listed::Listed;
-use crate::payments::{Payments, in_parts};
+use crate::payments::{Payments, amount_in_parts};
 use crate::tight::are_tight;
 use crate::weights::{Weights, weights_on};
 use auction_terms::{Choice, Groups};
@@ -90,7 +90,7 @@ fn is_moved(
 ) -> bool
     requires few { length groups.now ≤ 1024 }
     requires weights { length rule.now.nearest.groups.now ≡ length groups.now }
-    requires parts { payments.now.parts ≤ 10 ^ 6 }
+    requires parts { payments.now.parts ≤ MOST_PARTS }
     requires alone { price_in alone.now bidder ≤ GREATEST_AMOUNT }
     requires prices { price_in payments.now.prices.now bidder ≤ 10 ^ 18 }
     ensures { result ≡ moved_by groups.now rule.now.nearest.groups.now
@@ -101,7 +101,7 @@ fn is_moved(
     let priced = product(weights.scale, price_of(payments.prices, bidder));
     let moved = product(
         weights.scale,
-        in_parts(payments.parts, price_of(alone, bidder)),
+        amount_in_parts(payments.parts, price_of(alone, bidder)),
     );
     priced + u128::from(rule.push) == moved + weights_on(groups, weights, bidder)
 }
@@ -116,7 +116,7 @@ fn are_moved(
 ) -> bool
     requires few { length groups.now ≤ 1024 }
     requires weights { length rule.now.nearest.groups.now ≡ length groups.now }
-    requires parts { payments.now.parts ≤ 10 ^ 6 }
+    requires parts { payments.now.parts ≤ MOST_PARTS }
     requires alone { All (λ c. price_in alone.now c.bidder ≤ GREATEST_AMOUNT) choices.now }
     requires prices { All (λ c. price_in payments.now.prices.now c.bidder ≤ 10 ^ 18) choices.now }
     ensures { result ≡ list_all (λ c. moved_by groups.now rule.now.nearest.groups.now
@@ -145,7 +145,7 @@ fn shows_least(payments: &Payments<'_>, listed: &Listed<'_>, weights: &Weights<'
     requires without { AllZip (λ group a. IsGreatest (lots_in payments.now.book.now.rules)
         (book_of payments.now.book.now) (has group) a) listed.now.groups.now listed.now.won.now }
     requires weights { length weights.now.groups.now ≡ length listed.now.groups.now }
-    requires parts { payments.now.parts ≤ 10 ^ 6 }
+    requires parts { payments.now.parts ≤ MOST_PARTS }
     requires reserves { All (λ c. weighed_choice (reserves_in payments.now.book.now.rules)
         (book_of payments.now.book.now) c ≤ GREATEST_AMOUNT) payments.now.first.now }
     ensures { result ≡ of_rule.shows_least (reserves_in payments.now.book.now.rules)
@@ -173,7 +173,7 @@ fn shows_nearest(
     requires without { AllZip (λ group a. IsGreatest (lots_in payments.now.book.now.rules)
         (book_of payments.now.book.now) (has group) a) listed.now.groups.now listed.now.won.now }
     requires weights { length rule.now.nearest.groups.now ≡ length listed.now.groups.now }
-    requires parts { payments.now.parts ≤ 10 ^ 6 }
+    requires parts { payments.now.parts ≤ MOST_PARTS }
     requires alone { All (λ c. price_in alone.now c.bidder ≤ GREATEST_AMOUNT)
         payments.now.first.now }
     requires prices { All (λ c. price_in payments.now.prices.now c.bidder ≤ 10 ^ 18)
@@ -230,7 +230,7 @@ pub fn show_the_prices(
         (book_of payments.now.book.now) (has group) a) listed.now.groups.now listed.now.won.now }
     requires least { length rule.now.least.groups.now ≡ length listed.now.groups.now }
     requires nearest { length rule.now.nearest.groups.now ≡ length listed.now.groups.now }
-    requires parts { payments.now.parts ≤ 10 ^ 6 }
+    requires parts { payments.now.parts ≤ MOST_PARTS }
     requires prices { ArePrices (book_of payments.now.book.now) payments.now.first.now
         payments.now.parts (price_in payments.now.prices.now) }
     requires suffice { Suffice (reserves_in payments.now.book.now.rules)

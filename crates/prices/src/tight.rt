@@ -2,7 +2,7 @@
 
 ghost use Rattle.std.specs.Prelude.{◌≡◌, ◌≤◌, ◌*◌, ◌^◌, ◌==◌, ◌||◌, ◌*ℤ◌, ◌≤ℤ◌, All, cond, false, int_le, length, nat_le, pos};
 ghost use Rattle.std.specs.List.{AllZip, list_all};
-ghost use Rattle.auction_terms.specs.declared.limits.TheConstants.{GREATEST_AMOUNT};
+ghost use Rattle.auction_terms.specs.declared.limits.TheConstants.{GREATEST_AMOUNT, MOST_PARTS};
 ghost use Rattle.auction_terms.specs.Allocations.{weighed_choice};
 ghost use Rattle.auction_terms.specs.Groups.{has};
 ghost use Rattle.auction_terms.specs.Terms.{lots_in};
@@ -16,7 +16,7 @@ ghost use Rattle.prices.specs.Weights.{listed_weights, weighted};
 ghost use Rattle.program_rows.specs.Faithful.{IsGreatest};
 
 use crate::listed::Listed;
-use crate::payments::{Payments, in_parts};
+use crate::payments::{Payments, amount_in_parts};
 use crate::reserves::reserve_of;
 use crate::weights::Weights;
 use auction_terms::{Choice, Group};
@@ -24,20 +24,23 @@ use outcome::{Allocation, cost, price_of};
 
 /// Whether a winner that has a weight of its own pays no more than its reserve.
 fn is_tight_alone(payments: &Payments<'_>, own: u64, choice: Choice) -> bool
-    requires parts { payments.now.parts ≤ 10 ^ 6 }
+    requires parts { payments.now.parts ≤ MOST_PARTS }
     requires reserve { weighed_choice (reserves_in payments.now.book.now.rules)
         (book_of payments.now.book.now) choice ≤ GREATEST_AMOUNT }
     ensures { result ≡ (own == 0 || nat_le (price_in payments.now.prices.now choice.bidder)
         (payments.now.parts * weighed_choice (reserves_in payments.now.book.now.rules)
         (book_of payments.now.book.now) choice)) }
 {
-    let reserve = in_parts(payments.parts, reserve_of(payments.book, choice));
-    own == 0 || price_of(payments.prices, choice.bidder) <= reserve
+    if own == 0 {
+        return true;
+    }
+    let reserve = amount_in_parts(payments.parts, reserve_of(payments.book, choice));
+    price_of(payments.prices, choice.bidder) <= reserve
 }
 
 /// Whether each winner that has a weight of its own pays no more than its reserve.
 fn are_tight_alone(payments: &Payments<'_>, own: &[u64], choices: &[Choice]) -> bool
-    requires parts { payments.now.parts ≤ 10 ^ 6 }
+    requires parts { payments.now.parts ≤ MOST_PARTS }
     requires reserves { All (λ c. weighed_choice (reserves_in payments.now.book.now.rules)
         (book_of payments.now.book.now) c ≤ GREATEST_AMOUNT) choices.now }
     ensures { result ≡ list_all (of_rule.is_tight_alone (reserves_in payments.now.book.now.rules)
@@ -78,7 +81,7 @@ fn paid_by(group: &Group, choices: &[Choice], prices: &[u64]) -> u128
 
 /// The opportunity cost of a group, in parts of a pound.
 fn cost_in_parts(payments: &Payments<'_>, group: &Group, without: &Allocation) -> i128
-    requires parts { payments.now.parts ≤ 10 ^ 6 }
+    requires parts { payments.now.parts ≤ MOST_PARTS }
     requires first { IsGreatest (lots_in payments.now.book.now.rules)
         (book_of payments.now.book.now) (λ b. false) payments.now.first.now }
     requires without { IsGreatest (lots_in payments.now.book.now.rules)
@@ -106,7 +109,7 @@ fn is_at_most(paid: u128, cost: i128) -> bool
 
 /// Whether a group that has a weight pays no more than its opportunity cost.
 fn is_tight(payments: &Payments<'_>, group: &Group, without: &Allocation, weight: u64) -> bool
-    requires parts { payments.now.parts ≤ 10 ^ 6 }
+    requires parts { payments.now.parts ≤ MOST_PARTS }
     requires first { IsGreatest (lots_in payments.now.book.now.rules)
         (book_of payments.now.book.now) (λ b. false) payments.now.first.now }
     requires without { IsGreatest (lots_in payments.now.book.now.rules)
@@ -116,15 +119,18 @@ fn is_tight(payments: &Payments<'_>, group: &Group, without: &Allocation, weight
         *ℤ of_report.cost (lots_in payments.now.book.now.rules) (book_of payments.now.book.now)
         payments.now.first.now group.now without.now)) }
 {
+    if weight == 0 {
+        return true;
+    }
     payments.book.within_limits();
     let paid = paid_by(group, payments.first.choices(), payments.prices);
     let cost = cost_in_parts(payments, group, without);
-    weight == 0 || is_at_most(paid, cost)
+    is_at_most(paid, cost)
 }
 
 /// Whether each group that has a weight pays no more than its opportunity cost.
 fn are_tight_groups(payments: &Payments<'_>, listed: &Listed<'_>, weights: &[u64]) -> bool
-    requires parts { payments.now.parts ≤ 10 ^ 6 }
+    requires parts { payments.now.parts ≤ MOST_PARTS }
     requires first { IsGreatest (lots_in payments.now.book.now.rules)
         (book_of payments.now.book.now) (λ b. false) payments.now.first.now }
     requires without { AllZip (λ group a. IsGreatest (lots_in payments.now.book.now.rules)
@@ -153,7 +159,7 @@ pub fn are_tight(payments: &Payments<'_>, listed: &Listed<'_>, weights: &Weights
     requires without { AllZip (λ group a. IsGreatest (lots_in payments.now.book.now.rules)
         (book_of payments.now.book.now) (has group) a) listed.now.groups.now listed.now.won.now }
     requires weights { length weights.now.groups.now ≡ length listed.now.groups.now }
-    requires parts { payments.now.parts ≤ 10 ^ 6 }
+    requires parts { payments.now.parts ≤ MOST_PARTS }
     requires reserves { All (λ c. weighed_choice (reserves_in payments.now.book.now.rules)
         (book_of payments.now.book.now) c ≤ GREATEST_AMOUNT) payments.now.first.now }
     ensures { result ≡ of_rule.are_tight (reserves_in payments.now.book.now.rules)
