@@ -39,4 +39,4 @@ pub unpriced : (workers : ℕ) (auction : Auction) (won : List (List Choice)) (c
     → Ends (output_of (request.Verify workers) auction) before before r ⊎ (IsBeyondSums auction r × (before.taken ≡ before.taken))
 unpriced workers auction won claim before r parsed certifies claims (inl refused) =
     inl (by_refusal (after-ok _ won _ r (next _ won _ _ parsed certifies) (after-ok _ claim _ r claims (stop _ _ r refused))) refl)
-unpriced workers auction won claim before r parsed certifies claims (inr wide) = inr ((won, parsed, inr (certifies, inr wide)), refl)
+unpriced workers auction won claim before r parsed certifies claims (inr wide) = inr ((won, parsed, inr (certifies, inr (claim, claims, wide))), refl)

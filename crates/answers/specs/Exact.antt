@@ -1,5 +1,5 @@
 -- What a command leaves, by what is reported: the whole output, or the first refusal.
-use Rattle.std.specs.Prelude.{◌≡◌, ◌⊎◌, ℕ, List, Option, Result, Ok, length}
+use Rattle.std.specs.Prelude.{◌≡◌, ◌⊎◌, ℕ, List, [], Option, Result, Ok, length, slice_index_or}
 use Rattle.auction_input.specs.Input.{Input}
 use Rattle.std.specs.Io.KnownBytes.{Appends}
 use Rattle.auction_input.specs.Auction.{Auction, parsed_auction}
@@ -10,11 +10,12 @@ use Rattle.auction_input.specs.declared.refusal.Refusal.TheVariants as refusal
 use Rattle.auction_input.specs.declared.request.Request.TheVariants as request
 use Rattle.auction_input.specs.declared.request.Request.{Request}
 use Rattle.auction_terms.specs.declared.choices.Choice.{Choice}
+use Rattle.outcome.specs.declared.uniqueness.Uniqueness.{Uniqueness}
 use Rattle.byte_sinks.specs.Sinks.{HasFailed, SentFront}
 use Rattle.byte_sinks.specs.declared.write_fault.WriteFault.TheVariants as write
 use Rattle.answers.specs.Answer.{answer}
 use Rattle.answers.specs.Certified.{IsTooWide, bounds_of, certified}
-use Rattle.answers.specs.Claimed.{IsTooWideClaim}
+use Rattle.answers.specs.Claimed.{IsTooWideClaim, parsed_claims}
 use Rattle.answers.specs.Outside.{SinkState}
 use Rattle.answers.specs.Pricing.{IsTooWidePricing}
 use Rattle.answers.specs.SolutionWinners.{winners_of_groups}
@@ -29,12 +30,15 @@ pub data Ends (parsed : Result (List ℕ) Refusal) (before after : SinkState) : 
   by_put : {written : ℕ} → (out : List ℕ) → parsed ≡ Ok out → SentFront before.taken after.taken out written
       → HasFailed before.failures after.failures → Ends parsed before after (refusal.Write (write.Sink written))
 
--- after solutions that are accepted it is a certificate of the groups; after all of these that of the claim; and after that the cover of prices
+-- after solutions that are accepted it is a certificate of the groups; after all of these that of the claim; and after a claim that is accepted
+-- the cover of prices
 abbrev pub IsBeyondSums : Auction → Refusal → Type 0
 IsBeyondSums auction r =
     (won : List (List Choice)) × (winners_of_groups auction ≡ Ok won)
     × (((length auction.certificates ≡ length auction.groups) × IsTooWide (bounds_of auction won) r) ⊎
-    ((certified auction won ≡ Ok won) × (IsTooWideClaim auction r ⊎ IsTooWidePricing auction won r)))
+    ((certified auction won ≡ Ok won) × (IsTooWideClaim auction r ⊎
+    ((claim : Uniqueness) × (parsed_claims auction (slice_index_or won 0 []) auction.uniques auction.ties ≡ Ok claim)
+    × IsTooWidePricing auction won r))))
 
 -- `verify` alone adds up in 128 bits
 abbrev pub MeetsLimit : Request → Input → Refusal → Type 0
