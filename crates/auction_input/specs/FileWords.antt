@@ -20,6 +20,7 @@ fault_words fault.ReadFailed = codes "read failed"
 fault_words (fault.NotRead kind) = codes "it is " ++ (kind_words kind ++ codes ", not a file; to read it as standard input: wdp COMMAND < FILE")
 fault_words (fault.NotReplaced kind) = codes "it is " ++ (kind_words kind ++ codes ", and -o would put a file in its place; wdp COMMAND > FILE writes to it")
 fault_words fault.ReadOnly = codes "it may not be written"
+fault_words fault.DeadLink = codes "it is a link that leads nowhere"
 fault_words fault.Unwritten = codes "it can't be written"
 fault_words fault.Empty = codes "it is empty"
 fault_words fault.NoLineEnd = codes "its last line has no line end, and another file follows"

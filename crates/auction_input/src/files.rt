@@ -33,6 +33,8 @@ pub enum FileFault {
     NotReplaced(FileKind),
     /// The file that is to be written may not be changed.
     ReadOnly,
+    /// What is to be written is a link that leads nowhere.
+    DeadLink,
     /// The file can't be written for another reason.
     Unwritten,
     /// One of several files has no byte.
@@ -106,6 +108,7 @@ impl FileFault {
                 ", and -o would put a file in its place; wdp COMMAND > FILE writes to it",
             ],
             FileFault::ReadOnly => ["it may not be written", "", ""],
+            FileFault::DeadLink => ["it is a link that leads nowhere", "", ""],
             FileFault::Unwritten => ["it can't be written", "", ""],
             FileFault::Empty => ["it is empty", "", ""],
             FileFault::NoLineEnd => [
