@@ -143,7 +143,7 @@ impl<'r> Disk<'r> {
             Err(error) if error.kind() != ErrorKind::NotFound => {
                 Err(fault_of(&error, FileFault::Unwritten))
             }
-            Err(_) if fs::symlink_metadata(self.rt, name).is_ok() => Err(FileFault::Unwritten),
+            Err(_) if fs::symlink_metadata(self.rt, name).is_ok() => Err(FileFault::DeadLink),
             Err(_) => Ok(()),
         }
     }

@@ -62,8 +62,8 @@ fn place_of(rt: &HostRuntime, name: &str, is_there: bool) -> io::Result<String> 
     if is_there {
         return Ok(fs::canonicalize(rt, name)?.into_string());
     }
-    // A name that ends so is a folder's.
-    if name.ends_with('/') {
+    // No file has such a name: one that ends so is a folder's.
+    if name.is_empty() || name.ends_with('/') {
         return Err(ErrorKind::NotFound.into());
     }
     Ok(String::from_str(rt.alloc(), name)?)
