@@ -97,6 +97,35 @@ def test_run(office: Office, run: str) -> None:
         assert office.there() == before
 
 
+# a name, and how it is printed: no control character and no mark of the writing direction reaches a terminal
+SHOWN = {
+    "": "''",
+    "\x1b[2J": r"\x1b[2J",
+    "\x7f": r"\x7f",
+    "\u0085": r"\xc2\x85",
+    "\u200f": r"\xe2\x80\x8f",
+    "\u2028": r"\xe2\x80\xa8",
+    "\u202etxt.b": r"\xe2\x80\xaetxt.b",
+    "\u2066b": r"\xe2\x81\xa6b",
+    "M\u00fcller.txt": r"M\xc3\xbcller.txt",
+    "it's": r"it\'s",
+    r"\x0a": r"\\x0a",
+    "a b~.txt": "a b~.txt",
+}
+
+
+@pytest.mark.parametrize("name", SHOWN, ids=ascii)
+def test_name_as_it_is_printed(office: Office, name: str) -> None:
+    assert office.seen("text", name) == refused(f"{SHOWN[name]}: no such file or directory")
+
+
+@pytest.mark.parametrize("words", ["text form.csv", "text"])
+def test_output_without_a_name_is_refused_before_the_input(office: Office, words: str) -> None:
+    before = office.there()
+    assert office.seen(*words.split(), "-o", "") == refused("'': no such file or directory")
+    assert office.there() == before
+
+
 WORDS = """check program.mps one.txt; one.txt; -; -o out; text -o; text -o a -o b; text --outptu a; compile --workers 99 none
 check --last-wins program.mps; --last-wins rules.txt"""
 

@@ -1,8 +1,9 @@
 -- What is reported of a refusal of an input: where there are several texts, with the name of the file that it is of.
-use Rattle.std.specs.Prelude.{◌++◌, ◌∷◌, ℕ, List, [], Option, None, Some, codes, slice_index_or}
+use Rattle.std.specs.Prelude.{◌++◌, ◌∷◌, ℕ, List, [], Option, None, Some, codes, if◌then◌else◌, length, nat_lt, slice_index_or}
 use Rattle.auction_input.specs.Input.{Given}
 use Rattle.auction_input.specs.Line.{refusal_text}
 use Rattle.auction_input.specs.Places.{spot_of, with_number}
+use Rattle.auction_input.specs.declared.parts.PartFault.TheVariants as part
 use Rattle.auction_input.specs.declared.places.Spot.{Spot}
 use Rattle.auction_input.specs.declared.refusal.Refusal.TheVariants as refusal
 use Rattle.auction_input.specs.declared.refusal.Refusal.{Refusal}
@@ -29,6 +30,12 @@ message_at texts spot r = with_other texts r (words_at texts spot r)
 abbrev pub message_in : List Given → Refusal → List ℕ
 message_in texts r = message_at texts (spot_of texts r) r
 
+-- what makes an input of files that are named, where the first part of one doesn't begin with a head
+abbrev pub hint : List Given → Refusal → List ℕ
+hint (given ∷ texts) (refusal.Parts part.BeforeFirst) =
+    if nat_lt 0 (length given.name) then codes "; wdp-office gather makes an input of such files" else []
+hint texts r = []
+
 -- and its line
 abbrev pub placed_line : List Given → Refusal → List ℕ
-placed_line texts r = codes "wdp: " ++ (message_in texts r ++ 10 ∷ [])
+placed_line texts r = codes "wdp: " ++ (message_in texts r ++ (hint texts r ++ 10 ∷ []))

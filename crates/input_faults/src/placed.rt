@@ -3,10 +3,10 @@
 ghost use Rattle.std.specs.Prelude.{◌≡◌, ◌<◌, [], codes, flat_map, if◌then◌else◌};
 ghost use Rattle.auction_input.specs.Message.{message_text};
 ghost use Rattle.byte_sinks.specs.Adds.{Adds};
-ghost use Rattle.input_faults.specs.FileNames.{name_byte, shown_name};
+ghost use Rattle.input_faults.specs.FileNames.{shown_name};
 ghost use Rattle.input_faults.specs.PlacedText.{file_name, message_at, with_other, words_at};
 
-use crate::shown::hex_digit;
+use crate::shown::add_shown_bytes;
 use crate::wording::add_wording;
 use auction_input::{Given, Message, Refusal, Spot};
 use byte_sinks::{Sink, Writer};
@@ -20,33 +20,16 @@ fn add_words<S: Sink>(writer: &mut Writer<'_, S>, reported: &Message<'_>)
     writer.add(reported.name);
 }
 
-// Adds a byte of the name of a file.
-fn add_name_byte<S: Sink>(writer: &mut Writer<'_, S>, byte: u8)
-    ensures { Adds S.taken S.failures writer.old writer.new (name_byte byte) }
-{
-    if byte < 0x20 || byte == 0x7F {
-        writer.add(&[b'\\', b'x', hex_digit(byte / 16), hex_digit(byte % 16)]);
-    } else {
-        writer.add(&[byte]);
-    }
-}
-
-fn add_name_bytes<S: Sink>(writer: &mut Writer<'_, S>, name: &[u8])
-    ensures { Adds S.taken S.failures writer.old writer.new (flat_map name_byte name.now) }
-{
-    for byte in name {
-        add_name_byte(writer, *byte);
-    }
-}
-
-/// Adds the name of a file, with control characters by their digits; of `-` what it stands for.
+/// Adds the name of a file, whose bytes are shown as those of a text; of `-` what it stands for.
 pub fn add_file_name<S: Sink>(writer: &mut Writer<'_, S>, name: &[u8])
     ensures { Adds S.taken S.failures writer.old writer.new (shown_name name.now) }
 {
     if name == b"-".as_slice() {
         writer.add(b"standard input");
+    } else if name == b"".as_slice() {
+        writer.add(b"''");
     } else {
-        add_name_bytes(writer, name);
+        add_shown_bytes(writer, name);
     }
 }
 

@@ -9,8 +9,8 @@ use byte_sinks::{Sink, Writer};
 // How many bytes of a text are shown.
 const SHOWN_LEN: usize = 40;
 
-/// A hexadecimal digit.
-pub fn hex_digit(number: u8) -> u8
+// A hexadecimal digit.
+fn hex_digit(number: u8) -> u8
     requires { number < 16 }
     ensures { result ≡ hex_digit number }
 {
@@ -34,8 +34,8 @@ fn add_shown_byte<S: Sink>(writer: &mut Writer<'_, S>, byte: u8)
     }
 }
 
-// Adds bytes as they are shown.
-fn add_shown_bytes<S: Sink>(writer: &mut Writer<'_, S>, bytes: &[u8])
+/// Adds bytes as they are shown.
+pub(crate) fn add_shown_bytes<S: Sink>(writer: &mut Writer<'_, S>, bytes: &[u8])
     ensures { Adds S.taken S.failures writer.old writer.new (flat_map shown_byte bytes.now) }
 {
     for byte in bytes {
