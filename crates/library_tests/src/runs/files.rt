@@ -205,7 +205,7 @@ const REFUSED: [Refused; 13] = [
     },
     Refused {
         words: &["wdp", "text", "rules.txt", "note.txt"],
-        line: b"wdp: note.txt: input: bytes before the first part\n",
+        line: b"wdp: note.txt: input: bytes before the first part; wdp-office gather makes an input of such files\n",
     },
     Refused {
         words: &["wdp", "text", "-o", "out.mps", "rules.txt"],
