@@ -23,7 +23,7 @@ struct Page {
 const PROGRAM: Page = Page {
     name: "wdp",
     about: "Compiles the winner determination of a combinatorial clock auction",
-    below: "Example: wdp compile --workers 4 examples/worked.txt -o programs.mps\n\nThe manual: man docs/wdp.1; the formats and each refusal: docs/REFERENCE.md",
+    below: "Example: wdp compile --workers 4 examples/worked.txt -o programs.mps\n\nThe manual: man wdp; the formats and each refusal: docs/REFERENCE.md",
 };
 
 const TEXT: Page = Page {
@@ -53,13 +53,13 @@ const MAP: Page = Page {
 const REPORT: Page = Page {
     name: "report",
     about: "Prints the winners of all groups' solutions, and the groups' opportunity costs",
-    below: "Input: %rules, a %form for each form, %groups, and a %solution for each group\nOutput: for each group its winners, their total, and its opportunity cost\nExample: wdp report examples/worked.txt solutions.txt",
+    below: "Input: %rules, a %form for each form, %groups, and a %solution for each group\nOutput: for each group its winners, their total, and its opportunity cost\nWrong number of parts: wdp explain --for report prints how many were found and wanted\nExample: wdp report examples/worked.txt solutions.txt",
 };
 
 const VERIFY: Page = Page {
     name: "verify",
     about: "Prints the report of solutions that certificates show to be optimal",
-    below: "Input: that of report, and a %certificate for each group; optionally %prices with %cover and %rule, and %unique or %tie\nOutput: that of report, then the prices if given, then unique, or tie and an allocation\nExample: wdp verify examples/verified.txt",
+    below: "Input: that of report, and a %certificate for each group; optionally %prices with %cover and %rule, and %unique or %tie\nOutput: that of report, then the prices if given, then unique, or tie and an allocation\nWrong number of parts: wdp explain --for verify prints how many were found and wanted\nExample: wdp verify examples/verified.txt",
 };
 
 const EXPLAIN: Page = Page {
