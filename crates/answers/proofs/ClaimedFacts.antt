@@ -1,15 +1,15 @@
--- What comes of a claim of other outcomes, as the code finds it.
-use Rattle.std.proofs.Common.{◌≡◌, ◌≤◌, ◌+◌, ◌==◌, ◌∷◌, ◌∙◌, [], ℕ, Bool, List, Option, None, Some, Result, Ok, Err, ap}
-use Rattle.std.proofs.Common.{arith, eqb-true, inl, inr, length, refl, subst, sym, ◌⊎◌, ◌<◌, IfErr, IfOk, codes}
-use Rattle.std.proofs.Common.{slice_index, slice_index_or, true, zip, option_map}
-use Rattle.std.proofs.lemmas.List.{length-map}
+-- What comes of claims of other awards, as the code finds it.
+use Rattle.std.proofs.Common.{◌≡◌, ◌≤◌, ◌+◌, ◌++◌, ◌==◌, ◌∷◌, ◌∙◌, [], ℕ, Bool, List, Option, None, Some, Result, Ok, Err, ap, append_assoc, append-nil}
+use Rattle.std.proofs.Common.{arith, drop, eqb-true, false, inl, inr, length, map, refl, subst, sym, ◌<◌, ◌⊎◌}
+use Rattle.std.proofs.Common.{slice_index_or, true, zip, option_map}
+use Rattle.std.proofs.lemmas.List.{drop_more, length-map}
+use Rattle.auction_terms.specs.FirstFault.{first_failed}
 use Rattle.auction_terms.specs.Lines.{bytes_of}
 use Rattle.auction_terms.specs.Groups.{starts_empty}
-use Rattle.auction_terms.specs.Stages.{each_in_turn, refused_as, unless}
+use Rattle.auction_terms.specs.Stages.{and_then, each_in_turn, refused_as, unless}
 use Rattle.auction_terms.specs.declared.choices.Choice.{Choice}
 use Rattle.auction_input.specs.Auction.{Auction}
 use Rattle.answers.specs.Programs.{program_for}
-use Rattle.auction_input.specs.Line.{refusal_text}
 use Rattle.auction_input.specs.Refused.{Refuses}
 use Rattle.auction_input.specs.Settled.{held}
 use Rattle.auction_input.specs.declared.auction.Auction as declared
@@ -18,21 +18,24 @@ use Rattle.auction_input.specs.declared.refusal.Refusal.TheVariants as refusal
 use Rattle.auction_input.specs.declared.refusal.Refusal.{Refusal}
 use Rattle.auction_input.proofs.AnswerFacts.{ok-after, ok-is}
 use Rattle.auction_input.proofs.InputTextFacts.{Text}
-use Rattle.auction_input.proofs.StageFacts.{next}
-use Rattle.optimality.specs.Answers.{IsLimit, IsVerdict}
+use Rattle.auction_input.proofs.StageFacts.{next, stop}
+use Rattle.optimality.specs.Answers.{IsVerdict}
 use Rattle.optimality.specs.Only.{IsLargeOnlyAt, only_fault}
+use Rattle.outcome.specs.Others.{Others, others_of}
+use Rattle.outcome.specs.PointAllocation.{allocation_of}
+use Rattle.outcome.specs.Solution.{solution}
+use Rattle.outcome.specs.Ties.{same_choices}
+use Rattle.outcome.specs.declared.others.Further.TheVariants as further
 use Rattle.program_rows.specs.declared.certificate_fault.CertificateFault.{CertificateFault}
 use Rattle.program_rows.specs.declared.certificate_fault.CertificateFaultKind.{CertificateFaultKind}
 use Rattle.program_rows.specs.declared.certificate_fault.CertificateFaultKind.TheVariants as kind
+use Rattle.program_rows.specs.declared.solution_fault.SolutionFault.{SolutionFault}
+use Rattle.program_rows.specs.Program.{Table}
 use Rattle.bid_desk.specs.Sale.{Sale}
-use Rattle.outcome.specs.Solution.{solution}
-use Rattle.program_rows.specs.declared.solution_fault.SolutionFault.TheVariants as fault
-use Rattle.outcome.specs.declared.uniqueness.Uniqueness.{Uniqueness}
-use Rattle.outcome.specs.declared.uniqueness.Uniqueness.TheVariants as uniqueness
-use Rattle.answers.specs.Claimed.{IsTooWideClaim, parsed_claims, first_program, of_tie, only_or_rival, parsed_tie, tied}
+use Rattle.answers.specs.Claimed.{IsTooWideClaim, claim_counts, first_program, known_others, parsed_claims, parsed_tie, parsed_ties, same_tie, unique_refused}
 use Rattle.group_compiler.specs.Compiled.{Compiling, compiling, program_without}
 use Rattle.answers.specs.SolutionWinners.{solution_refused, winners_by, winners_of_groups}
-use Rattle.answers.specs.inside.Claiming.{IsWonFirst}
+use Rattle.answers.specs.inside.Claiming.{HasUniqueFault, IsShownUnique, IsUniqueRefused, IsWonFirst}
 use Rattle.answers.specs.inside.SolutionWinners.{winners}
 use Rattle.answers.proofs.CheckFacts.{when-both}
 
@@ -102,120 +105,126 @@ pub some-group : (groups : List (List ℕ)) → starts_empty groups ≡ true →
 some-group [] starts = absurd (cc)
 some-group (group ∷ groups) starts = omega arith
 
--- ---- the claim that there is
+-- ---- the ties before
 
-module _ (auction : declared.Auction) (first : List Choice) where
-  abbrev claims : List Text → List Text → Result Uniqueness Refusal
-  claims uniques ties = parsed_claims (held auction) first (bytes_of uniques) (bytes_of ties)
+-- the tie at a place, where none before it has the same winners
+module _ (ties : List (List Choice)) (award : List Choice) (n : ℕ) (a : List Choice) (is : a ≡ slice_index_or ties n a) (within : n < length ties) where
+  ahead : drop n ties ≡ a ∷ drop (n + 1) ties
+  ahead = drop_more ties n a within ∙ ap (λ (b : List Choice). b ∷ drop (n + 1) ties) (sym is)
 
-  pub many-claims : 1 < length auction.uniques.items + length auction.ties.items
-      → parsed_claims (held auction) first (held auction).uniques (held auction).ties ≡ Err (refusal.PartCount part.Unique)
-  many-claims many = by auction.uniques.items auction.ties.items many
-    where
-      by : (uniques ties : List Text) → 1 < length uniques + length ties → claims uniques ties ≡ Err (refusal.PartCount part.Unique)
-      by [] [] many = absurd (omega arith)
-      by [] (t ∷ []) many = absurd (omega arith)
-      by [] (t ∷ s ∷ ties) many = refl
-      by (u ∷ []) [] many = absurd (omega arith)
-      by (u ∷ []) (t ∷ ties) many = refl
-      by (u ∷ v ∷ uniques) ties many = refl
+  pub same-here : same_choices a award ≡ true → same_tie (n + 1) (drop n ties) award ≡ Some (n + 1)
+  same-here same = rw (ahead, same) refl
 
-  pub no-claim : length auction.uniques.items ≡ 0 → length auction.ties.items ≡ 0
-      → parsed_claims (held auction) first (held auction).uniques (held auction).ties ≡ Ok uniqueness.Unasked
-  no-claim none alone = by auction.uniques.items auction.ties.items none alone
-    where
-      by : (uniques ties : List Text) → length uniques ≡ 0 → length ties ≡ 0 → claims uniques ties ≡ Ok uniqueness.Unasked
-      by [] [] none alone = refl
-      by [] (t ∷ ties) none alone = absurd (omega arith)
-      by (u ∷ uniques) ties none alone = absurd (omega arith)
+  pub same-later : same_choices a award ≡ false → same_tie (n + 1) (drop n ties) award ≡ same_tie (n + 1 + 1) (drop (n + 1) ties) award
+  same-later other = rw (ahead, other) refl
 
-  -- one text of each kind, and none of the other
-  pub one-tie : (text : Text) → length auction.ties.items ≡ 1 → length auction.uniques.items ≡ 0 → text ≡ slice_index_or auction.ties.items 0 text
-      → parsed_claims (held auction) first (held auction).uniques (held auction).ties ≡ parsed_tie (held auction) first text.now
-  one-tie text one alone is = by auction.uniques.items auction.ties.items one alone is
-    where
-      by : (uniques ties : List Text) → length ties ≡ 1 → length uniques ≡ 0 → text ≡ slice_index_or ties 0 text
-          → claims uniques ties ≡ parsed_tie (held auction) first text.now
-      by [] [] one alone is = absurd (omega arith)
-      by [] (t ∷ []) one alone is = ap (λ (x : Text). parsed_tie (held auction) first x.now) (sym is)
-      by [] (t ∷ s ∷ ties) one alone is = absurd (omega arith)
-      by (u ∷ uniques) ties one alone is = absurd (omega arith)
+-- ---- one tie after the other
 
-  pub one-unique : (text : Text) → length auction.uniques.items ≡ 1 → length auction.ties.items ≡ 0 → text ≡ slice_index_or auction.uniques.items 0 text
-      → (parsed_claims (held auction) first (held auction).uniques (held auction).ties ≡ parsed_claims (held auction) first (text.now ∷ [])
-      []) × (bytes_of auction.uniques.items ≡ text.now ∷ []) × (bytes_of auction.ties.items ≡ [])
-  one-unique text one alone is = by auction.uniques.items auction.ties.items one alone is
-    where
-      by : (uniques ties : List Text) → length uniques ≡ 1 → length ties ≡ 0 → text ≡ slice_index_or uniques 0 text
-          → (claims uniques ties ≡ parsed_claims (held auction) first (text.now ∷ []) []) × (bytes_of uniques ≡ text.now ∷ []) × (bytes_of ties ≡ [])
-      by [] ties one alone is = absurd (omega arith)
-      by (u ∷ []) [] one alone is =
-          (ap (λ (x : Text). parsed_claims (held auction) first (x.now ∷ []) []) (sym is), ap (λ (x : Text). x.now ∷ []) (sym is), refl)
-      by (u ∷ []) (t ∷ ties) one alone is = absurd (omega arith)
-      by (u ∷ v ∷ uniques) ties one alone is = absurd (omega arith)
+-- these points, and after them those that are described
+abbrev pub onto : List (List Bool) → Result (List (List Bool)) Refusal → Result (List (List Bool)) Refusal
+onto points parsed = and_then parsed (λ more. Ok (points ++ more))
 
--- ---- the only one
+pub onto-none : (parsed : Result (List (List Bool)) Refusal) → onto [] parsed ≡ parsed
+onto-none (Ok points) = refl
+onto-none (Err r) = refl
 
-module _ (auction : Auction) (first : List Choice) (text : List ℕ) (point : List Bool)
-    (solved : solution (first_program auction) (slice_index_or auction.solutions 0 []) ≡ Ok point) where
-  abbrev unique_refused : ℕ × CertificateFaultKind → Refusal
-  unique_refused f = refusal.Unique (record { line = f.0; kind = f.1 })
+onto-one : (points : List (List Bool)) (point : List Bool) (parsed : Result (List (List Bool)) Refusal)
+    → onto points (and_then parsed (λ more. Ok (point ∷ more))) ≡ onto (points ++ point ∷ []) parsed
+onto-one points point (Ok more) = ap (λ (xs : List (List Bool)). Ok xs) (sym (append_assoc points (point ∷ []) more))
+onto-one points point (Err r) = refl
 
-  abbrev judged : Option (ℕ × CertificateFaultKind) → Result Uniqueness Refusal
-  judged found = unless (option_map unique_refused found) (Ok (only_or_rival auction.sale first))
+module _ (auction : Auction) (first : List Choice) (points : List (List Bool)) (awards : List (List Choice)) (text : List ℕ) (texts : List (List ℕ)) where
+  abbrev award : List Bool → List Choice
+  award = allocation_of (first_program auction)
 
-  goes-on : parsed_claims auction first (text ∷ []) [] ≡ judged (only_fault (first_program auction) point [] text)
-  goes-on = next _ point _ _ (ap (λ (r : Result (List Bool) _). refused_as (solution_refused (first_program auction) 1) r) solved) refl
+  -- a tie that is taken
+  pub tie-taken : (point : List Bool) → parsed_tie auction first awards text ≡ Ok point
+      → onto points (parsed_ties auction first awards (text ∷ texts)) ≡ onto (points ++ point ∷ []) (parsed_ties auction first (awards ++ award point ∷ []) texts)
+  tie-taken point taken =
+      ap (onto points) (next (parsed_tie auction first awards text) point _ _ taken refl) ∙ onto-one points point (parsed_ties auction first (awards ++ award point ∷ []) texts)
 
-  pub only-parsed : only_fault (first_program auction) point [] text ≡ None → parsed_claims auction first (text ∷ []) [] ≡ Ok (only_or_rival auction.sale first)
-  only-parsed none = goes-on ∙ ap judged none
+  -- a tie that is refused
+  pub tie-refused : (r : Refusal) → Refuses (parsed_tie auction first awards text) r
+      → Refuses (onto points (parsed_ties auction first awards (text ∷ texts))) r
+  tie-refused r refused = stop _ _ r (stop _ _ r refused)
 
-  refused-so : (line : ℕ) (k : CertificateFaultKind) → IsLimit k ⊎ (only_fault (first_program auction) point [] text ≡ Some (line, k))
-      → (k ≡ kind.TooLarge → IsLargeOnlyAt (first_program auction) point [] text line) → auction.uniques ≡ text ∷ [] → auction.ties ≡ []
-      → Refuses (parsed_claims auction first (text ∷ []) []) (refusal.Unique (record { line = line; kind = k }))
-      ⊎ IsTooWideClaim auction (refusal.Unique (record { line = line; kind = k }))
-  refused-so line k (inl (inl memory)) large one alone = inl (inr (rw memory refl))
-  refused-so line k (inl (inr wide)) large one alone = inr (text, line, one, alone, (point, solved, large wide), rw wide refl)
-  refused-so line k (inr found) large one alone = inl (inl (goes-on ∙ ap judged found))
+pub ties-end : (auction : Auction) (first : List Choice) (points : List (List Bool)) (awards : List (List Choice))
+    → onto points (parsed_ties auction first awards []) ≡ Ok points
+ties-end auction first points awards = ap (λ (xs : List (List Bool)). Ok xs) (append-nil points)
 
-  pub only-refused : (f : CertificateFault) → IsLimit f.kind ⊎ (only_fault (first_program auction) point [] text ≡ Some (f.line, f.kind))
-      → (f.kind ≡ kind.TooLarge → IsLargeOnlyAt (first_program auction) point [] text f.line) → auction.uniques ≡ text ∷ [] → auction.ties ≡ []
-      → Refuses (parsed_claims auction first (text ∷ []) []) (refusal.Unique f) ⊎ IsTooWideClaim auction (refusal.Unique f)
-  only-refused f found large one alone = refused-so f.line f.kind found large one alone
+-- ---- what comes of ties
+
+pub one-text : (texts : List Text) (text : Text) → length texts ≡ 1 → text ≡ slice_index_or texts 0 text → bytes_of texts ≡ text.now ∷ []
+one-text [] text one is = absurd (omega arith)
+one-text (t ∷ []) text one is = ap (λ (x : Text). x.now ∷ []) (sym is)
+one-text (t ∷ u ∷ texts) text one is = absurd (omega arith)
+
+module _ (auction : Auction) (first : List Choice) (counted : first_failed (claim_counts auction) ≡ None) where
+  abbrev parsed : Result (List (List Bool)) Refusal
+  parsed = parsed_ties auction first [] auction.ties
+
+  goes-on : parsed_claims auction first ≡ and_then parsed (λ points. known_others auction first points auction.uniques)
+  goes-on = ap (λ (o : Option Refusal). unless o (and_then parsed (λ points. known_others auction first points auction.uniques))) counted
+
+  pub untied : (r : Refusal) → Refuses parsed r → Refuses (parsed_claims auction first) r
+  untied r refused = subst (λ (x : Result Others Refusal). Refuses x r) (sym goes-on) (stop _ _ r refused)
+
+  module _ (points : List (List Bool)) (tied : parsed ≡ Ok points) where
+    abbrev p : Table
+    p = first_program auction
+
+    abbrev solved : List ℕ
+    solved = slice_index_or auction.solutions 0 []
+
+    known : parsed_claims auction first ≡ known_others auction first points auction.uniques
+    known = goes-on ∙ next parsed points _ _ tied refl
+
+    pub nothing-shown : auction.uniques ≡ [] → parsed_claims auction first ≡ Ok (record { awards = map (allocation_of p) points; further = further.Unknown })
+    nothing-shown none = known ∙ ap (known_others auction first points) none
+
+    -- the one text is judged
+    abbrev judged : List Bool → List ℕ → Result Others Refusal
+    judged point text = unless (option_map unique_refused (only_fault p point points text))
+        (Ok (others_of auction.sale.lots auction.sale.book (first ∷ map (allocation_of p) points)))
+
+    by-one : (point : List Bool) (text : List ℕ) → auction.uniques ≡ text ∷ [] → solution p solved ≡ Ok point → parsed_claims auction first ≡ judged point text
+    by-one point text one is = known ∙ ap (known_others auction first points) one
+        ∙ next _ point _ _ (ap (λ (r : Result (List Bool) SolutionFault). refused_as (solution_refused p 1) r) is) refl
+
+    pub all-shown : IsShownUnique auction points
+        → parsed_claims auction first ≡ Ok (others_of auction.sale.lots auction.sale.book (first ∷ map (allocation_of p) points))
+    all-shown u = by-one u.point u.text u.one u.solved ∙ ap (λ (o : Option (ℕ × CertificateFaultKind)). unless (option_map unique_refused o)
+        (Ok (others_of auction.sale.lots auction.sale.book (first ∷ map (allocation_of p) points)))) u.shown
+
+    unshown-so : (f : CertificateFault) → HasUniqueFault auction points f
+        → Refuses (parsed_claims auction first) (refusal.Unique f) ⊎ IsTooWideClaim auction first (refusal.Unique f)
+    unshown-so f u = by u.found
+      where
+        by : (f.kind ≡ kind.TooLarge × IsLargeOnlyAt p u.point points u.text f.line) ⊎ (only_fault p u.point points u.text ≡ Some (f.line, f.kind))
+            → Refuses (parsed_claims auction first) (refusal.Unique f) ⊎ IsTooWideClaim auction first (refusal.Unique f)
+        by (inl (large, wide)) = inr (record {
+          text = u.text;
+          point = u.point;
+          points = points;
+          line = f.line;
+          counted = counted;
+          one = u.one;
+          tied = tied;
+          solved = u.solved;
+          wide = wide;
+          is = ap (λ (k : CertificateFaultKind). refusal.Unique (record { line = f.line; kind = k })) large;
+        })
+        by (inr found) = inl (inl (by-one u.point u.text u.one u.solved ∙ ap (λ (o : Option (ℕ × CertificateFaultKind)). unless (option_map unique_refused o)
+            (Ok (others_of auction.sale.lots auction.sale.book (first ∷ map (allocation_of p) points)))) found))
+
+    pub unshown : (r : Refusal) → IsUniqueRefused auction points r → Refuses (parsed_claims auction first) r ⊎ IsTooWideClaim auction first r
+    unshown r (inl memory) = inl (inr memory)
+    unshown r (inr (f, u, is)) = subst (λ (s : Refusal). Refuses (parsed_claims auction first) s ⊎ IsTooWideClaim auction first s) (sym is) (unshown-so f u)
+
+-- ---- the text that is to show that there is no other
 
 -- a verdict that is no fault
 pub no-fault : (verdict : Result (Unit {0}) CertificateFault) (first : Option (ℕ × CertificateFaultKind))
     → ((f : CertificateFault) → verdict ≡ Err f → ⊥) → IsVerdict verdict first → first ≡ None
 no-fault (Ok u) first fine judged = judged
 no-fault (Err f) first fine judged = absurd (fine f refl)
-
--- ---- a tie
-
--- what begins with the word of a solution isn't what is reported of memory
-not-memory : (bytes : List ℕ) → 115 ∷ bytes ≡ codes "out of memory" → ⊥
-not-memory bytes is = (let differ : 115 ≡ 111 = ap (λ (xs : List ℕ). slice_index xs 0) is in omega (arith, differ))
-
-tie-memory : (r : Refusal) → refusal_text r ≡ codes "out of memory" → refusal_text (of_tie r) ≡ codes "out of memory"
-tie-memory (refusal.Solution n fault.OutOfMemory) is = refl
-tie-memory (refusal.Solution n f) is = absurd (not-memory _ is)
-tie-memory (refusal.BoundBroken n name) is = absurd (not-memory _ is)
-tie-memory (refusal.RowBroken n name) is = absurd (not-memory _ is)
-tie-memory r is = is
-
-pub refuses-tie : (parsed : Result (List Choice) Refusal) (r : Refusal) → Refuses parsed r → Refuses (refused_as of_tie parsed) (of_tie r)
-refuses-tie parsed r (inl is) = inl (ap (λ (x : Result (List Choice) Refusal). refused_as of_tie x) is)
-refuses-tie parsed r (inr memory) = inr (tie-memory r memory)
-
--- what a further solution wins ties, or is refused
-module _ (auction : Auction) (first : List Choice) (text : List ℕ) (other : List Choice) (won : winners_by (first_program auction) 1 text ≡ Ok other) where
-  goes-over : parsed_tie auction first text ≡ tied auction.sale first other
-  goes-over = next _ other _ _ (ap (λ (r : Result (List Choice) Refusal). refused_as of_tie r) won) refl
-
-  pub tie-parsed : (r : Result Uniqueness Refusal) → IfOk r (λ claim. tied auction.sale first other ≡ Ok claim)
-      → IfOk r (λ claim. parsed_tie auction first text ≡ Ok claim)
-  tie-parsed (Ok claim) parsed = goes-over ∙ parsed
-  tie-parsed (Err e) parsed = tt
-
-  pub tie-refused : (r : Result Uniqueness Refusal) → IfErr r (λ e. tied auction.sale first other ≡ Err e) → IfErr r (Refuses (parsed_tie auction first text))
-  tie-refused (Ok claim) parsed = tt
-  tie-refused (Err e) parsed = inl (goes-over ∙ parsed)

@@ -1,5 +1,5 @@
--- How reports and allocations end: with a digit and a line feed.
-use Rattle.std.proofs.Common.{◌≡◌, ◌≤◌, ◌+◌, ◌*◌, ◌/◌, ◌%◌, ◌++◌, ◌∷◌, ◌∙◌, [], ℕ, zero, suc, Bool, true, false, Some, flat_map}
+-- How what is written ends: with a digit and a line feed, or with a line of words.
+use Rattle.std.proofs.Common.{◌≡◌, ◌≤◌, ◌+◌, ◌*◌, ◌/◌, ◌%◌, ◌++◌, ◌∷◌, ◌∙◌, [], ℕ, zero, suc, Bool, true, false, Option, None, Some, flat_map, ⊎_elim, ◌⊎◌}
 use Rattle.std.proofs.Common.{List, append_assoc, ap, arith, length, lt-ltb, refl, subst, sym, ℤ, pos, negsuc, ◌==◌, codes}
 use Rattle.std.proofs.Common.{decimal, zip, append-nil, inl, inr, if◌then◌else◌}
 use Rattle.std.proofs.lemmas.Bool.{cases_Bool}
@@ -7,6 +7,9 @@ use Rattle.std.specs.Fmt.{digit_glyph, digits, digits_onto, signed_decimal}
 use Rattle.auction_terms.specs.declared.choices.Choice.{Choice}
 use Rattle.auction_terms.specs.Fractions.{fraction_text, gcd}
 use Rattle.outcome.specs.Pricing.{Priced, amount_text, exact_text, in_pounds, paid, price_in, price_line, pricing_text, rule_line, sum_line}
+use Rattle.outcome.specs.Others.{Others, others_text, tie_text}
+use Rattle.outcome.specs.declared.others.Further.TheVariants as further
+use Rattle.outcome.specs.declared.others.Further.{Further}
 use Rattle.outcome.specs.Report.{allocation_text, cost, group_report, heading, in_turn, report_text}
 use Rattle.bid_desk.specs.Sale.{Sale}
 
@@ -112,7 +115,17 @@ groups-end : (sale : Sale) (first : List Choice) (k : ℕ) (item : List ℕ × L
 groups-end sale first k item [] = subst EndsInDigit (sym (append-nil (group_report sale first k item))) (group-ends sale first k item)
 groups-end sale first k item (next ∷ items) = after-more (group_report sale first k item) _ (groups-end sale first (k + 1) next items)
 
--- ---- the line `unique` isn't such an end
+-- a report on a first group
+pub report-ends : (sale : Sale) (groups : List (List ℕ)) (won : List (List Choice)) → 1 ≤ length (zip groups won) → EndsInDigit (report_text sale groups won)
+report-ends sale [] won some = absurd (omega arith)
+report-ends sale (group ∷ groups) [] some = absurd (omega arith)
+report-ends sale (group ∷ groups) (a ∷ won) some = groups-end sale a 1 (group, a) (zip groups won)
+
+ties-end : (sale : Sale) (a : List Choice) (awards : List (List Choice)) → EndsInDigit (flat_map (tie_text sale) (a ∷ awards))
+ties-end sale a [] = subst EndsInDigit (sym (append-nil (tie_text sale a))) (after-more (codes "tie\n") _ (allocation-ends sale a))
+ties-end sale a (b ∷ awards) = after-more (tie_text sale a) _ (ties-end sale b awards)
+
+-- ---- the last bytes of a line
 
 -- the last byte but one
 abbrev second_last : List ℕ → ℕ
@@ -126,28 +139,6 @@ second-last-is [] a b = refl
 second-last-is (x ∷ []) a b = refl
 second-last-is (x ∷ y ∷ []) a b = refl
 second-last-is (x ∷ y ∷ z ∷ xs) a b = second-last-is (y ∷ z ∷ xs) a b
-
-not-so : (before text : List ℕ) → before ++ codes "unique\n" ≡ text → EndsInDigit text → ⊥
-not-so before text is ends =
-    let front = before ++ 117 ∷ 110 ∷ 105 ∷ 113 ∷ 117 ∷ [] in
-    let split : before ++ codes "unique\n" ≡ front ++ 101 ∷ 10 ∷ [] = sym (append_assoc before (117 ∷ 110 ∷ 105 ∷ 113 ∷ 117 ∷ []) (101 ∷ 10 ∷ [])) in
-    let same : 101 ≡ ends.digit = sym (second-last-is front 101 10) ∙ ap second_last (sym split ∙ is ∙ ends.is) ∙ second-last-is ends.front ends.digit 10 in
-    let small = ends.small in
-    omega arith
-
--- a report on a first group doesn't end with that line
-pub no-report : (sale : Sale) (groups : List (List ℕ)) (won : List (List Choice)) (before : List ℕ) → 1 ≤ length (zip groups won)
-    → before ++ codes "unique\n" ≡ report_text sale groups won ++ [] → ⊥
-no-report sale [] won before some is = absurd (omega arith)
-no-report sale (group ∷ groups) [] before some is = absurd (omega arith)
-no-report sale (group ∷ groups) (a ∷ won) before some is =
-    not-so before _ is (subst EndsInDigit (sym (append-nil (report_text sale (group ∷ groups) (a ∷ won)))) (groups-end sale a 1 (group, a) (zip groups won)))
-
--- and no tie does
-pub no-tie : (sale : Sale) (report prices : List ℕ) (other : List Choice) (before : List ℕ)
-    → before ++ codes "unique\n" ≡ report ++ (prices ++ (codes "tie\n" ++ allocation_text sale other)) → ⊥
-no-tie sale report prices other before is =
-    not-so before _ is (after-more report _ (after-more prices _ (after-more (codes "tie\n") _ (allocation-ends sale other))))
 
 -- the last byte but two
 abbrev third_last : List ℕ → ℕ
@@ -164,69 +155,144 @@ third-last-is (x ∷ y ∷ []) a b c = refl
 third-last-is (x ∷ y ∷ z ∷ []) a b c = refl
 third-last-is (x ∷ y ∷ z ∷ w ∷ xs) a b c = third-last-is (y ∷ z ∷ w ∷ xs) a b c
 
--- nor does the line of the rule
-not-rule : (before front : List ℕ) → before ++ codes "unique\n" ≡ front ++ codes "by the rule\n" → ⊥
-not-rule before front is =
-    let one = before ++ codes "uniq" in
-    let other = front ++ codes "by the ru" in
-    let split : before ++ codes "unique\n" ≡ one ++ 117 ∷ 101 ∷ 10 ∷ [] = sym (append_assoc before (codes "uniq") (117 ∷ 101 ∷ 10 ∷ [])) in
-    let apart : front ++ codes "by the rule\n" ≡ other ++ 108 ∷ 101 ∷ 10 ∷ [] = sym (append_assoc front (codes "by the ru") (108 ∷ 101 ∷ 10 ∷ [])) in
-    let same : 117 ≡ 108 = sym (third-last-is one 117 101 10) ∙ ap third_last (sym split ∙ is ∙ apart) ∙ third-last-is other 108 101 10 in
-    omega (arith, same)
+-- a text whose last line ends with two bytes
+record EndsInTwo (a b : ℕ) (text : List ℕ) : Type 0 where
+  third : third_last text ≡ a
+  second : second_last text ≡ b
 
--- nor do prices
-module _ (sale : Sale) (report : List ℕ) (first : List Choice) (p : Priced) (before : List ℕ) where
-  abbrev lines : List ℕ
-  lines = flat_map (price_line sale p) first
+in-two : (before : List ℕ) (a b : ℕ) → EndsInTwo a b (before ++ a ∷ b ∷ 10 ∷ [])
+in-two before a b = record {
+  third = third-last-is before a b 10;
+  second = ap second_last (sym (append_assoc before (a ∷ []) (b ∷ 10 ∷ []))) ∙ second-last-is (before ++ a ∷ []) b 10;
+}
 
-  abbrev sum : List ℕ
-  sum = sum_line p first
+-- a word, after whatever
+word-ends : (before word : List ℕ) (a b : ℕ) → EndsInTwo a b (before ++ (word ++ a ∷ b ∷ 10 ∷ []))
+word-ends before word a b = subst (EndsInTwo a b) (append_assoc before word (a ∷ b ∷ 10 ∷ [])) (in-two (before ++ word) a b)
 
-  abbrev with-end : List ℕ → List ℕ
-  with-end end = report ++ (codes "prices\n" ++ (lines ++ (sum ++ end)))
+unique-ends : (before : List ℕ) → EndsInTwo 117 101 (before ++ codes "unique\n")
+unique-ends before = word-ends before (codes "uniq") 117 101
 
-  no-sum : before ++ codes "unique\n" ≡ with-end [] → ⊥
-  no-sum is = not-so before _ is (after-more report _ (after-more (codes "prices\n") _
-      (after-more lines _ (subst EndsInDigit (sym (append-nil sum)) (amount-ends (codes "sum ") p.parts (paid (in_pounds p.parts (price_in p.prices)) first) (paid (price_in p.prices) first))))))
+no-other-ends : (before : List ℕ) → EndsInTwo 101 114 (before ++ codes "no other\n")
+no-other-ends before = word-ends before (codes "no oth") 101 114
 
-  no-rule : before ++ codes "unique\n" ≡ with-end (codes "by the rule\n") → ⊥
-  no-rule is =
-      let end = codes "by the rule\n" in
-      let apart : with-end end ≡ (report ++ (codes "prices\n" ++ (lines ++ sum))) ++ end =
-      ap (λ (xs : List ℕ). report ++ (codes "prices\n" ++ xs)) (sym (append_assoc lines sum end))
-      ∙ ap (λ (xs : List ℕ). report ++ xs) (sym (append_assoc (codes "prices\n") (lines ++ sum) end))
-      ∙ sym (append_assoc report (codes "prices\n" ++ (lines ++ sum)) end) in
-      not-rule before (report ++ (codes "prices\n" ++ (lines ++ sum))) (is ∙ apart)
+more-ends : (before : List ℕ) → EndsInTwo 114 101 (before ++ codes "and more\n")
+more-ends before = word-ends before (codes "and mo") 114 101
 
-  by-end : (by_rule : Bool) → before ++ codes "unique\n" ≡ with-end (rule_line by_rule) → ⊥
-  by-end false is = no-sum is
-  by-end true is = no-rule is
+rule-ends : (before : List ℕ) → EndsInTwo 108 101 (before ++ codes "by the rule\n")
+rule-ends before = word-ends before (codes "by the ru") 108 101
 
-  pub no-pricing : before ++ codes "unique\n" ≡ report ++ (pricing_text sale first (Some p) ++ []) → ⊥
-  no-pricing is = by-end p.by_rule (is ∙ ap (λ (xs : List ℕ). report ++ xs) (append-nil (pricing_text sale first (Some p))))
-
--- the line of the rule is no such end, either
-
-not-rule-so : (before text : List ℕ) → before ++ codes "by the rule\n" ≡ text → EndsInDigit text → ⊥
-not-rule-so before text is ends =
-    let front = before ++ codes "by the rul" in
-    let split : before ++ codes "by the rule\n" ≡ front ++ 101 ∷ 10 ∷ [] = sym (append_assoc before (codes "by the rul") (101 ∷ 10 ∷ [])) in
-    let same : 101 ≡ ends.digit = sym (second-last-is front 101 10) ∙ ap second_last (sym split ∙ is ∙ ends.is) ∙ second-last-is ends.front ends.digit 10 in
+-- letters aren't digits
+not-in-digit : (a b : ℕ) (text : List ℕ) → 58 ≤ b → EndsInTwo a b text → EndsInDigit text → ⊥
+not-in-digit a b text letter two ends =
+    let same : b ≡ ends.digit = sym two.second ∙ ap second_last ends.is ∙ second-last-is ends.front ends.digit 10 in
     let small = ends.small in
     omega arith
 
-pub no-rule-after-report : (sale : Sale) (groups : List (List ℕ)) (won : List (List Choice)) (before : List ℕ) → 1 ≤ length (zip groups won)
-    → before ++ codes "by the rule\n" ≡ report_text sale groups won → ⊥
-no-rule-after-report sale [] won before some is = absurd (omega arith)
-no-rule-after-report sale (group ∷ groups) [] before some is = absurd (omega arith)
-no-rule-after-report sale (group ∷ groups) (a ∷ won) before some is = not-rule-so before _ is (groups-end sale a 1 (group, a) (zip groups won))
+-- ---- what stands after a report
 
--- if prices aren't called those of the rule
-pub no-rule-after-prices : (sale : Sale) (report : List ℕ) (first : List Choice) (p : Priced) (before : List ℕ) → p.by_rule ≡ false
-    → before ++ codes "by the rule\n" ≡ report ++ pricing_text sale first (Some p) → ⊥
-no-rule-after-prices sale report first p before so is =
-    let lines = flat_map (price_line sale p) first in
-    let sum = sum_line p first in
-    let ends = after-more report _ (after-more (codes "prices\n") _ (after-more lines _ (subst EndsInDigit (sym (append-nil sum))
-    (amount-ends (codes "sum ") p.parts (paid (in_pounds p.parts (price_in p.prices)) first) (paid (price_in p.prices) first))))) in
-    not-rule-so before _ (is ∙ ap (λ (b : Bool). report ++ (codes "prices\n" ++ (lines ++ (sum ++ rule_line b)))) so) ends
+module _ (sale : Sale) (report : List ℕ) (reported : EndsInDigit report) (first : List Choice) where
+  abbrev prices : Option Priced → List ℕ
+  prices o = pricing_text sale first o
+
+  -- all that is written
+  abbrev pub written : Option Priced → Others → List ℕ
+  written o others = report ++ (prices o ++ others_text sale others)
+
+  abbrev lines : Priced → List ℕ
+  lines p = flat_map (price_line sale p) first
+
+  sum-ends : (p : Priced) → EndsInDigit (report ++ (codes "prices\n" ++ (lines p ++ (sum_line p first ++ []))))
+  sum-ends p = after-more report _ (after-more (codes "prices\n") _ (after-more (lines p) _ (subst EndsInDigit (sym (append-nil (sum_line p first)))
+      (amount-ends (codes "sum ") p.parts (paid (in_pounds p.parts (price_in p.prices)) first) (paid (price_in p.prices) first)))))
+
+  -- before the line of the rule
+  abbrev priced : Priced → List ℕ
+  priced p = report ++ (codes "prices\n" ++ (lines p ++ sum_line p first))
+
+  apart : (p : Priced) (end : List ℕ) → report ++ (codes "prices\n" ++ (lines p ++ (sum_line p first ++ end))) ≡ priced p ++ end
+  apart p end =
+      ap (λ (xs : List ℕ). report ++ (codes "prices\n" ++ xs)) (sym (append_assoc (lines p) (sum_line p first) end))
+      ∙ ap (λ (xs : List ℕ). report ++ xs) (sym (append_assoc (codes "prices\n") (lines p ++ sum_line p first) end))
+      ∙ sym (append_assoc report (codes "prices\n" ++ (lines p ++ sum_line p first)) end)
+
+  -- prices end with a digit, or with the line of the rule
+  prices-end : (p : Priced) (by_rule : Bool)
+      → EndsInDigit (report ++ (codes "prices\n" ++ (lines p ++ (sum_line p first ++ rule_line by_rule))))
+      ⊎ EndsInTwo 108 101 (report ++ (codes "prices\n" ++ (lines p ++ (sum_line p first ++ rule_line by_rule))))
+  prices-end p false = inl (sum-ends p)
+  prices-end p true = inr (subst (EndsInTwo 108 101) (sym (apart p (codes "by the rule\n"))) (rule-ends (priced p)))
+
+  -- where nothing is said of other awards
+  silent-ends : (o : Option Priced) → EndsInDigit (report ++ prices o) ⊎ EndsInTwo 108 101 (report ++ prices o)
+  silent-ends None = inl (subst EndsInDigit (sym (append-nil report)) reported)
+  silent-ends (Some p) = prices-end p p.by_rule
+
+  last-apart : (o : Option Priced) (ties last : List ℕ) → report ++ (prices o ++ (ties ++ last)) ≡ (report ++ (prices o ++ ties)) ++ last
+  last-apart o ties last = ap (λ (xs : List ℕ). report ++ xs) (sym (append_assoc (prices o) ties last)) ∙ sym (append_assoc report (prices o ++ ties) last)
+
+  -- the end of what is written, by what is known of further awards
+  unknown-ends : (o : Option Priced) (awards : List (List Choice))
+      → EndsInDigit (written o (record { awards = awards; further = further.Unknown })) ⊎ EndsInTwo 108 101 (written o (record { awards = awards; further = further.Unknown }))
+  unknown-ends o [] = subst (λ (xs : List ℕ). EndsInDigit (report ++ xs) ⊎ EndsInTwo 108 101 (report ++ xs)) (sym (append-nil (prices o))) (silent-ends o)
+  unknown-ends o (a ∷ awards) = inl (after-more report _ (after-more (prices o) _
+      (subst EndsInDigit (sym (append-nil (flat_map (tie_text sale) (a ∷ awards)))) (ties-end sale a awards))))
+
+  last-ends : (a b : ℕ) (o : Option Priced) (ties last : List ℕ) → ((before : List ℕ) → EndsInTwo a b (before ++ last))
+      → EndsInTwo a b (report ++ (prices o ++ (ties ++ last)))
+  last-ends a b o ties last ends = subst (EndsInTwo a b) (sym (last-apart o ties last)) (ends (report ++ (prices o ++ ties)))
+
+  -- one end isn't another
+  not-unknown : (a b : ℕ) (o : Option Priced) (awards : List (List Choice)) → 58 ≤ b → (a ≡ 108 → b ≡ 101 → ⊥)
+      → EndsInTwo a b (written o (record { awards = awards; further = further.Unknown })) → ⊥
+  not-unknown a b o awards letter rule two = ⊎_elim
+      (λ digit. not-in-digit a b (written o (record { awards = awards; further = further.Unknown })) letter two digit)
+      (λ by_rule. rule (sym two.third ∙ by_rule.third) (sym two.second ∙ by_rule.second))
+      (unknown-ends o awards)
+
+  not-two : (a b c d : ℕ) (text : List ℕ) → EndsInTwo a b text → EndsInTwo c d text → (a ≡ c) × (b ≡ d)
+  not-two a b c d text one other = (sym one.third ∙ other.third, sym one.second ∙ other.second)
+
+  -- the line `unique` is the last one only if nothing else is printed and there is no other
+  pub says-unique : (before : List ℕ) (o : Option Priced) (others : Others) → before ++ codes "unique\n" ≡ written o others
+      → (others.further ≡ further.NoOther) × (others.awards ≡ [])
+  says-unique before o others is = by others.further others.awards (subst (EndsInTwo 117 101) is (unique-ends before))
+    where
+      by : (f : Further) (awards : List (List Choice)) → EndsInTwo 117 101 (written o (record { awards = awards; further = f }))
+          → (f ≡ further.NoOther) × (awards ≡ [])
+      by further.Unknown awards two = absurd (not-unknown 117 101 o awards (omega arith) (λ a b. omega (arith, a)) two)
+      by further.NoOther [] two = (refl, refl)
+      by further.NoOther (a ∷ awards) two =
+          (let (x, y) = not-two 117 101 101 114 _ two (last-ends 101 114 o (flat_map (tie_text sale) (a ∷ awards)) (codes "no other\n") no-other-ends) in
+          absurd (omega (arith, x)))
+      by further.More awards two =
+          (let (x, y) = not-two 117 101 114 101 _ two (last-ends 114 101 o (flat_map (tie_text sale) awards) (codes "and more\n") more-ends) in
+          absurd (omega (arith, x)))
+
+  -- and so is the line `no other` after others
+  pub says-no-other : (before : List ℕ) (o : Option Priced) (others : Others) → before ++ codes "no other\n" ≡ written o others
+      → (others.further ≡ further.NoOther) × (written o others ≡ report ++ (prices o ++ (flat_map (tie_text sale) others.awards ++ codes "no other\n")))
+  says-no-other before o others is = by others.further others.awards (subst (EndsInTwo 101 114) is (no-other-ends before))
+    where
+      by : (f : Further) (awards : List (List Choice)) → EndsInTwo 101 114 (written o (record { awards = awards; further = f }))
+          → (f ≡ further.NoOther) × (written o (record { awards = awards; further = f }) ≡ report ++ (prices o ++ (flat_map (tie_text sale) awards ++ codes "no other\n")))
+      by further.Unknown awards two = absurd (not-unknown 101 114 o awards (omega arith) (λ a b. omega (arith, a)) two)
+      by further.NoOther [] two =
+          (let (x, y) = not-two 101 114 117 101 _ two (last-ends 117 101 o [] (codes "unique\n") unique-ends) in absurd (omega (arith, x)))
+      by further.NoOther (a ∷ awards) two = (refl, refl)
+      by further.More awards two =
+          (let (x, y) = not-two 101 114 114 101 _ two (last-ends 114 101 o (flat_map (tie_text sale) awards) (codes "and more\n") more-ends) in
+          absurd (omega (arith, x)))
+
+  -- prices are there, and called those of the rule, where the line of the rule stands before `unique`
+  pub says-by-rule : (before : List ℕ) (o : Option Priced) → before ++ codes "by the rule\n" ≡ report ++ prices o
+      → (p : Priced) × (o ≡ Some p) × (p.by_rule ≡ true)
+  says-by-rule before None is =
+      absurd (not-in-digit 108 101 (report ++ []) (omega arith) (subst (EndsInTwo 108 101) is (rule-ends before)) (subst EndsInDigit (sym (append-nil report)) reported))
+  says-by-rule before (Some p) is = by p.by_rule refl
+    where
+      by : (b : Bool) → p.by_rule ≡ b → (q : Priced) × (Some p ≡ Some q) × (q.by_rule ≡ true)
+      by true e = (p, refl, e)
+      by false e = absurd (not-in-digit 108 101 _ (omega arith)
+          (subst (EndsInTwo 108 101) (is ∙ ap (λ (b : Bool). report ++ (codes "prices\n" ++ (lines p ++ (sum_line p first ++ rule_line b)))) e) (rule-ends before))
+          (sum-ends p))

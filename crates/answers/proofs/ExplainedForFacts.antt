@@ -13,7 +13,7 @@ use Rattle.answers.specs.Runs.{IsTakenFor}
 use Rattle.auction_input.proofs.WantedFacts.{failed-after}
 use Rattle.auction_input.specs.Auction.{Auction, parsed_auction}
 use Rattle.auction_input.specs.Input.{Input}
-use Rattle.auction_input.specs.Wanted.{claims_once, has_certificates, numbers_of, pricing_wants, proof_wants}
+use Rattle.auction_input.specs.Wanted.{claim_wants, has_certificates, numbers_of, pricing_wants, proof_wants}
 use Rattle.auction_input.specs.Wanted.{refused_unless, solution_wants, with_wanted, parsed_taken, wanted, wants}
 use Rattle.auction_input.specs.declared.part_kind.PartKind.TheVariants as part
 use Rattle.auction_input.specs.declared.refusal.Refusal.TheVariants as refusal
@@ -26,7 +26,7 @@ use Rattle.auction_terms.specs.Terms.{Terms}
 use Rattle.bid_desk.specs.Sale.{Sale}
 use Rattle.auction_terms.specs.declared.choices.Choice.{Choice}
 use Rattle.answers.specs.Certified.{bounds_of, certified, shown}
-use Rattle.answers.specs.Claimed.{parsed_claims, first_program, of_tie, only_or_rival, parsed_tie, tied}
+use Rattle.answers.specs.Claimed.{award_fault, claim_counts, first_program, known_others, parsed_claims, parsed_tie, parsed_ties, tie_fault, tie_number, unique_refused}
 use Rattle.answers.specs.Pricing.{InParts, alone_refused, covered, in_parts_of, known_alone, known_by, parsed_by_rule, parsed_prices, parsed_rule}
 use Rattle.answers.specs.Pricing.{price_fault, priced, priced_by, pricing_counts, parsed_pricing, rule_of, unshown_refused}
 use Rattle.answers.specs.Pricing.{winner_fault, winners_fault}
@@ -46,11 +46,11 @@ use Rattle.answers.specs.Programs.{program_for}
 use Rattle.answers.specs.SolutionWinners.{solution_refused, winners_by, winners_of_groups}
 use Rattle.outcome.specs.Pricing.{Priced, pricing_text}
 use Rattle.outcome.specs.Report.{allocation_text, report_text}
-use Rattle.outcome.specs.Ties.{same_choices}
-use Rattle.outcome.specs.declared.uniqueness.Uniqueness.TheVariants as uniqueness
+use Rattle.optimality.specs.Only.{only_fault}
+use Rattle.auction_input.specs.declared.tie_fault.TieFault.{TieFault}
 use Rattle.outcome.specs.Solution.{solution}
-use Rattle.outcome.specs.Uniqueness.{uniqueness_text}
-use Rattle.outcome.specs.declared.uniqueness.Uniqueness.{Uniqueness}
+use Rattle.outcome.specs.Others.{Others, others_text}
+use Rattle.outcome.specs.PointAllocation.{allocation_of}
 use Rattle.auction_input.specs.ParsedParts.{only_text}
 use Rattle.auction_terms.specs.Allocations.{amount_of, total, weighed_choice}
 use Rattle.presolve.specs.Lines.{left_out_lines}
@@ -119,49 +119,36 @@ free-shown auction won = free-each shown (λ number bound. free-unless _ _ (Ok t
 
 -- ---- claims
 
-of-tie-other : (r : Refusal) → IsOther r → IsOther (of_tie r)
-of-tie-other (refusal.Solution number f) other = λ never. never
-of-tie-other (refusal.BoundBroken number name) other = λ never. never
-of-tie-other (refusal.RowBroken number name) other = λ never. never
-of-tie-other r other = other
+free-tie : (auction : Auction) (first : List Choice) (before : List (List Choice)) (text : List ℕ) → IsFree (parsed_tie auction first before text)
+free-tie auction first before text =
+    let p = first_program auction in
+    let refuse : TieFault → Refusal = λ f. refusal.Tie (tie_number auction (length before + 1)) f in
+    free-then (refused_as (λ f. refuse (tie_fault p f)) (solution p text)) _
+    (free-as (λ f. refuse (tie_fault p f)) (solution p text) (λ f never. never))
+    (λ point is. free-unless refuse (award_fault auction.sale first before (allocation_of p point)) (Ok point) (λ f never. never) tt)
 
-free-of-tie : {A : Type 0} (parsed : Result A Refusal) → IsFree parsed → IsFree (refused_as of_tie parsed)
-free-of-tie (Ok x) free = tt
-free-of-tie (Err r) free = of-tie-other r free
+free-ties : (auction : Auction) (first : List Choice) (before : List (List Choice)) (texts : List (List ℕ)) → IsFree (parsed_ties auction first before texts)
+free-ties auction first before [] = tt
+free-ties auction first before (text ∷ texts) =
+    free-then (parsed_tie auction first before text) _ (free-tie auction first before text) (λ point is.
+    free-then (parsed_ties auction first (before ++ allocation_of (first_program auction) point ∷ []) texts) _
+    (free-ties auction first (before ++ allocation_of (first_program auction) point ∷ []) texts) (λ points are. tt))
 
-free-checks : {A : Type 0} (a b : Bool) (r s : Refusal) (next : Result A Refusal) → IsOther r → IsOther s → IsFree next
-    → IsFree (unless (first_failed ((a, r) ∷ (b, s) ∷ [])) next)
-free-checks false b r s next first second free = first
-free-checks true false r s next first second free = second
-free-checks true true r s next first second free = free
-
-free-tied : (sale : Sale) (first other : List Choice) → IsFree (tied sale first other)
-free-tied sale first other =
-    free-checks (nat_le (total sale.lots sale.book first) (total sale.lots sale.book other)) (not (same_choices first other))
-    refusal.LowerTie refusal.SameTie (Ok (uniqueness.Tie other)) (λ never. never) (λ never. never) tt
-
-free-tie : (auction : Auction) (first : List Choice) (text : List ℕ) → IsFree (parsed_tie auction first text)
-free-tie auction first text =
-    free-then (refused_as of_tie (winners_by (first_program auction) 1 text)) (tied auction.sale first)
-    (free-of-tie (winners_by (first_program auction) 1 text) (free-winners (first_program auction) 1 text))
-    (λ other is. free-tied auction.sale first other)
-
-both-true : (a b : Bool) → a && b ≡ true → (a ≡ true) × (b ≡ true)
-both-true true b is = (refl, is)
-both-true false b is = cc
-
-free-claims : (auction : Auction) (first : List Choice) (uniques ties : List (List ℕ)) → length uniques ≤ 1
-    → length ties ≤ 1 - length uniques → IsFree (parsed_claims auction first uniques ties)
-free-claims auction first [] [] few rest = tt
-free-claims auction first (text ∷ []) [] few rest =
+free-known : (auction : Auction) (first : List Choice) (points : List (List Bool)) (uniques : List (List ℕ)) → IsFree (known_others auction first points uniques)
+free-known auction first points [] = tt
+free-known auction first points (text ∷ uniques) =
     free-then (refused_as (solution_refused (first_program auction) 1) (solution (first_program auction) (slice_index_or auction.solutions 0 []))) _
     (free-as (solution_refused (first_program auction) 1) (solution (first_program auction) (slice_index_or auction.solutions 0 []))
     (other-solution (first_program auction) 1))
-    (λ point is. free-unless _ _ (Ok (only_or_rival auction.sale first)) (λ f never. never) tt)
-free-claims auction first [] (text ∷ []) few rest = free-tie auction first text
-free-claims auction first [] (text ∷ other ∷ more) few rest = absurd (omega arith)
-free-claims auction first (text ∷ []) (other ∷ more) few rest = absurd (omega arith)
-free-claims auction first (text ∷ other ∷ more) ties few rest = absurd (omega arith)
+    (λ point is. free-unless unique_refused (only_fault (first_program auction) point points text) _ (λ f never. never) tt)
+
+-- claims of which there are as many as there may be
+free-claims : (auction : Auction) (first : List Choice) → first_failed (claim_counts auction) ≡ None → IsFree (parsed_claims auction first)
+free-claims auction first counted =
+    let known : List (List Bool) → Result Others Refusal = λ points. known_others auction first points auction.uniques in
+    subst (λ (o : Option Refusal). IsFree (unless o (and_then (parsed_ties auction first [] auction.ties) known))) (sym counted)
+    (free-then (parsed_ties auction first [] auction.ties) known (free-ties auction first [] auction.ties)
+    (λ points is. free-known auction first points auction.uniques))
 
 -- ---- prices
 
@@ -296,61 +283,51 @@ first-then : {A B : Type 0} (parsed : Result A Refusal) (next : A → Result B R
 first-then (Ok x) next r free after = after x refl
 first-then (Err f) next r free after = (f, refl, inr free)
 
-many-claims : (auction : Auction) (first : List Choice) (uniques ties : List (List ℕ))
-    → nat_le (length uniques) 1 && nat_le (length ties) (1 - length uniques) ≡ false
-    → parsed_claims auction first uniques ties ≡ Err (refusal.PartCount part.Unique)
-many-claims auction first [] [] many = absurd (true≢false many)
-many-claims auction first (text ∷ []) [] many = absurd (true≢false many)
-many-claims auction first [] (text ∷ []) many = absurd (true≢false many)
-many-claims auction first [] (text ∷ other ∷ more) many = refl
-many-claims auction first (text ∷ []) (other ∷ more) many = refl
-many-claims auction first (text ∷ other ∷ more) [] many = refl
-many-claims auction first (text ∷ other ∷ more) (tie ∷ ties) many = refl
-
 -- what comes after prices, claims and certificates
-abbrev after_pricing : Auction → List (List Choice) → Uniqueness → Option Priced → Result (List ℕ) Refusal
-after_pricing auction won claim pricing = Ok (report_text auction.sale auction.groups won ++
-    (pricing_text auction.sale (slice_index_or won 0 []) pricing ++ uniqueness_text auction.sale claim))
+abbrev after_pricing : Auction → List (List Choice) → Others → Option Priced → Result (List ℕ) Refusal
+after_pricing auction won others pricing = Ok (report_text auction.sale auction.groups won ++
+    (pricing_text auction.sale (slice_index_or won 0 []) pricing ++ others_text auction.sale others))
 
-abbrev after_claims : Auction → List (List Choice) → Uniqueness → Result (List ℕ) Refusal
-after_claims auction won claim = and_then (parsed_pricing auction won) (after_pricing auction won claim)
+abbrev after_claims : Auction → List (List Choice) → Others → Result (List ℕ) Refusal
+after_claims auction won others = and_then (parsed_pricing auction won) (after_pricing auction won others)
 
 abbrev after_certified : Auction → List (List Choice) → Result (List ℕ) Refusal
-after_certified auction won = and_then (parsed_claims auction (slice_index_or won 0 []) auction.uniques auction.ties) (after_claims auction won)
+after_certified auction won = and_then (parsed_claims auction (slice_index_or won 0 [])) (after_claims auction won)
 
 module _ (auction : Auction) (r : Refusal) where
   abbrev wanted_pricing : Option Refusal
   wanted_pricing = first_failed (refused_unless (pricing_wants (numbers_of auction)))
 
-  claims-so : (won : List (List Choice)) (once : Bool) → claims_once (numbers_of auction) ≡ once
-      → (if once then wanted_pricing else Some (refusal.PartCount part.Unique)) ≡ Some r → RefusesFirst (after_certified auction won) r
-  claims-so won false many is = (
-    refusal.PartCount part.Unique,
-    ap (λ (t : Result Uniqueness Refusal). and_then t
-        (after_claims auction won)) (many-claims auction (slice_index_or won 0 []) auction.uniques auction.ties many),
-    inl (some-is _ r is),
+  abbrev wanted_later : Option Refusal
+  wanted_later = first_failed (refused_unless (claim_wants (numbers_of auction) ++ pricing_wants (numbers_of auction)))
+
+  claims-so : (won : List (List Choice)) (counted : Option Refusal) → first_failed (claim_counts auction) ≡ counted
+      → option_or counted wanted_pricing ≡ Some r → RefusesFirst (after_certified auction won) r
+  claims-so won (Some s) many is = (
+    s,
+    ap (λ (o : Option Refusal). and_then (unless o (and_then (parsed_ties auction (slice_index_or won 0 []) [] auction.ties)
+        (λ points. known_others auction (slice_index_or won 0 []) points auction.uniques))) (after_claims auction won)) many,
+    inl (some-is s r is),
   )
-  claims-so won true once is =
-      first-then (parsed_claims auction (slice_index_or won 0 []) auction.uniques auction.ties) (after_claims auction won) r
-      (free-claims auction (slice_index_or won 0 []) auction.uniques auction.ties (leb-true _ _ (both-true _ _ once).0)
-      (leb-true _ _ (both-true _ _ once).1))
-      (λ claim parsed. (
+  claims-so won None counted is =
+      first-then (parsed_claims auction (slice_index_or won 0 [])) (after_claims auction won) r (free-claims auction (slice_index_or won 0 []) counted)
+      (λ others parsed. (
         r,
         ap (λ (o : Option Refusal). and_then (unless o (priced_by auction won auction.prices auction.covers))
-            (after_pricing auction won claim)) is,
+            (after_pricing auction won others)) is,
         inl refl,
       ))
 
   certified-so : (won : List (List Choice)) (has : Bool)
-      → (if has then (if claims_once (numbers_of auction) then wanted_pricing else Some (refusal.PartCount part.Unique)) else Some
-      (refusal.PartCount part.Certificate)) ≡ Some r
+      → (if has then wanted_later else Some (refusal.PartCount part.Certificate)) ≡ Some r
       → RefusesFirst (and_then (if has then and_then (each_in_turn shown 1 (bounds_of auction won)) (λ all. Ok won) else Err
       (refusal.PartCount part.Certificate)) (after_certified auction)) r
   certified-so won false is = (refusal.PartCount part.Certificate, refl, inl (some-is _ r is))
   certified-so won true is =
       first-then (and_then (each_in_turn shown 1 (bounds_of auction won)) (λ all. Ok won)) (after_certified auction) r
       (free-then (each_in_turn shown 1 (bounds_of auction won)) _ (free-shown auction won) (λ all is. tt))
-      (λ again parsed. claims-so again (claims_once (numbers_of auction)) refl is)
+      (λ again parsed. claims-so again (first_failed (claim_counts auction)) refl
+      (sym (failed-after (claim_wants (numbers_of auction)) (pricing_wants (numbers_of auction))) ∙ is))
 
   won-so : (won : Result (List (List Choice)) Refusal) → IsFree won
       → first_failed (refused_unless (proof_wants (numbers_of auction))) ≡ Some r
@@ -405,11 +382,9 @@ neither : {X : Type 0} (first second : Option X) → option_or first second ≡ 
 neither None second is = (refl, is)
 neither (Some x) second is = cc
 
-all-met : (has once : Bool) (pricing : Option Refusal) (r s : Refusal) → (if has then (if once then pricing else Some s) else Some r) ≡ None
-    → (has ≡ true) × (once ≡ true) × (pricing ≡ None)
-all-met true true pricing r s is = (refl, refl, is)
-all-met true false pricing r s is = cc
-all-met false once pricing r s is = cc
+all-met : (has : Bool) (later : Option Refusal) (r : Refusal) → (if has then later else Some r) ≡ None → (has ≡ true) × (later ≡ None)
+all-met true later r is = (refl, is)
+all-met false later r is = cc
 
 -- an auction that has what is wanted
 met-so : (found : Option Refusal) (x y : Auction) → unless found (Ok x) ≡ Ok y → found ≡ None
@@ -425,18 +400,18 @@ verify-taken workers auction none =
     let (solved, proved) = neither (first_failed (refused_unless (solution_wants (numbers_of auction))))
     (first_failed (refused_unless (proof_wants (numbers_of auction))))
     (sym (failed-after (solution_wants (numbers_of auction)) (proof_wants (numbers_of auction))) ∙ none) in
-    let (has, once, priced) = all-met (has_certificates (numbers_of auction)) (claims_once (numbers_of auction))
-    (first_failed (refused_unless (pricing_wants (numbers_of auction)))) (refusal.PartCount part.Certificate)
-    (refusal.PartCount part.Unique) proved in
+    let (has, later) = all-met (has_certificates (numbers_of auction))
+    (first_failed (refused_unless (claim_wants (numbers_of auction) ++ pricing_wants (numbers_of auction)))) (refusal.PartCount part.Certificate) proved in
+    let (counted, priced) = neither (first_failed (claim_counts auction)) (first_failed (refused_unless (pricing_wants (numbers_of auction))))
+    (sym (failed-after (claim_wants (numbers_of auction)) (pricing_wants (numbers_of auction))) ∙ later) in
     free-then (and_then (winners_of_groups auction) (certified auction)) (after_certified auction)
     (free-then (winners_of_groups auction) (certified auction) (report-taken auction solved) (λ won is.
     subst (λ (b : Bool). IsFree (if b then and_then (each_in_turn shown 1 (bounds_of auction won)) (λ all. Ok won) else Err
     (refusal.PartCount part.Certificate))) (sym has)
     (free-then (each_in_turn shown 1 (bounds_of auction won)) _ (free-shown auction won) (λ all is. tt))))
-    (λ won is. free-then (parsed_claims auction (slice_index_or won 0 []) auction.uniques auction.ties) (after_claims auction won)
-    (free-claims auction (slice_index_or won 0 []) auction.uniques auction.ties (leb-true _ _ (both-true _ _ once).0)
-    (leb-true _ _ (both-true _ _ once).1))
-    (λ claim is. free-then (parsed_pricing auction won) (after_pricing auction won claim)
+    (λ won is. free-then (parsed_claims auction (slice_index_or won 0 [])) (after_claims auction won)
+    (free-claims auction (slice_index_or won 0 []) counted)
+    (λ others is. free-then (parsed_pricing auction won) (after_pricing auction won others)
     (subst (λ (o : Option Refusal). IsFree (unless o (priced_by auction won auction.prices auction.covers))) (sym priced)
     (free-priced-by auction won auction.prices auction.covers)) (λ pricing is. tt)))
 

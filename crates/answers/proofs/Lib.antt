@@ -21,7 +21,7 @@ mod FileLineFacts
 mod FormsFacts
 pub mod GroupTextFacts
 mod LineFacts
-pub mod OnlyFacts
+pub mod OthersFacts
 pub mod PricedFacts
 pub mod ProgramTextFacts
 pub mod RunFacts

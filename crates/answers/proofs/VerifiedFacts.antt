@@ -1,6 +1,6 @@
 -- What certificates show of what groups win.
 use Rattle.std.proofs.Common.{◌≡◌, ◌≤◌, ◌+◌, ◌++◌, ◌==◌, ◌∷◌, ◌∙◌, [], ℕ, true, false, List, Option, None, Some, Result, Ok}
-use Rattle.std.proofs.Common.{Err, IfSome, ◌≢◌, ap, arith, eqb-true, length, map, refl, subst, sym, OnOk, ℤ, codes}
+use Rattle.std.proofs.Common.{Err, IfSome, ◌≢◌, ap, ap₂, arith, eqb-true, length, map, refl, subst, sym, OnOk, ℤ, codes}
 use Rattle.std.proofs.Common.{slice_index_or, option_map}
 use Rattle.auction_input.specs.Input.{Input}
 use Rattle.std.specs.List.{AllZip, zip}
@@ -18,9 +18,12 @@ use Rattle.outcome.proofs.CostFacts.{costs_are_bounded, costs_are_own}
 use Rattle.outcome.specs.Pricing.{Priced, pricing_text}
 use Rattle.outcome.specs.Report.{report_text}
 use Rattle.bid_desk.specs.Sale.{Sale}
-use Rattle.outcome.specs.Uniqueness.{uniqueness_text}
-use Rattle.outcome.specs.declared.uniqueness.Uniqueness.{Uniqueness}
-use Rattle.outcome.specs.declared.uniqueness.Uniqueness.TheVariants as uniqueness
+use Rattle.outcome.specs.Others.{Others, others_text}
+use Rattle.outcome.specs.PointAllocation.{HasRisingBidders, allocation_of}
+use Rattle.outcome.specs.Solution.{solution}
+use Rattle.outcome.proofs.BackFacts.{solutions_come_back}
+use Rattle.outcome.specs.declared.others.Further.{Further}
+use Rattle.outcome.specs.declared.others.Further.TheVariants.{NoOther}
 use Rattle.program_rows.proofs.FaithfulFacts.{presolved_is_faithful}
 use Rattle.program_rows.specs.Faithful.{IsGreatest}
 use Rattle.program_rows.specs.Program.{Table}
@@ -28,25 +31,25 @@ use Rattle.auction_input.specs.Auction.{Auction, parsed_auction}
 use Rattle.answers.specs.Programs.{program_for}
 use Rattle.answers.specs.Certified.{bound_of, bounds_of, certified, shown}
 use Rattle.answers.specs.Answer.{answer, output_of}
-use Rattle.auction_terms.specs.Stages.{and_then, each_in_turn}
+use Rattle.auction_terms.specs.Stages.{and_then, each_in_turn, refused_as}
 use Rattle.answers.specs.Exact.{Writes}
 use Rattle.answers.specs.Claimed.{parsed_claims}
 use Rattle.answers.specs.Pricing.{parsed_pricing}
-use Rattle.answers.specs.Verified.{AreTruePrices, Holds, IsGreatestWithout, IsOnlyOutcome, IsOwnCost, IsPricedOutcome}
-use Rattle.answers.specs.Verified.{IsTrueReport, PricesCover, UniqueIsOnly, VerifiedIsTrue, WritesTrueReport}
-use Rattle.answers.specs.SolutionWinners.{winners_of_groups}
+use Rattle.answers.specs.Verified.{AreTruePrices, IsGreatestWithout, IsOnlyOutcome, IsOwnCost, IsPricedOutcome, IsWholeOutcome}
+use Rattle.answers.specs.Verified.{IsTrueReport, NoOtherIsSo, PricesCover, UniqueIsOnly, VerifiedIsTrue, WritesTrueReport}
+use Rattle.answers.specs.SolutionWinners.{solution_refused, winners_by, winners_of_groups}
 use Rattle.answers.specs.inside.SolutionWinners.{winners}
 use Rattle.auction_input.specs.declared.part_kind.PartKind.TheVariants as part
 use Rattle.auction_input.specs.declared.refusal.Refusal.TheVariants as refusal
 use Rattle.auction_input.specs.declared.request.Request.TheVariants as request
-use Rattle.auction_input.proofs.AnswerFacts.{ok-after, ok-is, unless-ok}
+use Rattle.auction_input.proofs.AnswerFacts.{ok-after, ok-is, ok-refused_as, unless-ok}
 use Rattle.auction_input.proofs.WithinFacts.{auction-within}
 use Rattle.answers.proofs.ClaimedFacts.{some-group, wins-first}
-use Rattle.answers.proofs.EndFacts.{no-pricing, no-report, no-tie}
+use Rattle.answers.proofs.EndFacts.{report-ends, says-no-other, says-unique}
 use Rattle.answers.proofs.PricedFacts.{auction-sized, pricing-holds}
 use Rattle.answers.proofs.CheckFacts.{when-both, when-counted}
 use Rattle.answers.proofs.WinnersFeasibleFacts.{feasible-of}
-use Rattle.answers.proofs.OnlyFacts.{claim-holds, no-fault, settled-costs}
+use Rattle.answers.proofs.OthersFacts.{all-of, claims-hold, no-fault, only-of, settled-costs}
 
 -- ---- one group
 
@@ -134,35 +137,45 @@ as-won auction allocations won certifies =
     let (all, shown_are, same) = ok-after (each_in_turn shown 1 (bounds_of auction allocations)) _ won parsed_all in
     ok-is _ allocations won refl same
 
+-- what a solution wins with nobody left out is a list of rising bidders
+first-rises : (sale : Sale) (text : List ℕ) (a : List Choice) → IsBook sale.lots sale.book → winners_by (program_for sale []) 1 text ≡ Ok a
+    → HasRisingBidders a
+first-rises sale text a within parsed =
+    let p : Table = program_for sale [] in
+    let (point, point_is, is) = ok-after (refused_as (solution_refused p 1) (solution p text)) _ a parsed in
+    let parsed_point = ok-refused_as (solution_refused p 1) (solution p text) point point_is in
+    let same : allocation_of p point ≡ a = ok-is _ (allocation_of p point) a refl is in
+    subst HasRisingBidders same (solutions_come_back sale.lots sale.book (has []) text point within parsed_point).rising
+
 -- what `verify` goes by: these allocations, certified, and what comes of the claim and of the prices
 pub record Verdicts (auction : Auction) (out : List ℕ) : Type 0 where
   pub won : List (List Choice)
-  pub claim : Uniqueness
+  pub others : Others
   pub pricing : Option Priced
   pub wins : winners_of_groups auction ≡ Ok won
   pub certifies : certified auction won ≡ Ok won
-  pub claims : parsed_claims auction (slice_index_or won 0 []) auction.uniques auction.ties ≡ Ok claim
+  pub claims : parsed_claims auction (slice_index_or won 0 []) ≡ Ok others
   pub prices : parsed_pricing auction won ≡ Ok pricing
   pub text : out ≡ report_text auction.sale auction.groups won ++ (pricing_text auction.sale (slice_index_or won 0 []) pricing ++
-      uniqueness_text auction.sale claim)
+      others_text auction.sale others)
 
 pub verdicts : (workers : ℕ) (auction : Auction) (out : List ℕ) → output_of (request.Verify workers) auction ≡ Ok out → Verdicts auction out
 verdicts workers auction out parsed =
     let (won, won_is, later) = ok-after (and_then (winners_of_groups auction) (certified auction)) _ out parsed in
-    let (claim, claim_is, after) = ok-after (parsed_claims auction (slice_index_or won 0 []) auction.uniques auction.ties) _ out later in
+    let (others, others_are, after) = ok-after (parsed_claims auction (slice_index_or won 0 [])) _ out later in
     let (pricing, pricing_is, written) = ok-after (parsed_pricing auction won) _ out after in
     let (allocations, wins, certifies) = ok-after (winners_of_groups auction) (certified auction) won won_is in
     let is = as-won auction allocations won certifies in
     record {
       won = won;
-      claim = claim;
+      others = others;
       pricing = pricing;
       wins = subst (λ (xs : List (List Choice)). winners_of_groups auction ≡ Ok xs) is wins;
       certifies = subst (λ (xs : List (List Choice)). certified auction xs ≡ Ok won) is certifies;
-      claims = claim_is;
+      claims = others_are;
       prices = pricing_is;
       text = sym (ok-is _ (report_text auction.sale auction.groups won ++
-          (pricing_text auction.sale (slice_index_or won 0 []) pricing ++ uniqueness_text auction.sale claim)) out refl written);
+          (pricing_text auction.sale (slice_index_or won 0 []) pricing ++ others_text auction.sale others)) out refl written);
     }
 
 module _ (auction : Auction) (out : List ℕ) (within : IsBook auction.sale.lots auction.sale.book)
@@ -176,16 +189,20 @@ module _ (auction : Auction) (out : List ℕ) (within : IsBook auction.sale.lots
   priced : IfSome v.pricing (AreTruePrices auction (slice_index_or v.won 0 [])) × (v.pricing ≡ None → auction.prices ≡ [])
   priced = pricing-holds auction within sized v.won first greatest v.pricing v.prices
 
+  rises : HasRisingBidders (slice_index_or v.won 0 [])
+  rises = first-rises auction.sale (slice_index_or auction.solutions 0 []) (slice_index_or v.won 0 []) within (wins-first auction v.won v.wins).3
+
   pub true-report : IsTrueReport auction out
   true-report = record {
     won = v.won;
     pricing = v.pricing;
-    claim = v.claim;
+    others = v.others;
     text = v.text;
     greatest = greatest;
+    rising = rises;
     costs = own-costs auction.sale (slice_index_or v.won 0 []) first auction.groups v.won greatest;
     prices = priced.0;
-    holds = claim-holds auction within (slice_index_or v.won 0 []) first (wins-first auction v.won v.wins).3 auction.uniques auction.ties v.claim v.claims;
+    others_true = claims-hold auction within (slice_index_or v.won 0 []) first rises (wins-first auction v.won v.wins).3 v.others v.claims;
   }
 
   priced-outcome : auction.prices ≢ [] → IsPricedOutcome auction out
@@ -196,9 +213,9 @@ module _ (auction : Auction) (out : List ℕ) (within : IsBook auction.sale.lots
       by (Some p) is = record {
         won = v.won;
         pricing = p;
-        claim = v.claim;
+        others = v.others;
         text = subst (λ (x : Option Priced). out ≡ report_text auction.sale auction.groups v.won ++
-            (pricing_text auction.sale (slice_index_or v.won 0 []) x ++ uniqueness_text auction.sale v.claim)) is v.text;
+            (pricing_text auction.sale (slice_index_or v.won 0 []) x ++ others_text auction.sale v.others)) is v.text;
         greatest = first;
         prices = subst (λ (x : Option Priced). IfSome x (AreTruePrices auction (slice_index_or v.won 0 []))) is priced.0;
       }
@@ -230,40 +247,59 @@ some-report sale [] won some each = absurd (omega arith)
 some-report sale (group ∷ groups) [] some each = absurd each
 some-report sale (group ∷ groups) (a ∷ won) some each = omega arith
 
--- a true report that ends with the line `unique`
-only-outcome : (auction : Auction) (before : List ℕ) → 1 ≤ length auction.groups → (won : List (List Choice)) (pricing : Option Priced) (claim : Uniqueness)
-    → before ++ codes "unique\n" ≡ report_text auction.sale auction.groups won ++
-    (pricing_text auction.sale (slice_index_or won 0 []) pricing ++ uniqueness_text auction.sale claim)
-    → AllZip (IsGreatestWithout auction.sale) auction.groups won → Holds auction.sale (slice_index_or won 0 []) claim
-    → IsOnlyOutcome auction (before ++ codes "unique\n")
-only-outcome auction before some won None uniqueness.Unasked is each holds =
-    absurd (no-report auction.sale auction.groups won before (some-report auction.sale auction.groups won some each) is)
-only-outcome auction before some won (Some p) uniqueness.Unasked is each holds =
-    absurd (no-pricing auction.sale (report_text auction.sale auction.groups won) (slice_index_or won 0 []) p before is)
-only-outcome auction before some won pricing uniqueness.Only is each holds = record {
-  won = won;
-  pricing = pricing;
-  text = is;
-  only = holds;
-  costs = settled-costs auction.sale (slice_index_or won 0 []) holds
-      auction.groups won each;
-}
-only-outcome auction before some won pricing (uniqueness.Tie other) is each holds = absurd
-    (no-tie auction.sale (report_text auction.sale auction.groups won) (pricing_text auction.sale (slice_index_or won 0 []) pricing) other
-    before is)
-
-pub unique-is-only : UniqueIsOnly
-unique-is-only workers input before parsed =
-    let out = before ++ codes "unique\n" in
+-- what `verify` answers is a true report, and group 1 has one
+pub answered : (workers : ℕ) (input : Input) (out : List ℕ) → answer (request.Verify workers) input ≡ Ok out
+    → (auction : Auction) × (parsed_auction (request.Verify workers) input ≡ Ok auction)
+    × ((report : IsTrueReport auction out) × (1 ≤ length (zip auction.groups report.won)))
+answered workers input out parsed =
     let (auction, auction_is, text) = ok-after (parsed_auction (request.Verify workers) input) (output_of (request.Verify workers)) out parsed in
     let v = verdicts workers auction out text in
     let report = true-report auction out (auction-within (request.Verify workers) input auction auction_is).1
-    (auction-sized (request.Verify workers) input auction auction_is) v in (
-      auction,
-      auction_is,
-      only-outcome auction before (some-group auction.groups
-          (wins-first auction v.won v.wins).0) report.won report.pricing report.claim report.text report.greatest report.holds,
-    )
+    (auction-sized (request.Verify workers) input auction auction_is) v in
+    (auction, auction_is, (report, some-report auction.sale auction.groups report.won (some-group auction.groups (wins-first auction v.won v.wins).0) report.greatest))
+
+-- a true report that ends with the line `unique`
+only-outcome : (auction : Auction) (before : List ℕ) (report : IsTrueReport auction (before ++ codes "unique\n")) → 1 ≤ length (zip auction.groups report.won)
+    → IsOnlyOutcome auction (before ++ codes "unique\n")
+only-outcome auction before report some =
+    let first = slice_index_or report.won 0 [] in
+    let text = report_text auction.sale auction.groups report.won in
+    let (none, alone) = says-unique auction.sale text (report-ends auction.sale auction.groups report.won some) first before report.pricing report.others report.text in
+    let only = only-of auction.sale first report.others report.others_true none alone in
+    let others : report.others ≡ record { awards = []; further = NoOther } =
+    ap₂ (λ (awards : List (List Choice)) (f : Further). record { awards = awards; further = f }) alone none in
+    record {
+      won = report.won;
+      pricing = report.pricing;
+      text = report.text ∙ ap (λ (o : Others). text ++ (pricing_text auction.sale first report.pricing ++ others_text auction.sale o)) others;
+      only = only;
+      costs = settled-costs auction.sale first only auction.groups report.won report.greatest;
+    }
+
+pub unique-is-only : UniqueIsOnly
+unique-is-only workers input before parsed =
+    let (auction, auction_is, (report, some)) = answered workers input (before ++ codes "unique\n") parsed in
+    (auction, auction_is, only-outcome auction before report some)
+
+-- a true report that ends with the line `no other`
+whole-outcome : (auction : Auction) (before : List ℕ) (report : IsTrueReport auction (before ++ codes "no other\n")) → 1 ≤ length (zip auction.groups report.won)
+    → IsWholeOutcome auction (before ++ codes "no other\n")
+whole-outcome auction before report some =
+    let first = slice_index_or report.won 0 [] in
+    let text = report_text auction.sale auction.groups report.won in
+    let (none, is) = says-no-other auction.sale text (report-ends auction.sale auction.groups report.won some) first before report.pricing report.others report.text in
+    record {
+      won = report.won;
+      pricing = report.pricing;
+      ties = report.others.awards;
+      text = report.text ∙ is;
+      all = all-of auction.sale first report.others report.others_true none;
+    }
+
+pub no-other-is-so : NoOtherIsSo
+no-other-is-so workers input before parsed =
+    let (auction, auction_is, (report, some)) = answered workers input (before ++ codes "no other\n") parsed in
+    (auction, auction_is, whole-outcome auction before report some)
 
 -- what is written at Ok is a true report
 pub writes-true : {T E : Type 0} (workers : ℕ) (input : Input) (result : Result T E) (taken taken' : Option (List ℕ))

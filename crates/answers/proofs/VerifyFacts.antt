@@ -10,7 +10,7 @@ use Rattle.auction_input.specs.declared.refusal.Refusal.{Refusal}
 use Rattle.answers.specs.Claimed.{IsTooWideClaim, parsed_claims}
 use Rattle.answers.specs.Outside.{SinkState}
 use Rattle.answers.specs.Pricing.{IsTooWidePricing, parsed_pricing}
-use Rattle.outcome.specs.declared.uniqueness.Uniqueness.{Uniqueness}
+use Rattle.outcome.specs.Others.{Others}
 use Rattle.answers.specs.Exact.{Ends, IsBeyondSums, by_refusal}
 use Rattle.auction_input.specs.declared.request.Request.TheVariants as request
 use Rattle.auction_input.proofs.StageFacts.{after-ok, next, stop}
@@ -22,21 +22,21 @@ pub unshown : (workers : ℕ) (auction : Auction) (won : List (List Choice)) (be
 unshown workers auction won before r parsed (inl refused) = inl (by_refusal (stop _ _ r (after-ok _ won _ r parsed refused)) refl)
 unshown workers auction won before r parsed (inr (each, wide)) = inr ((won, parsed, inl (each, wide)), refl)
 
--- solutions and certificates that are taken, and a claim of which nothing comes
+-- solutions and certificates that are taken, and claims that aren't
 pub unclaimed : (workers : ℕ) (auction : Auction) (won : List (List Choice)) (before : SinkState) (r : Refusal)
     → winners_of_groups auction ≡ Ok won → certified auction won ≡ Ok won
-    → Refuses (parsed_claims auction (slice_index_or won 0 []) auction.uniques auction.ties) r ⊎ IsTooWideClaim auction r
+    → Refuses (parsed_claims auction (slice_index_or won 0 [])) r ⊎ IsTooWideClaim auction (slice_index_or won 0 []) r
     → Ends (output_of (request.Verify workers) auction) before before r ⊎ (IsBeyondSums auction r × (before.taken ≡ before.taken))
 unclaimed workers auction won before r parsed certifies (inl refused) =
     inl (by_refusal (after-ok _ won _ r (next _ won _ _ parsed certifies) (stop _ _ r refused)) refl)
 unclaimed workers auction won before r parsed certifies (inr wide) = inr ((won, parsed, inr (certifies, inl wide)), refl)
 
--- solutions, certificates and a claim that are taken, and prices that aren't
-pub unpriced : (workers : ℕ) (auction : Auction) (won : List (List Choice)) (claim : Uniqueness) (before : SinkState) (r : Refusal)
+-- solutions, certificates and claims that are taken, and prices that aren't
+pub unpriced : (workers : ℕ) (auction : Auction) (won : List (List Choice)) (others : Others) (before : SinkState) (r : Refusal)
     → winners_of_groups auction ≡ Ok won → certified auction won ≡ Ok won
-    → parsed_claims auction (slice_index_or won 0 []) auction.uniques auction.ties ≡ Ok claim
+    → parsed_claims auction (slice_index_or won 0 []) ≡ Ok others
     → Refuses (parsed_pricing auction won) r ⊎ IsTooWidePricing auction won r
     → Ends (output_of (request.Verify workers) auction) before before r ⊎ (IsBeyondSums auction r × (before.taken ≡ before.taken))
-unpriced workers auction won claim before r parsed certifies claims (inl refused) =
-    inl (by_refusal (after-ok _ won _ r (next _ won _ _ parsed certifies) (after-ok _ claim _ r claims (stop _ _ r refused))) refl)
-unpriced workers auction won claim before r parsed certifies claims (inr wide) = inr ((won, parsed, inr (certifies, inr (claim, claims, wide))), refl)
+unpriced workers auction won others before r parsed certifies claims (inl refused) =
+    inl (by_refusal (after-ok _ won _ r (next _ won _ _ parsed certifies) (after-ok _ others _ r claims (stop _ _ r refused))) refl)
+unpriced workers auction won others before r parsed certifies claims (inr wide) = inr ((won, parsed, inr (certifies, inr (others, claims, wide))), refl)

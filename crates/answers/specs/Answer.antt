@@ -16,7 +16,7 @@ use Rattle.presolve.specs.Lines.{left_out_lines}
 use Rattle.presolve.specs.Reasons.{reasons_of}
 use Rattle.outcome.specs.Report.{allocation_text, in_turn, report_text}
 use Rattle.outcome.specs.Pricing.{pricing_text}
-use Rattle.outcome.specs.Uniqueness.{uniqueness_text}
+use Rattle.outcome.specs.Others.{others_text}
 use Rattle.answers.specs.Certified.{certified}
 use Rattle.answers.specs.Claimed.{parsed_claims}
 use Rattle.answers.specs.Pricing.{parsed_pricing}
@@ -38,12 +38,12 @@ output_of (Map k) auction =
 -- what the solutions win, group by group, and what each group costs the others
 output_of (Report workers) auction =
     and_then (winners_of_groups auction) (λ won. Ok (report_text auction.sale auction.groups won))
--- the same where certificates show that no allocation has a higher total, and after it what the winners pay and what comes of the claim
+-- the same where certificates show that no allocation has a higher total, and after it what the winners pay and what is known of other awards
 output_of (Verify workers) auction =
     and_then (and_then (winners_of_groups auction) (certified auction)) (λ won.
-    and_then (parsed_claims auction (slice_index_or won 0 []) auction.uniques auction.ties) (λ claim.
+    and_then (parsed_claims auction (slice_index_or won 0 [])) (λ others.
     and_then (parsed_pricing auction won) (λ pricing.
-    Ok (report_text auction.sale auction.groups won ++ (pricing_text auction.sale (slice_index_or won 0 []) pricing ++ uniqueness_text auction.sale claim)))))
+    Ok (report_text auction.sale auction.groups won ++ (pricing_text auction.sale (slice_index_or won 0 []) pricing ++ others_text auction.sale others)))))
 -- nothing is wrong, and so nothing is written, unless it is asked which bids no program has, and why; an auction that hasn't got what the
 -- command that is named wants is refused
 output_of (Explain bids command) auction =

@@ -1,67 +1,113 @@
--- What is claimed of other outcomes after the solutions and certificates of the groups: that nobody else can win as much, or a tie.
-use Rattle.std.specs.Prelude.{◌≡◌, ◌∷◌, ℕ, Bool, List, [], Result, Ok, Err, nat_le, not, slice_index_or}
-use Rattle.std.specs.Option.{option_map, option_map_or}
+-- What is claimed of other awards after the solutions and certificates of the groups: ties, and that there is no other award.
+use Rattle.std.specs.Prelude.{◌≡◌, ◌+◌, ◌∷◌, ◌++◌, ℕ, Bool, List, [], Option, None, Some, Result, Ok, if◌then◌else◌, length, map, nat_le, slice_get, slice_index_or}
+use Rattle.std.specs.Option.{option_map, option_map_or, option_or}
 use Rattle.auction_input.specs.Auction.{Auction}
-use Rattle.answers.specs.Programs.{program_for}
-use Rattle.auction_input.specs.declared.part_kind.PartKind.TheVariants as part
+use Rattle.auction_input.specs.Wanted.{claim_wants, numbers_of, refused_unless}
 use Rattle.auction_input.specs.declared.refusal.Refusal.TheVariants as refusal
 use Rattle.auction_input.specs.declared.refusal.Refusal.{Refusal}
+use Rattle.auction_input.specs.declared.tie_fault.TieFault.TheVariants as tie
+use Rattle.auction_input.specs.declared.tie_fault.TieFault.{TieFault}
 use Rattle.auction_terms.specs.Allocations.{total}
 use Rattle.auction_terms.specs.FirstFault.{first_failed}
-use Rattle.auction_terms.specs.Only.{first_rival, with_bid}
 use Rattle.auction_terms.specs.Stages.{and_then, refused_as, unless}
 use Rattle.auction_terms.specs.declared.choices.Choice.{Choice}
-use Rattle.optimality.specs.Only.{IsLargeOnlyAt, only_fault}
-use Rattle.program_rows.specs.declared.certificate_fault.CertificateFaultKind.TheVariants as certificate
-use Rattle.program_rows.specs.declared.certificate_fault.CertificateFaultKind.{CertificateFaultKind}
 use Rattle.bid_desk.specs.Sale.{Sale}
+use Rattle.optimality.specs.Only.{IsLargeOnlyAt, only_fault}
+use Rattle.outcome.specs.Others.{Others, others_of}
+use Rattle.outcome.specs.PointAllocation.{allocation_of}
 use Rattle.outcome.specs.Solution.{solution}
 use Rattle.outcome.specs.Ties.{same_choices}
-use Rattle.outcome.specs.declared.uniqueness.Uniqueness.TheVariants as uniqueness
-use Rattle.outcome.specs.declared.uniqueness.Uniqueness.{Uniqueness}
+use Rattle.outcome.specs.declared.others.Further.TheVariants as further
 use Rattle.program_rows.specs.Program.{Table}
-use Rattle.answers.specs.SolutionWinners.{solution_refused, winners_by}
+use Rattle.program_rows.specs.ProgramNames.{row_name}
+use Rattle.program_rows.specs.declared.certificate_fault.CertificateFaultKind.TheVariants as certificate
+use Rattle.program_rows.specs.declared.certificate_fault.CertificateFaultKind.{CertificateFaultKind}
+use Rattle.program_rows.specs.declared.solution_fault.SolutionFault.TheVariants as fault
+use Rattle.program_rows.specs.declared.solution_fault.SolutionFault.{SolutionFault}
+use Rattle.answers.specs.Programs.{program_for}
+use Rattle.answers.specs.SolutionWinners.{solution_refused}
 
 -- the program with nobody left out
 abbrev pub first_program : Auction → Table
 first_program auction = program_for auction.sale []
 
--- winners of whom kept bids show nobody else: the only ones, unless a bid does as well in a winner's place
-abbrev pub only_or_rival : Sale → List Choice → Uniqueness
-only_or_rival sale first = option_map_or (λ rival. uniqueness.Tie (with_bid rival first)) (first_rival sale.lots sale.book first) uniqueness.Only
+-- one text at most that shows that there is no other award, and no more ties than may be
+abbrev pub claim_counts : Auction → List (Bool × Refusal)
+claim_counts auction = refused_unless (claim_wants (numbers_of auction))
 
--- what is reported of the solution of a tie, in place of a numbered one
-abbrev pub of_tie : Refusal → Refusal
-of_tie (refusal.Solution number f) = refusal.Tie f
-of_tie (refusal.BoundBroken number name) = refusal.TieBoundBroken name
-of_tie (refusal.RowBroken number name) = refusal.TieRowBroken name
-of_tie r = r
+-- ---- a tie
 
--- another allocation ties where its total is no lower, and its winners are others
-abbrev pub tied : Sale → List Choice → List Choice → Result Uniqueness Refusal
-tied sale first other =
-    unless (first_failed (
-    (nat_le (total sale.lots sale.book first) (total sale.lots sale.book other), refusal.LowerTie) ∷
-    (not (same_choices first other), refusal.SameTie) ∷ [])) (Ok (uniqueness.Tie other))
+-- its number, if there are several
+abbrev pub tie_number : Auction → ℕ → Option ℕ
+tie_number auction number = if nat_le (length auction.ties) 1 then None else Some number
 
--- a further solution of that program
-abbrev pub parsed_tie : Auction → List Choice → List ℕ → Result Uniqueness Refusal
-parsed_tie auction first text = and_then (refused_as of_tie (winners_by (first_program auction) 1 text)) (tied auction.sale first)
+-- a fault of its text; a bound or a row that is broken is reported by its name
+abbrev pub tie_fault : Table → SolutionFault → TieFault
+tie_fault p (fault.BoundBroken column) = tie.BoundBroken (option_map_or (λ c. c.name) (slice_get p.columns column) [])
+tie_fault p (fault.RowBroken row) = tie.RowBroken (row_name p.rows row)
+tie_fault p f = tie.Solution f
 
--- what comes of the claim, where this is won with nobody left out: by the texts of both kinds, of which there is one at most
-abbrev pub parsed_claims : Auction → List Choice → List (List ℕ) → List (List ℕ) → Result Uniqueness Refusal
-parsed_claims auction first [] [] = Ok uniqueness.Unasked
--- a certificate that no other point of that program has an objective as low as the point of the first solution
-parsed_claims auction first (text ∷ []) [] =
-    let refused : ℕ × CertificateFaultKind → Refusal = λ f. refusal.Unique (record { line = f.0; kind = f.1 }) in
-    and_then (refused_as (solution_refused (first_program auction) 1) (solution (first_program auction) (slice_index_or auction.solutions 0 []))) (λ point.
-    unless (option_map refused (only_fault (first_program auction) point [] text)) (Ok (only_or_rival auction.sale first)))
-parsed_claims auction first [] (text ∷ []) = parsed_tie auction first text
-parsed_claims auction first uniques ties = Err (refusal.PartCount part.Unique)
+-- the number of the first of these ties, numbered from a number on, that has the winners of an award
+abbrev pub same_tie : ℕ → List (List Choice) → List Choice → Option ℕ
+same_tie number [] award = None
+same_tie number (a ∷ ties) award = if same_choices a award then Some number else same_tie (number + 1) ties award
 
--- the one certificate that is to show the winners to be the only ones isn't judged, since the leaf at this line has a size of 2^126 or more
-abbrev pub IsTooWideClaim : Auction → Refusal → Type 0
-IsTooWideClaim auction r =
-    (text : List ℕ) × (line : ℕ) × (auction.uniques ≡ text ∷ []) × (auction.ties ≡ [])
-    × ((point : List Bool) × (solution (first_program auction) (slice_index_or auction.solutions 0 []) ≡ Ok point) × IsLargeOnlyAt
-    (first_program auction) point [] text line) × (r ≡ refusal.Unique (record { line = line; kind = certificate.TooLarge }))
+-- the winners of group 1, or the first of the ties before, if they are the same
+abbrev pub same_winners : List Choice → List (List Choice) → List Choice → Option TieFault
+same_winners first before award =
+    if same_choices first award then Some tie.SameAsFirst else option_map tie.SameAsTie (same_tie 1 before award)
+
+-- why an award doesn't tie with the first: its total is lower, or its winners are those of the first or of a tie before
+abbrev pub award_fault : Sale → List Choice → List (List Choice) → List Choice → Option TieFault
+award_fault sale first before award =
+    if nat_le (total sale.lots sale.book first) (total sale.lots sale.book award) then same_winners first before award else Some tie.LowerTotal
+
+-- the point of a tie, after ties that win these
+abbrev pub parsed_tie : Auction → List Choice → List (List Choice) → List ℕ → Result (List Bool) Refusal
+parsed_tie auction first before text =
+    let p : Table = first_program auction in
+    let refused : TieFault → Refusal = λ f. refusal.Tie (tie_number auction (length before + 1)) f in
+    and_then (refused_as (λ f. refused (tie_fault p f)) (solution p text)) (λ point.
+    unless (option_map refused (award_fault auction.sale first before (allocation_of p point))) (Ok point))
+
+-- the points of ties, one after the other
+abbrev pub parsed_ties : Auction → List Choice → List (List Choice) → List (List ℕ) → Result (List (List Bool)) Refusal
+parsed_ties auction first before [] = Ok []
+parsed_ties auction first before (text ∷ texts) =
+    and_then (parsed_tie auction first before text) (λ point.
+    and_then (parsed_ties auction first (before ++ allocation_of (first_program auction) point ∷ []) texts) (λ points.
+    Ok (point ∷ points)))
+
+-- ---- no other award
+
+abbrev pub unique_refused : ℕ × CertificateFaultKind → Refusal
+unique_refused f = refusal.Unique (record { line = f.0; kind = f.1 })
+
+-- what is known of other awards, where these are the points of the ties: just these, or by a certificate that no other point of the program has
+-- an objective as low as the point of the first solution, all that there are
+abbrev pub known_others : Auction → List Choice → List (List Bool) → List (List ℕ) → Result Others Refusal
+known_others auction first points [] = Ok (record { awards = map (allocation_of (first_program auction)) points; further = further.Unknown })
+known_others auction first points (text ∷ more) =
+    let p : Table = first_program auction in
+    and_then (refused_as (solution_refused p 1) (solution p (slice_index_or auction.solutions 0 []))) (λ point.
+    unless (option_map unique_refused (only_fault p point points text))
+    (Ok (others_of auction.sale.lots auction.sale.book (first ∷ map (allocation_of p) points))))
+
+-- what comes of the claims, where this is won with nobody left out
+abbrev pub parsed_claims : Auction → List Choice → Result Others Refusal
+parsed_claims auction first =
+    unless (first_failed (claim_counts auction)) (
+    and_then (parsed_ties auction first [] auction.ties) (λ points. known_others auction first points auction.uniques))
+
+-- after ties that are taken the certificate isn't judged, since the leaf at this line has a size of 2^126 or more
+pub record IsTooWideClaim (auction : Auction) (first : List Choice) (r : Refusal) : Type 0 where
+  pub text : List ℕ
+  pub point : List Bool
+  pub points : List (List Bool)
+  pub line : ℕ
+  pub counted : first_failed (claim_counts auction) ≡ None
+  pub one : auction.uniques ≡ text ∷ []
+  pub tied : parsed_ties auction first [] auction.ties ≡ Ok points
+  pub solved : solution (first_program auction) (slice_index_or auction.solutions 0 []) ≡ Ok point
+  pub wide : IsLargeOnlyAt (first_program auction) point points text line
+  pub is : r ≡ refusal.Unique (record { line = line; kind = certificate.TooLarge })

@@ -16,6 +16,7 @@ use Rattle.byte_sinks.specs.declared.write_fault.WriteFault.TheVariants as write
 use Rattle.answers.specs.Answer.{answer}
 use Rattle.answers.specs.Certified.{IsTooWide, bounds_of, certified}
 use Rattle.answers.specs.Claimed.{IsTooWideClaim, parsed_claims}
+use Rattle.outcome.specs.Others.{Others}
 use Rattle.answers.specs.Outside.{SinkState}
 use Rattle.answers.specs.Pricing.{IsTooWidePricing}
 use Rattle.answers.specs.SolutionWinners.{winners_of_groups}
@@ -30,15 +31,14 @@ pub data Ends (parsed : Result (List ℕ) Refusal) (before after : SinkState) : 
   by_put : {written : ℕ} → (out : List ℕ) → parsed ≡ Ok out → SentFront before.taken after.taken out written
       → HasFailed before.failures after.failures → Ends parsed before after (refusal.Write (write.Sink written))
 
--- after solutions that are accepted it is a certificate of the groups; after all of these that of the claim; and after a claim that is accepted
--- the cover of prices
+-- after solutions that are accepted it is a certificate of the groups; after all of these the text that is to show that there is no other award;
+-- and after an accepted one the cover of prices
 abbrev pub IsBeyondSums : Auction → Refusal → Type 0
 IsBeyondSums auction r =
     (won : List (List Choice)) × (winners_of_groups auction ≡ Ok won)
     × (((length auction.certificates ≡ length auction.groups) × IsTooWide (bounds_of auction won) r) ⊎
-    ((certified auction won ≡ Ok won) × (IsTooWideClaim auction r ⊎
-    ((claim : Uniqueness) × (parsed_claims auction (slice_index_or won 0 []) auction.uniques auction.ties ≡ Ok claim)
-    × IsTooWidePricing auction won r))))
+    ((certified auction won ≡ Ok won) × (IsTooWideClaim auction (slice_index_or won 0 []) r ⊎
+    ((others : Others) × (parsed_claims auction (slice_index_or won 0 []) ≡ Ok others) × IsTooWidePricing auction won r))))
 
 -- `verify` alone adds up in 128 bits
 abbrev pub MeetsLimit : Request → Input → Refusal → Type 0

@@ -1,9 +1,9 @@
 -- What `verify` writes if it ends well: allocations of greatest total, and so the groups' own opportunity costs; prices that cover every
--- group; and what it says of other outcomes.
-use Rattle.std.specs.Prelude.{◌≡◌, ◌≢◌, ◌⊎◌, ◌++◌, ◌∷◌, ⊤, All, ℕ, false, true, List, [], Option, Some, IfSome, Ok, codes, slice_index_or}
+-- group; and what it says of other awards.
+use Rattle.std.specs.Prelude.{◌≡◌, ◌≢◌, ◌⊎◌, ◌++◌, ◌∷◌, All, Any, IsPermutation, ℕ, false, true, List, [], Option, Some, IfSome, Ok, codes, flat_map, slice_index_or}
 use Rattle.auction_input.specs.Input.{Input}
 use Rattle.std.specs.Io.KnownBytes.{Appends}
-use Rattle.std.specs.List.{AllZip}
+use Rattle.std.specs.List.{AllByRecursion, AllZip}
 use Rattle.auction_input.specs.Auction.{Auction, parsed_auction}
 use Rattle.auction_input.specs.declared.request.Request.TheVariants.{Verify}
 use Rattle.auction_terms.specs.Allocations.{total}
@@ -18,10 +18,11 @@ use Rattle.prices.specs.Blocking.{ArePrices}
 use Rattle.prices.specs.Parts.{AreThePrices, Suffice}
 use Rattle.prices.specs.Prices.{CoversEveryGroup, MeetReserves, reserves_in}
 use Rattle.bid_desk.specs.Sale.{Sale}
-use Rattle.outcome.specs.Ties.{IsTheCost, IsTie}
-use Rattle.outcome.specs.Uniqueness.{uniqueness_text}
-use Rattle.outcome.specs.declared.uniqueness.Uniqueness.TheVariants as uniqueness
-use Rattle.outcome.specs.declared.uniqueness.Uniqueness.{Uniqueness}
+use Rattle.outcome.specs.Following.{AreAllGreatest}
+use Rattle.outcome.specs.Others.{AreTrueOthers, Others, others_text, tie_text}
+use Rattle.outcome.specs.PointAllocation.{HasRisingBidders}
+use Rattle.outcome.specs.Ties.{IsTheCost}
+use Rattle.outcome.specs.declared.others.Further.TheVariants.{NoOther}
 use Rattle.program_rows.specs.Faithful.{IsGreatest}
 use Rattle.answers.specs.Answer.{answer}
 
@@ -34,12 +35,6 @@ pub record IsOwnCost (sale : Sale) (first : List Choice) (group : List ℕ) (a :
   pub own : (of_all without : ℕ) → IsGreatestTotal sale.lots sale.book (λ b. false) of_all → IsGreatestTotal sale.lots sale.book (has group) without
       → cost sale.lots sale.book first group a ≡ opportunity_cost of_all without (amounts_of_group sale.book group first)
   pub law : IsCost sale.lots sale.book first group a
-
--- what is said of other outcomes holds of the allocation with nobody left out
-abbrev pub Holds : Sale → List Choice → Uniqueness → Type 0
-Holds sale first uniqueness.Unasked = ⊤
-Holds sale first uniqueness.Only = IsOnly sale.lots sale.book (λ b. false) first
-Holds sale first (uniqueness.Tie other) = IsTie sale.lots sale.book (λ b. false) first other
 
 -- prices in these parts of a pound are the prices of the rule: of all that cover every group and meet the reserves those of least sum, and of
 -- these the ones nearest to what each winner costs alone
@@ -58,17 +53,18 @@ pub record AreTruePrices (auction : Auction) (first : List Choice) (p : Priced) 
   pub by_rule : p.by_rule ≡ true → ArePricesOfRule auction first p.parts (price_in p.prices)
 
 -- a report on an allocation of greatest total for each group, and on the groups' opportunity costs; and after it true prices, if there are
--- prices, and what is said of other outcomes
+-- prices, and what is said of other awards, which is true
 pub record IsTrueReport (auction : Auction) (out : List ℕ) : Type 0 where
   pub won : List (List Choice)
   pub pricing : Option Priced
-  pub claim : Uniqueness
+  pub others : Others
   pub text : out ≡ report_text auction.sale auction.groups won ++
-      (pricing_text auction.sale (slice_index_or won 0 []) pricing ++ uniqueness_text auction.sale claim)
+      (pricing_text auction.sale (slice_index_or won 0 []) pricing ++ others_text auction.sale others)
   pub greatest : AllZip (IsGreatestWithout auction.sale) auction.groups won
+  pub rising : HasRisingBidders (slice_index_or won 0 [])
   pub costs : AllZip (IsOwnCost auction.sale (slice_index_or won 0 [])) auction.groups won
   pub prices : IfSome pricing (AreTruePrices auction (slice_index_or won 0 []))
-  pub holds : Holds auction.sale (slice_index_or won 0 []) claim
+  pub others_true : AreTrueOthers auction.sale.lots auction.sale.book (λ b. false) (slice_index_or won 0 []) others
 
 -- what `verify` answers of an input is a true report on the auction that the input describes
 abbrev pub VerifiedIsTrue : Type 0
@@ -87,13 +83,13 @@ pub record IsOnlyOutcome (auction : Auction) (out : List ℕ) : Type 0 where
   pub only : IsOnly auction.sale.lots auction.sale.book (λ b. false) (slice_index_or won 0 [])
   pub costs : AllZip (IsSettledCost auction.sale (slice_index_or won 0 [])) auction.groups won
 
--- a report on an allocation of greatest total, after it these prices, which are true, and what is said of other outcomes
+-- a report on an allocation of greatest total, after it these prices, which are true, and what is said of other awards
 pub record IsPricedOutcome (auction : Auction) (out : List ℕ) : Type 0 where
   pub won : List (List Choice)
   pub pricing : Priced
-  pub claim : Uniqueness
+  pub others : Others
   pub text : out ≡ report_text auction.sale auction.groups won ++
-      (pricing_text auction.sale (slice_index_or won 0 []) (Some pricing) ++ uniqueness_text auction.sale claim)
+      (pricing_text auction.sale (slice_index_or won 0 []) (Some pricing) ++ others_text auction.sale others)
   pub greatest : IsGreatestWithout auction.sale [] (slice_index_or won 0 [])
   pub prices : AreTruePrices auction (slice_index_or won 0 []) pricing
 
@@ -107,38 +103,68 @@ abbrev pub UniqueIsOnly : Type 0
 UniqueIsOnly = (workers : ℕ) (input : Input) (before : List ℕ) → answer (Verify workers) input ≡ Ok (before ++ codes "unique\n")
     → (auction : Auction) × (parsed_auction (Verify workers) input ≡ Ok auction) × IsOnlyOutcome auction (before ++ codes "unique\n")
 
+-- the awards that are printed are all that have so great a total: the winners of the report first, and each after a line `tie`
+pub record IsWholeOutcome (auction : Auction) (out : List ℕ) : Type 0 where
+  pub won : List (List Choice)
+  pub pricing : Option Priced
+  pub ties : List (List Choice)
+  pub text : out ≡ report_text auction.sale auction.groups won ++ (pricing_text auction.sale (slice_index_or won 0 []) pricing ++
+      (flat_map (tie_text auction.sale) ties ++ codes "no other\n"))
+  pub all : AreAllGreatest auction.sale.lots auction.sale.book (λ b. false) (slice_index_or won 0 [] ∷ ties)
+
+-- where what `verify` answers of an input ends with the line `no other`, that is so
+abbrev pub NoOtherIsSo : Type 0
+NoOtherIsSo = (workers : ℕ) (input : Input) (before : List ℕ) → answer (Verify workers) input ≡ Ok (before ++ codes "no other\n")
+    → (auction : Auction) × (parsed_auction (Verify workers) input ≡ Ok auction) × IsWholeOutcome auction (before ++ codes "no other\n")
+
 -- ---------- the award follows from the sealed bids ----------
 
--- what is printed last if the prices are those of the rule, and nobody else can win
-abbrev pub award_lines : List ℕ
-award_lines = codes "by the rule\nunique\n"
-
--- an award: its winners are the only ones, they pay the prices of the rule, and each group's allocation is of greatest total
+-- an award: a true report whose prices are those of the rule, and after which there is no other award than those that are printed
 pub record IsAward (auction : Auction) (out : List ℕ) : Type 0 where
-  pub won : List (List Choice)
+  pub report : IsTrueReport auction out
   pub pricing : Priced
-  pub text : out ≡ report_text auction.sale auction.groups won ++ (pricing_text auction.sale (slice_index_or won 0 []) (Some pricing) ++ codes "unique\n")
-  pub only : IsOnly auction.sale.lots auction.sale.book (λ b. false) (slice_index_or won 0 [])
-  pub greatest : AllZip (IsGreatestWithout auction.sale) auction.groups won
-  pub rule : ArePricesOfRule auction (slice_index_or won 0 []) pricing.parts (price_in pricing.prices)
+  pub priced : report.pricing ≡ Some pricing
+  pub by_rule : pricing.by_rule ≡ true
+  pub no_other : report.others.further ≡ NoOther
+
+-- the winners with nobody left out
+abbrev pub winners_of : (auction : Auction) (out : List ℕ) → IsAward auction out → List Choice
+winners_of auction out award = slice_index_or award.report.won 0 []
 
 -- the allocation is listed for the group
 abbrev pub IsListedFor : List ℕ → List Choice → List (List ℕ) → List (List Choice) → Type 0
 IsListedFor group a (h ∷ groups) (b ∷ won) = ((group ≡ h) × (a ≡ b)) ⊎ IsListedFor group a groups won
 IsListedFor group a _ _ = ⊥
 
+-- each of these awards is one of those, in whatever order its winners are
+abbrev pub AreAmong : List (List Choice) → List (List Choice) → Type 0
+AreAmong those these = AllByRecursion (λ a. Any (λ b. IsPermutation b a) those) these
+
 -- two awards have the same winners with the same bids, each winner pays the same whole pounds, and a group that both list has the same total and cost
 pub record AreSameAward (auction auction' : Auction) (out out' : List ℕ) (one : IsAward auction out) (other : IsAward auction' out') : Type 0 where
-  pub winners : slice_index_or one.won 0 [] ≡ slice_index_or other.won 0 []
+  pub winners : winners_of auction out one ≡ winners_of auction' out' other
   pub prices : All (λ c. in_pounds one.pricing.parts (price_in one.pricing.prices) c.bidder ≡ in_pounds other.pricing.parts
-      (price_in other.pricing.prices) c.bidder) (slice_index_or one.won 0 [])
-  pub groups : (group : List ℕ) (a a' : List Choice) → IsListedFor group a auction.groups one.won → IsListedFor group a' auction'.groups other.won
+      (price_in other.pricing.prices) c.bidder) (winners_of auction out one)
+  pub groups : (group : List ℕ) (a a' : List Choice) → IsListedFor group a auction.groups one.report.won
+      → IsListedFor group a' auction'.groups other.report.won
       → (total auction.sale.lots auction.sale.book a ≡ total auction'.sale.lots auction'.sale.book a')
-      × (cost auction.sale.lots auction.sale.book (slice_index_or one.won 0 []) group a
-      ≡ cost auction'.sale.lots auction'.sale.book (slice_index_or other.won 0 []) group a')
+      × (cost auction.sale.lots auction.sale.book (winners_of auction out one) group a
+      ≡ cost auction'.sale.lots auction'.sale.book (winners_of auction' out' other) group a')
 
--- of two inputs with the same rules and the same last forms, of which `verify` answers so, the awards are the same: whoever solved, certified and
--- priced, and whichever groups are listed
+-- of two inputs with the same rules and the same last forms both print the same awards, and if they have the same one first, it is the same with
+-- its prices and costs: whoever solved, certified and priced, and whichever groups are listed
+abbrev pub AwardsFollow : Type 0
+AwardsFollow = (workers workers' : ℕ) (input input' : Input) (auction auction' : Auction) (out out' : List ℕ)
+    → parsed_auction (Verify workers) input ≡ Ok auction → parsed_auction (Verify workers') input' ≡ Ok auction'
+    → (one : IsAward auction out) (other : IsAward auction' out') → auction.rules ≡ auction'.rules → auction.sale ≡ auction'.sale
+    → AreAmong (winners_of auction out one ∷ one.report.others.awards) (winners_of auction' out' other ∷ other.report.others.awards)
+    × (winners_of auction out one ≡ winners_of auction' out' other → AreSameAward auction auction' out out' one other)
+
+-- what is printed last if the prices are those of the rule, and nobody else can win
+abbrev pub award_lines : List ℕ
+award_lines = codes "by the rule\nunique\n"
+
+-- of two inputs with the same rules and the same last forms, of which `verify` answers so, the awards are the same
 abbrev pub AwardFollows : Type 0
 AwardFollows = (workers workers' : ℕ) (input input' : Input) (auction auction' : Auction) (before before' : List ℕ)
     → parsed_auction (Verify workers) input ≡ Ok auction → parsed_auction (Verify workers') input' ≡ Ok auction'

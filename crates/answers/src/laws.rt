@@ -5,7 +5,7 @@ ghost use Rattle.auction_input.specs.Input.{Input};
 ghost use Rattle.auction_input.specs.declared.request.Target.{Target};
 ghost use Rattle.answers.specs.FaithfulAnswers.{CompiledIsFaithful, TextIsFaithful};
 ghost use Rattle.answers.specs.FeasibleAnswers.{MappedIsFeasible, ReportedIsFeasible};
-ghost use Rattle.answers.specs.Verified.{AwardFollows, PricesCover, UniqueIsOnly, VerifiedIsTrue};
+ghost use Rattle.answers.specs.Verified.{AwardFollows, AwardsFollow, NoOtherIsSo, PricesCover, UniqueIsOnly, VerifiedIsTrue};
 
 /// What `text` answers of an input is a text that is faithful to the auction that the input describes: each 0-1 point of its
 /// program maps back to a feasible allocation of the same total, and each feasible allocation is matched by a point of at least
@@ -33,7 +33,7 @@ pub fn reported_allocations_are_feasible()
 
 /// What `verify` answers of an input is a report on allocations of greatest total, each without its group, of the auction that
 /// the input describes; and so each cost is the group's opportunity cost, and keeps the law on costs. What it says of other
-/// outcomes holds, too: the winners with nobody left out are the only ones, or the other allocation ties.
+/// awards holds, too: each that is printed is of greatest total, no two have the same winners, and there is no other, or there are more.
 pub fn a_verified_report_is_true()
     ensures { VerifiedIsTrue }
 {}
@@ -51,6 +51,19 @@ pub fn printed_prices_cover_every_group()
 /// alone.
 pub fn unique_winners_are_the_only_ones()
     ensures { UniqueIsOnly }
+{}
+
+/// Where what `verify` answers of an input ends with the line `no other`, the awards that are printed are all feasible allocations of
+/// greatest total of the auction that the input describes.
+pub fn no_other_winners_than_those_printed()
+    ensures { NoOtherIsSo }
+{}
+
+/// Of two inputs with the same rules and the same last forms, with prices of the rule and no other award than those that are printed, both
+/// print the same awards; and if both have the same one first, each of its winners pays the same, and each group that both list has the same
+/// total and cost: whoever solved, certified and priced, and whichever groups are listed.
+pub fn tied_awards_follow_from_the_bids()
+    ensures { AwardsFollow }
 {}
 
 /// If what `verify` answers of two inputs with the same rules and the same last forms ends with the lines `by the rule` and `unique`, both

@@ -147,7 +147,7 @@ fn refused(
 }
 
 // The name of a column; where there is none, no name.
-fn column_name(program: &Program, column: usize) -> &[u8]
+pub(crate) fn column_name(program: &Program, column: usize) -> &[u8]
     ensures { result.now ≡ option_map_or (λ c. c.name) (slice_get program.now.columns column) [] }
 {
     if column < program.column_count() {
@@ -158,7 +158,7 @@ fn column_name(program: &Program, column: usize) -> &[u8]
 }
 
 // The name of a row; where there is none, no name.
-fn row_name(program: &Program, row: usize) -> &[u8]
+pub(crate) fn row_name(program: &Program, row: usize) -> &[u8]
     ensures { result.now ≡ row_name program.now.rows row }
 {
     if row < program.row_count() {

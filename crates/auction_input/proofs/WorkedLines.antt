@@ -1,11 +1,12 @@
 -- Lines that the function computes.
-use Rattle.std.specs.Prelude.{◌≡◌, refl, codes}
+use Rattle.std.specs.Prelude.{◌≡◌, None, Some, refl, codes}
 use Rattle.std.specs.Fmt.{digits}
 use Rattle.bid_forms.specs.declared.form_text.FormFault.TheVariants as form
 use Rattle.program_rows.specs.declared.mps_fault_kind.MpsFaultKind.TheVariants as kind
 use Rattle.auction_input.specs.Line.{line}
 use Rattle.auction_input.specs.declared.part_kind.PartKind.TheVariants as part
 use Rattle.auction_input.specs.declared.refusal.Refusal.TheVariants as refusal
+use Rattle.auction_input.specs.declared.tie_fault.TieFault.TheVariants as tie
 use Rattle.auction_input.specs.declared.price_fault.PriceFault.TheVariants as price
 use Rattle.program_rows.specs.declared.certificate_fault.CertificateFaultKind.TheVariants as certificate
 
@@ -25,15 +26,22 @@ row_broken : line (refusal.RowBroken 1 (codes "B1")) ≡ codes "wdp: solution 1:
 unfolding digits
 row_broken = refl
 
-claims : line (refusal.PartCount part.Unique) ≡ codes "wdp: input: wrong number of unique and tie\n"
-claims = refl
+two_uniques : line (refusal.PartCount part.Unique) ≡ codes "wdp: input: wrong number of uniques\n"
+two_uniques = refl
+
+many_ties : line (refusal.PartCount part.Tie) ≡ codes "wdp: input: wrong number of ties\n"
+many_ties = refl
 
 unique_refused : line (refusal.Unique (record { line = 12; kind = certificate.NotShown })) ≡ codes "wdp: unique: 9 NotShown at line 12\n"
 unfolding digits
 unique_refused = refl
 
-tie_refused : line (refusal.TieRowBroken (codes "B1")) ≡ codes "wdp: tie: 8 RowBroken at row B1\n"
+tie_refused : line (refusal.Tie None (tie.RowBroken (codes "B1"))) ≡ codes "wdp: tie: 8 RowBroken at row B1\n"
 tie_refused = refl
+
+second_tie_refused : line (refusal.Tie (Some 2) (tie.SameAsTie 1)) ≡ codes "wdp: tie 2: same winners as tie 1\n"
+unfolding digits
+second_tie_refused = refl
 
 prices : line (refusal.PartCount part.Prices) ≡ codes "wdp: input: wrong number of prices\n"
 prices = refl

@@ -1,5 +1,5 @@
 -- The line on standard error for a refusal: the words of its part, the message of the fault, and the name of what is broken.
-use Rattle.std.specs.Prelude.{◌⊎◌, ◌++◌, ℕ, List, [], ◌∷◌, Option, codes, decimal}
+use Rattle.std.specs.Prelude.{◌⊎◌, ◌++◌, ℕ, List, [], ◌∷◌, Option, None, Some, codes, decimal}
 use Rattle.std.specs.Io.KnownBytes.{Appends}
 use Rattle.auction_input.specs.declared.input.InputFault.TheVariants as input
 use Rattle.auction_input.specs.declared.parts.PartFault.TheVariants as part
@@ -7,6 +7,8 @@ use Rattle.auction_input.specs.declared.part_kind.PartKind.TheVariants as kind_o
 use Rattle.auction_input.specs.declared.refusal.Refusal.TheVariants as refusal
 use Rattle.auction_input.specs.declared.refusal.Refusal.{Refusal}
 use Rattle.auction_input.specs.declared.round.RoundFault.TheVariants as round
+use Rattle.auction_input.specs.declared.tie_fault.TieFault.TheVariants as tie
+use Rattle.auction_input.specs.declared.tie_fault.TieFault.{TieFault}
 use Rattle.auction_terms.specs.GroupFaultText.{group_fault_text}
 use Rattle.auction_terms.specs.RulesFaultText.{rules_fault_text}
 use Rattle.bid_forms.specs.FormFaultText.{form_fault_text}
@@ -24,6 +26,20 @@ use Rattle.program_rows.specs.declared.certificate_fault.CertificateFaultKind.Th
 use Rattle.program_rows.specs.declared.solution_fault.SolutionFault.TheVariants as solution
 use Rattle.program_rows.specs.declared.mps_fault_kind.MpsFaultKind.TheVariants as kind
 
+-- the words on a tie, with its number if there are several
+abbrev pub tie_words : Option ℕ → List ℕ
+tie_words None = codes "tie: "
+tie_words (Some n) = codes "tie " ++ (decimal n ++ codes ": ")
+
+-- why it is refused
+abbrev pub tie_fault_text : TieFault → List ℕ
+tie_fault_text (tie.Solution f) = solution_fault_text f
+tie_fault_text (tie.BoundBroken name) = codes "7 BoundBroken at column " ++ name
+tie_fault_text (tie.RowBroken name) = codes "8 RowBroken at row " ++ name
+tie_fault_text tie.LowerTotal = codes "total below that of group 1"
+tie_fault_text tie.SameAsFirst = codes "same winners as group 1"
+tie_fault_text (tie.SameAsTie n) = codes "same winners as tie " ++ decimal n
+
 -- what is reported of a refusal: wherever memory was short, just that; of a fault the words of its part before it
 abbrev pub refusal_text : Refusal → List ℕ
 refusal_text (refusal.Input input.OutOfMemory) = codes "out of memory"
@@ -34,7 +50,7 @@ refusal_text (refusal.Rules rules.OutOfMemory) = codes "out of memory"
 refusal_text (refusal.Form n form.OutOfMemory) = codes "out of memory"
 refusal_text (refusal.Groups groups.OutOfMemory) = codes "out of memory"
 refusal_text (refusal.Solution n solution.OutOfMemory) = codes "out of memory"
-refusal_text (refusal.Tie solution.OutOfMemory) = codes "out of memory"
+refusal_text (refusal.Tie n (tie.Solution solution.OutOfMemory)) = codes "out of memory"
 refusal_text (refusal.Prices price.OutOfMemory) = codes "out of memory"
 refusal_text (refusal.Rule price.OutOfMemory) = codes "out of memory"
 refusal_text (refusal.Input input.ReadFailed) = codes "input: read failed"
@@ -51,7 +67,8 @@ refusal_text (refusal.PartCount kind_of_part.Certificate) = codes "input: wrong 
 refusal_text (refusal.PartCount kind_of_part.Prices) = codes "input: wrong number of prices"
 refusal_text (refusal.PartCount kind_of_part.Cover) = codes "input: wrong number of covers"
 refusal_text (refusal.PartCount kind_of_part.Rule) = codes "input: wrong number of price rules"
-refusal_text (refusal.PartCount claimed) = codes "input: wrong number of unique and tie"
+refusal_text (refusal.PartCount kind_of_part.Unique) = codes "input: wrong number of uniques"
+refusal_text (refusal.PartCount kind_of_part.Tie) = codes "input: wrong number of ties"
 refusal_text (refusal.Rules f) = codes "rules: " ++ rules_fault_text f
 refusal_text (refusal.Form n f) = (codes "form " ++ (decimal n ++ codes ": ")) ++ form_fault_text f
 refusal_text (refusal.AnotherForm f) = codes "another form of " ++ f.bidder
@@ -72,11 +89,7 @@ refusal_text (refusal.Certificate n f) =
     ]
 refusal_text (refusal.Unique f) =
     elim (f.kind) [ certificate.OutOfMemory ↦ codes "out of memory" | k ↦ codes "unique: " ++ certificate_fault_text f.line f.kind ]
-refusal_text (refusal.Tie f) = codes "tie: " ++ solution_fault_text f
-refusal_text (refusal.TieBoundBroken name) = codes "tie: 7 BoundBroken at column " ++ name
-refusal_text (refusal.TieRowBroken name) = codes "tie: 8 RowBroken at row " ++ name
-refusal_text refusal.LowerTie = codes "tie: total below that of group 1"
-refusal_text refusal.SameTie = codes "tie: same winners as group 1"
+refusal_text (refusal.Tie n f) = tie_words n ++ tie_fault_text f
 refusal_text (refusal.Prices f) = codes "prices: " ++ price_fault_text f
 refusal_text (refusal.MissingPrice name) = codes "prices: 6 MissingWinner " ++ name
 refusal_text (refusal.Cover f) = elim (f.kind) [ certificate.OutOfMemory ↦ codes "out of memory" | k ↦ codes "cover: " ++ certificate_fault_text f.line f.kind ]

@@ -1,5 +1,5 @@
 -- Which text of an input a refusal is of, and the number that its part has there.
-use Rattle.std.specs.Prelude.{◌+◌, ◌-◌, ℕ, List, [], ◌∷◌, Option, None, Some, if◌then◌else◌, length, map, nat_le, option_map}
+use Rattle.std.specs.Prelude.{◌+◌, ◌-◌, ℕ, List, [], ◌∷◌, Option, None, Some, if◌then◌else◌, length, map, nat_le, option_map, unwrap_or}
 use Rattle.auction_input.specs.Input.{Given}
 use Rattle.auction_input.specs.Parts.{Part, cut_lines, has_bytes_before, name_of, parts_in, parts_named}
 use Rattle.auction_input.specs.declared.part_kind.PartKind.{PartKind}
@@ -10,6 +10,7 @@ use Rattle.auction_input.specs.declared.places.Counted.TheVariants as counted
 use Rattle.auction_input.specs.declared.places.Spot.{Spot}
 use Rattle.auction_input.specs.declared.refusal.Refusal.{Refusal}
 use Rattle.auction_input.specs.declared.refusal.Refusal.TheVariants as refusal
+use Rattle.auction_input.specs.declared.tie_fault.TieFault.TheVariants as tie
 use Rattle.auction_terms.specs.declared.groups_text.GroupFault.TheVariants as groups
 use Rattle.auction_terms.specs.declared.rules_text.RulesFault.TheVariants as rules
 use Rattle.bid_forms.specs.declared.form_text.FormFault.TheVariants as form
@@ -40,7 +41,7 @@ counted_as (refusal.Rules rules.OutOfMemory) = None
 counted_as (refusal.Form n form.OutOfMemory) = None
 counted_as (refusal.Groups groups.OutOfMemory) = None
 counted_as (refusal.Solution n solution.OutOfMemory) = None
-counted_as (refusal.Tie solution.OutOfMemory) = None
+counted_as (refusal.Tie n (tie.Solution solution.OutOfMemory)) = None
 counted_as (refusal.Parts part.BeforeFirst) = Some (counted.BytesBefore, 1)
 counted_as (refusal.Parts (part.PartName n)) = Some (counted.Parts, n)
 counted_as (refusal.Parts (part.OfVersion1 n)) = Some (counted.Parts, n)
@@ -56,11 +57,7 @@ counted_as (refusal.BoundBroken n name) = Some (counted.Kind kind_of_part.Soluti
 counted_as (refusal.RowBroken n name) = Some (counted.Kind kind_of_part.Solution, n)
 counted_as (refusal.Certificate n f) = elim (f.kind) [ certificate.OutOfMemory ↦ None | k ↦ Some (counted.Kind kind_of_part.Certificate, n) ]
 counted_as (refusal.Unique f) = elim (f.kind) [ certificate.OutOfMemory ↦ None | k ↦ Some (counted.Kind kind_of_part.Unique, 1) ]
-counted_as (refusal.Tie f) = Some (counted.Kind kind_of_part.Tie, 1)
-counted_as (refusal.TieBoundBroken name) = Some (counted.Kind kind_of_part.Tie, 1)
-counted_as (refusal.TieRowBroken name) = Some (counted.Kind kind_of_part.Tie, 1)
-counted_as refusal.LowerTie = Some (counted.Kind kind_of_part.Tie, 1)
-counted_as refusal.SameTie = Some (counted.Kind kind_of_part.Tie, 1)
+counted_as (refusal.Tie n f) = Some (counted.Kind kind_of_part.Tie, unwrap_or n 1)
 counted_as r = None
 
 abbrev spot_by : List Given → Option (Counted × ℕ) → Option Spot
@@ -81,4 +78,5 @@ with_number n (refusal.Solution m f) = refusal.Solution n f
 with_number n (refusal.BoundBroken m name) = refusal.BoundBroken n name
 with_number n (refusal.RowBroken m name) = refusal.RowBroken n name
 with_number n (refusal.Certificate m f) = refusal.Certificate n f
+with_number n (refusal.Tie m f) = refusal.Tie (option_map (λ number. n) m) f
 with_number n r = r

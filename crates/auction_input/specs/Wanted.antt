@@ -1,5 +1,5 @@
 -- What a command wants of the groups, and of the numbers of parts beside them, once the groups are read.
-use Rattle.std.specs.Prelude.{◌-◌, ◌++◌, ◌==◌, ◌&&◌, ◌∷◌, Bool, ℕ, List, [], Option, None, Some, Result, Ok, length, map, nat_le}
+use Rattle.std.specs.Prelude.{◌++◌, ◌==◌, ◌∷◌, Bool, ℕ, List, [], Option, None, Some, Result, Ok, length, map, nat_le}
 use Rattle.auction_input.specs.Auction.{Auction, parsed_auction}
 use Rattle.auction_input.specs.Input.{Input}
 use Rattle.auction_input.specs.Parts.{Part, name_of, parts_named}
@@ -12,6 +12,7 @@ use Rattle.auction_input.specs.declared.wanted.Unmet.TheVariants as unmet
 use Rattle.auction_input.specs.declared.wanted.Unmet.{Unmet}
 use Rattle.auction_terms.specs.FirstFault.{first_failed}
 use Rattle.auction_terms.specs.Groups.{starts_empty}
+use Rattle.auction_terms.specs.declared.limits.TheConstants.{MOST_TIES}
 use Rattle.auction_terms.specs.Stages.{and_then, unless}
 use Rattle.auction_input.specs.Requests.{target_of}
 use Rattle.auction_input.specs.declared.request.Request.{Request}
@@ -61,9 +62,11 @@ solution_wants n =
 abbrev pub has_certificates : Numbers → Bool
 has_certificates n = n.certificates == n.groups
 
--- of claims: one at most, unique or tie
-abbrev pub claims_once : Numbers → Bool
-claims_once n = nat_le n.uniques 1 && nat_le n.ties (1 - n.uniques)
+-- of other awards: one text at most that shows that there is no other, and no more ties than may be
+abbrev pub claim_wants : Numbers → List (Bool × Unmet)
+claim_wants n =
+    (nat_le n.uniques 1, unmet.Number part.Unique n.uniques 1) ∷
+    (nat_le n.ties MOST_TIES, unmet.Number part.Tie n.ties MOST_TIES) ∷ []
 
 -- of prices: one text at most, a cover with it, and a rule only beside them
 abbrev pub pricing_wants : Numbers → List (Bool × Unmet)
@@ -76,7 +79,7 @@ pricing_wants n =
 abbrev pub proof_wants : Numbers → List (Bool × Unmet)
 proof_wants n =
     (has_certificates n, unmet.Number part.Certificate n.certificates n.groups) ∷
-    (claims_once n, unmet.Number part.Unique n.uniques n.ties) ∷ pricing_wants n
+    (claim_wants n ++ pricing_wants n)
 
 -- all that a command wants, in the order in which it looks
 abbrev pub wants : Option Target → Numbers → List (Bool × Unmet)

@@ -28,6 +28,7 @@ mod round;
 mod rule_reading;
 mod rule_weights;
 mod source;
+mod tie_fault;
 mod wanted;
 
 pub use auction::{Auction, read_auction};
@@ -56,4 +57,5 @@ pub use rule_weights::{
     weights_of_groups,
 };
 pub use source::{ReadFailed, Source};
+pub use tie_fault::TieFault;
 pub use wanted::{Numbers, Unmet, check_wanted, proof_wants, solution_wants};

@@ -3,7 +3,7 @@
 ghost use Rattle.std.specs.Prelude.{◌≡◌, ◌++◌, codes, decimal};
 ghost use Rattle.auction_input.specs.Message.{message_text};
 ghost use Rattle.auction_terms.specs.Wording.{wording_text};
-ghost use Rattle.auction_input.specs.Line.{refusal_text};
+ghost use Rattle.auction_input.specs.Line.{refusal_text, tie_fault_text};
 ghost use Rattle.auction_input.specs.Places.{with_number};
 
 use crate::form_texts::AnotherForm;
@@ -13,6 +13,7 @@ use crate::parts::PartFault;
 use crate::price_fault::PriceFault;
 use crate::refusal::Refusal;
 use crate::round::RoundFault;
+use crate::tie_fault::TieFault;
 use auction_terms::{GroupFault, RulesFault, Wording};
 use bid_forms::FormFault;
 use byte_sinks::WriteFault;
@@ -101,11 +102,50 @@ fn in_count(kind: PartKind) -> Message<'static>
         PartKind::Groups => "input: wrong number of groups",
         PartKind::Solution => "input: wrong number of solutions",
         PartKind::Certificate => "input: wrong number of certificates",
-        PartKind::Unique | PartKind::Tie => "input: wrong number of unique and tie",
+        PartKind::Unique => "input: wrong number of uniques",
+        PartKind::Tie => "input: wrong number of ties",
         PartKind::Prices => "input: wrong number of prices",
         PartKind::Cover => "input: wrong number of covers",
         PartKind::Rule => "input: wrong number of price rules",
     }))
+}
+
+// What is reported of a tie, after words on which one it is.
+fn in_tie(part: Wording, fault: &TieFault) -> Message<'_>
+    ensures { message_text result ≡ wording_text part ++ tie_fault_text fault.now }
+{
+    match fault {
+        TieFault::Solution(fault) => Message {
+            part,
+            fault: fault.wording(),
+            name: b"",
+        },
+        TieFault::BoundBroken { column } => Message {
+            part,
+            fault: Wording::Words("7 BoundBroken at column "),
+            name: column.as_slice(),
+        },
+        TieFault::RowBroken { row } => Message {
+            part,
+            fault: Wording::Words("8 RowBroken at row "),
+            name: row.as_slice(),
+        },
+        TieFault::LowerTotal => Message {
+            part,
+            fault: Wording::Words("total below that of group 1"),
+            name: b"",
+        },
+        TieFault::SameAsFirst => Message {
+            part,
+            fault: Wording::Words("same winners as group 1"),
+            name: b"",
+        },
+        TieFault::SameAsTie { tie } => Message {
+            part,
+            fault: Wording::Number("same winners as tie ", *tie as u64),
+            name: b"",
+        },
+    }
 }
 
 impl Refusal {
@@ -127,6 +167,7 @@ impl Refusal {
             | Refusal::BoundBroken { solution, .. }
             | Refusal::RowBroken { solution, .. } => *solution,
             Refusal::Certificate { certificate, .. } => *certificate,
+            Refusal::Tie { tie: Some(tie), .. } => *tie,
             _ => 0,
         }
     }
@@ -166,7 +207,10 @@ impl Refusal {
                     ..
                 },
             )
-            | Refusal::Tie(SolutionFault::OutOfMemory)
+            | Refusal::Tie {
+                fault: TieFault::Solution(SolutionFault::OutOfMemory),
+                ..
+            }
             | Refusal::Prices(PriceFault::OutOfMemory)
             | Refusal::Cover(
                 CertificateFault {
@@ -232,25 +276,11 @@ impl Refusal {
                 fault.wording(),
             ),
             Refusal::Unique(fault) => Message::in_part("unique: ", fault.wording()),
-            Refusal::Tie(fault) => Message::in_part("tie: ", fault.wording()),
-            Refusal::TieBoundBroken { column } => Message {
-                part: Wording::Words("tie: "),
-                fault: Wording::Words("7 BoundBroken at column "),
-                name: column.as_slice(),
-            },
-            Refusal::TieRowBroken { row } => Message {
-                part: Wording::Words("tie: "),
-                fault: Wording::Words("8 RowBroken at row "),
-                name: row.as_slice(),
-            },
-            Refusal::LowerTie => Message::in_part(
-                "tie: ",
-                Wording::Words("total below that of group 1"),
-            ),
-            Refusal::SameTie => Message::in_part(
-                "tie: ",
-                Wording::Words("same winners as group 1"),
-            ),
+            Refusal::Tie { tie: None, fault } => in_tie(Wording::Words("tie: "), fault),
+            Refusal::Tie {
+                tie: Some(_),
+                fault,
+            } => { in_tie(Wording::Between("tie ", number as u64, ": "), fault) }
             Refusal::Prices(fault) => Message::in_part("prices: ", fault.wording()),
             Refusal::MissingPrice { bidder } => Message {
                 part: Wording::Words("prices: "),

@@ -11,18 +11,19 @@ use crate::parts::PartFault;
 use crate::places::Counted;
 use crate::price_fault::PriceFault;
 use crate::round::RoundFault;
+use crate::tie_fault::TieFault;
 use auction_terms::{GroupFault, RulesFault};
 use bid_forms::FormFault;
 use byte_sinks::WriteFault;
 use program_rows::{CertificateFault, MpsFault, SolutionFault};
 use std::alloc::AllocError;
 
-/// Why a run ends without its output, or with a front of it. Forms, groups, solutions and certificates count from 1.
+/// Why a run ends without its output, or with a front of it. Forms, groups, solutions, certificates and ties count from 1.
 #[derive(Drop)]
 pub enum Refusal {
     Input(InputFault),
     Parts(PartFault),
-    /// Parts of a kind are missing, or there are too many. What is claimed, unique and tie, is counted together.
+    /// Parts of a kind are missing, or there are too many.
     PartCount(PartKind),
     Rules(RulesFault),
     Form {
@@ -62,22 +63,13 @@ pub enum Refusal {
         certificate: usize,
         fault: CertificateFault,
     },
-    /// What is to show that the winners are the only ones.
+    /// What is to show that no award but those of group 1 and of the ties is as good.
     Unique(CertificateFault),
-    /// The solution of a tie.
-    Tie(SolutionFault),
-    /// A solution of a tie that breaks the bounds of the column of that name.
-    TieBoundBroken {
-        column: Name,
+    /// A tie, with its number if there are several.
+    Tie {
+        tie: Option<usize>,
+        fault: TieFault,
     },
-    /// A solution of a tie that doesn't meet the row of that name.
-    TieRowBroken {
-        row: Name,
-    },
-    /// The total of a tie is below that of group 1.
-    LowerTie,
-    /// The winners of a tie are those of group 1.
-    SameTie,
     /// A line of the prices.
     Prices(PriceFault),
     /// The prices leave out the winner of that name.
@@ -126,7 +118,10 @@ impl Refusal {
                     ..
                 },
             )
-            | Refusal::Tie(SolutionFault::OutOfMemory) => return None,
+            | Refusal::Tie {
+                fault: TieFault::Solution(SolutionFault::OutOfMemory),
+                ..
+            } => return None,
             Refusal::Parts(PartFault::BeforeFirst) => return Some((Counted::BytesBefore, 1)),
             Refusal::Parts(PartFault::PartName { part } | PartFault::OfVersion1 { part }) => {
                 return Some((Counted::Parts, *part));
@@ -142,11 +137,7 @@ impl Refusal {
             | Refusal::RowBroken { solution, .. } => (PartKind::Solution, *solution),
             Refusal::Certificate { certificate, .. } => (PartKind::Certificate, *certificate),
             Refusal::Unique(_) => (PartKind::Unique, 1),
-            Refusal::Tie(_)
-            | Refusal::TieBoundBroken { .. }
-            | Refusal::TieRowBroken { .. }
-            | Refusal::LowerTie
-            | Refusal::SameTie => (PartKind::Tie, 1),
+            Refusal::Tie { tie, .. } => (PartKind::Tie, tie.unwrap_or(1)),
             _ => return None,
         };
         Some((Counted::Kind(kind), number))

@@ -11,7 +11,7 @@ use crate::part_kind::PartKind;
 use crate::parts::{Part, count_of};
 use crate::refusal::Refusal;
 use crate::request::Target;
-use auction_terms::Groups;
+use auction_terms::{Groups, MOST_TIES};
 
 /// Whether group 1 is empty, how many groups there are, and how many parts of each kind beside rules, forms and groups.
 #[derive(Clone, Copy)]
@@ -31,8 +31,8 @@ pub struct Numbers {
 #[derive(Clone, Copy)]
 pub enum Unmet {
     FirstGroupNotEmpty,
-    /// There are `count` parts of a kind, and another number is wanted: by how many groups there are, of covers and rules by how
-    /// many prices, of unique by how many ties.
+    /// There are `count` parts of a kind, and another number is wanted: of solutions and certificates by how many groups there are, of
+    /// covers and rules by how many prices; of the others by how many there may be.
     Number {
         kind: PartKind,
         count: usize,
@@ -111,7 +111,7 @@ fn number_wanted(met: bool, kind: PartKind, count: usize, by: usize) -> (bool, U
 }
 
 /// What is wanted of what shows a report to be true.
-pub fn proof_wants(numbers: &Numbers) -> [(bool, Unmet); 5]
+pub fn proof_wants(numbers: &Numbers) -> [(bool, Unmet); 6]
     ensures { result ≡ proof_wants numbers.now }
 {
     let Numbers {
@@ -124,6 +124,7 @@ pub fn proof_wants(numbers: &Numbers) -> [(bool, Unmet); 5]
         rule_texts,
         ..
     } = *numbers;
+    let most_ties = usize::from(MOST_TIES);
     [
         number_wanted(
             certificates == groups,
@@ -131,12 +132,8 @@ pub fn proof_wants(numbers: &Numbers) -> [(bool, Unmet); 5]
             certificates,
             groups,
         ),
-        number_wanted(
-            uniques <= 1 && ties <= 1 - uniques,
-            PartKind::Unique,
-            uniques,
-            ties,
-        ),
+        number_wanted(uniques <= 1, PartKind::Unique, uniques, 1),
+        number_wanted(ties <= most_ties, PartKind::Tie, ties, most_ties),
         number_wanted(prices <= 1, PartKind::Prices, prices, 1),
         number_wanted(covers == prices, PartKind::Cover, covers, prices),
         number_wanted(rule_texts <= prices, PartKind::Rule, rule_texts, prices),

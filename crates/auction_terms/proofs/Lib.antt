@@ -22,9 +22,8 @@ mod AcceptedGroupsFacts
 pub mod WeighedFacts
 pub mod PackageFacts
 pub mod AllocationFacts
-pub mod OnlyFacts
+pub mod PermutedFacts
 pub mod OfferFacts
 pub mod LimitFacts
 pub mod LotsFacts
 pub mod Worked
-pub mod WorkedOnly

@@ -12,7 +12,6 @@ ghost use Rattle.auction_terms.specs.Allocations.{LoadsAddUp, TotalsAreNets};
 ghost use Rattle.auction_terms.specs.Domination.{SmallerSizesSuffice};
 ghost use Rattle.auction_terms.specs.Keeping.{KeepsTheBest, KeptAreEnough};
 ghost use Rattle.auction_terms.specs.Limits.{KeptAreOffers};
-ghost use Rattle.auction_terms.specs.Only.{OnlyAmongAll, RivalsDoAsWell};
 ghost use Rattle.auction_terms.specs.AllRulesFaults.{all_rules_faults, fault_of_entry};
 ghost use Rattle.auction_terms.specs.Records.{Record};
 ghost use Rattle.auction_terms.specs.RulesText.{entry_fault, rules_of_records, version_of};
@@ -20,7 +19,7 @@ ghost use Rattle.auction_terms.specs.declared.record_kinds.Version.{Version};
 ghost use Rattle.auction_terms.specs.declared.rules.Bidder.{Bidder};
 ghost use Rattle.auction_terms.specs.declared.limits.TheConstants.{GREATEST_AMOUNT, GREATEST_POINTS, GREATEST_QUANTITY};
 ghost use Rattle.auction_terms.specs.declared.limits.TheConstants.{GREATEST_VALUE, GREATEST_WEIGHT, MOST_BIDDERS, MOST_BIDS};
-ghost use Rattle.auction_terms.specs.declared.limits.TheConstants.{MOST_CATEGORIES, MOST_FAULTS, MOST_GROUPS, MOST_PARTS, MOST_POOLS};
+ghost use Rattle.auction_terms.specs.declared.limits.TheConstants.{MOST_CATEGORIES, MOST_FAULTS, MOST_GROUPS, MOST_PARTS, MOST_POOLS, MOST_TIES};
 ghost use Rattle.auction_terms.specs.declared.limits.TheConstants.{MOST_SESSIONS, MOST_WORKERS, TEXT_LIMIT};
 
 /// The records after the header of rules have the fault of the first of them with a fault.
@@ -114,16 +113,6 @@ pub fn kept_bids_are_offers()
     ensures { KeptAreOffers }
 {}
 
-/// An allocation that is the only one of kept bids with so great a total is the only one of all bids, where no bid does as well in a winner's place.
-pub fn the_only_one_of_kept_bids_is_the_only_one()
-    ensures { OnlyAmongAll }
-{}
-
-/// A bid that does as well in a winner's place makes another feasible allocation of the same total.
-pub fn a_rival_does_as_well()
-    ensures { RivalsDoAsWell }
-{}
-
 /// The limits of an auction are these numbers.
 pub fn the_limits_are_these()
     ensures categories { MOST_CATEGORIES ≡ 32 }
@@ -140,5 +129,6 @@ pub fn the_limits_are_these()
     ensures weight { GREATEST_WEIGHT ≡ 10000 }
     ensures faults { MOST_FAULTS ≡ 10000 }
     ensures parts { MOST_PARTS ≡ 1000000 }
+    ensures ties { MOST_TIES ≡ 64 }
     ensures text { TEXT_LIMIT ≡ 4194304 }
 {}

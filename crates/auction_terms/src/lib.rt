@@ -65,7 +65,7 @@ pub use groups_text::{GroupFault, read_groups};
 pub use limits::{
     GREATEST_AMOUNT, GREATEST_POINTS, GREATEST_QUANTITY, GREATEST_VALUE, GREATEST_WEIGHT,
     MOST_BIDDERS, MOST_BIDS, MOST_CATEGORIES, MOST_FAULTS, MOST_GROUPS, MOST_PARTS, MOST_POOLS,
-    MOST_SESSIONS, MOST_WORKERS, TEXT_LIMIT,
+    MOST_SESSIONS, MOST_TIES, MOST_WORKERS, TEXT_LIMIT,
 };
 pub use line_fields::{Field, next_field};
 pub use lines::LineReader;

@@ -43,5 +43,8 @@ pub const MOST_FAULTS: usize = 10_000;
 /// How many parts of a pound prices may be whole in.
 pub const MOST_PARTS: u64 = 1_000_000;
 
+/// The most ties that an input may have, and the most other awards that are printed.
+pub const MOST_TIES: u16 = 64;
+
 /// The most bytes of a text of rules, a form or groups.
 pub const TEXT_LIMIT: usize = 4 * 1024 * 1024;

@@ -81,7 +81,8 @@ abbrev pub unmet_message : Unmet → List ℕ
 unmet_message unmet.FirstGroupNotEmpty = []
 unmet_message (unmet.Number part.Solution count by) = pair_message (codes " solutions, and ") count by ++ (codes " groups want " ++ decimal by)
 unmet_message (unmet.Number part.Certificate count by) = pair_message (codes " certificates, and ") count by ++ (codes " groups want " ++ decimal by)
-unmet_message (unmet.Number part.Unique count by) = pair_message (codes " unique and ") count by ++ codes " tie in place of 1 at most"
+unmet_message (unmet.Number part.Unique count by) = one_message (codes " uniques in place of 1 at most") count
+unmet_message (unmet.Number part.Tie count by) = pair_message (codes " ties in place of ") count by ++ codes " at most"
 unmet_message (unmet.Number part.Prices count by) = one_message (codes " prices in place of 1 at most") count
 unmet_message (unmet.Number part.Cover count by) = pair_message (codes " covers, and ") count by ++ (codes " prices want " ++ decimal by)
 unmet_message (unmet.Number part.Rule count by) =

@@ -107,9 +107,10 @@ fn number_detail(kind: PartKind, count: usize, by: usize) -> Detail<'static>
     match kind {
         PartKind::Solution => Detail::Both(pair(" solutions, and ", count, by), of_groups),
         PartKind::Certificate => Detail::Both(pair(" certificates, and ", count, by), of_groups),
-        PartKind::Unique => Detail::Both(
-            pair(" unique and ", count, by),
-            Wording::Words(" tie in place of 1 at most"),
+        PartKind::Unique => one(" uniques in place of 1 at most", count),
+        PartKind::Tie => Detail::Both(
+            pair(" ties in place of ", count, by),
+            Wording::Words(" at most"),
         ),
         PartKind::Prices => one(" prices in place of 1 at most", count),
         PartKind::Cover => Detail::Both(

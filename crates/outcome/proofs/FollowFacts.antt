@@ -29,7 +29,7 @@ use Rattle.auction_terms.proofs.WeighedFacts.{le_from, lt_from}
 use Rattle.auction_terms.proofs.AllocationFacts.{IsGood, StandIn, good, stand_in_without, stand_in_with}
 use Rattle.auction_terms.proofs.AllocationFacts.{stand_in_feasible, stand_in_total, total_is, worths}
 use Rattle.auction_terms.proofs.OfferFacts.{all_agree, all_append, all_filter}
-use Rattle.auction_terms.proofs.OnlyFacts.{feasible_permuted, loads_permuted, total_permuted}
+use Rattle.auction_terms.proofs.PermutedFacts.{feasible_permuted, loads_permuted, total_permuted}
 use Rattle.program_rows.specs.Faithful.{IsGreatest}
 use Rattle.outcome.specs.Following.{covers, cover, is_stand_in, stand_ins, variants, awards, following, with_following}
 use Rattle.outcome.proofs.TieFacts.{others_differ}

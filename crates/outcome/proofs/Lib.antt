@@ -9,12 +9,13 @@ pub mod BoundFacts
 pub mod CostFacts
 pub mod TieFacts
 pub mod QuantityFacts
-pub mod RivalFacts
 pub mod NumberFacts
 pub mod FollowFacts
 pub mod PutFacts
 pub mod LeftFacts
+pub mod OtherFacts
 pub mod ReportFacts
 pub mod WorkedPrograms
 mod WorkedPrices
 mod WorkedSolutions
+mod WorkedFollowing

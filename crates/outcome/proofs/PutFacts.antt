@@ -25,8 +25,7 @@ use Rattle.auction_terms.proofs.AllocationFacts.{loads_at, loads_length}
 use Rattle.auction_terms.proofs.PackageFacts.{fits_smaller, within_at}
 use Rattle.outcome.specs.Following.{awards, stand_ins, is_stand_in, variants}
 use Rattle.outcome.specs.PointAllocation.{HasRisingBidders}
-use Rattle.outcome.specs.inside.Following.{each_put, numbers_passing, options, partly, replaces}
-use Rattle.outcome.specs.inside.Rivals.{both_packages}
+use Rattle.outcome.specs.inside.Following.{both_packages, each_put, numbers_passing, options, partly, replaces}
 use Rattle.auction_terms.proofs.OfferFacts.{all_agree, all_filter}
 use Rattle.outcome.proofs.FollowFacts.{IsKept, IsStandIn, Placed, all_flat_map, all_map, all_placed, now_of, own_of, stand_in_is}
 use Rattle.outcome.proofs.FollowFacts.{stand_ins_are, variant_feasible}

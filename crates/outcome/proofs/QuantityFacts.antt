@@ -7,7 +7,7 @@ use Rattle.std.proofs.lemmas.List.Elements.{recursion_from_All, All-from_recursi
 use Rattle.auction_terms.specs.declared.limits.TheConstants.{GREATEST_QUANTITY}
 use Rattle.auction_terms.specs.Packages.{IsPackage, Lots, fits, is_within, left}
 use Rattle.auction_terms.specs.inside.Packages.{is_within_cap}
-use Rattle.outcome.specs.inside.Rivals.{both_packages}
+use Rattle.outcome.specs.inside.Following.{both_packages}
 
 -- ---- less another one
 

@@ -11,13 +11,13 @@ use Rattle.auction_terms.specs.declared.choices.Choice.{Choice}
 use Rattle.auction_terms.specs.Groups.{has}
 use Rattle.auction_terms.specs.Packages.{Lots}
 use Rattle.auction_terms.specs.Allocations.{Book, amount_of, total, IsFeasible}
-use Rattle.auction_terms.specs.Only.{IsOnly, RivalsDoAsWell, with_bid}
+use Rattle.auction_terms.specs.Only.{IsOnly}
 use Rattle.auction_terms.proofs.OfferFacts.{sum_filter, all_agree}
-use Rattle.auction_terms.proofs.OnlyFacts.{total_permuted}
+use Rattle.auction_terms.proofs.PermutedFacts.{total_permuted}
 use Rattle.program_rows.specs.Faithful.{IsGreatest}
 use Rattle.outcome.specs.PointAllocation.{HasRisingBidders, is_choice}
 use Rattle.outcome.specs.Report.{amounts_of_group, cost}
-use Rattle.outcome.specs.Ties.{IsTie, TheOnlyIsGreatest, OnlyFirstSettlesCosts, OnlyFirstTellsCosts, RivalsTie, OthersDiffer, OthersTie, same_choices}
+use Rattle.outcome.specs.Ties.{IsTie, TheOnlyIsGreatest, OnlyFirstSettlesCosts, OnlyFirstTellsCosts, OthersDiffer, OthersTie, same_choices}
 use Rattle.outcome.proofs.CostFacts.{costs_are_own}
 
 -- ---- the order of choices doesn't matter
@@ -79,11 +79,6 @@ tie lots book group a other best feasible no_less differ = record {
   other_greatest = record { feasible = feasible; greatest = λ third f. let h = best.greatest third f in omega arith };
   differ = differ;
 }
-
-pub rivals_tie : RivalsDoAsWell → RivalsTie
-rivals_tie do_as_well lots book group a c best first =
-    let rival = do_as_well lots book group a c best.feasible first in
-    tie lots book group a (with_bid c a) best rival.feasible (let e = rival.same_total in omega arith) rival.differs
 
 -- ---- lists of rising bidders
 

@@ -4,8 +4,8 @@ pub mod PointAllocation
 pub mod Coming
 pub mod Report
 pub mod Pricing
-pub mod Uniqueness
 pub mod Costs
 pub mod Ties
 pub mod Following
+pub mod Others
 pub mod inside

@@ -1,11 +1,11 @@
 -- Ties of allocations of greatest total, and what holds if one of them is the only one.
-use Rattle.std.specs.Prelude.{◌≡◌, ℕ, ◌≤◌, Bool, false, ◌&&◌, ◌==◌, List, Some, IsPermutation, ℤ}
+use Rattle.std.specs.Prelude.{◌≡◌, ℕ, ◌≤◌, Bool, false, ◌&&◌, ◌==◌, List, IsPermutation, ℤ}
 use Rattle.std.specs.Cmp.Lexicographic.{pointwise}
 use Rattle.auction_terms.specs.Groups.{has}
 use Rattle.auction_terms.specs.declared.choices.Choice.{Choice}
 use Rattle.auction_terms.specs.Packages.{Lots}
 use Rattle.auction_terms.specs.Allocations.{Book, total, IsFeasible}
-use Rattle.auction_terms.specs.Only.{IsOnly, first_rival, with_bid}
+use Rattle.auction_terms.specs.Only.{IsOnly}
 use Rattle.program_rows.specs.Faithful.{IsGreatest}
 use Rattle.outcome.specs.PointAllocation.{HasRisingBidders}
 use Rattle.outcome.specs.Report.{amounts_of_group, cost}
@@ -42,11 +42,6 @@ OnlyFirstTellsCosts = (lots : Lots) (book : Book) (group : List ℕ) (first : Li
     → IsTheCost lots book group (opportunity_cost of_all without (amounts_of_group book group first))
 
 -- ---- ties
-
--- a bid that does as well in a winner's place ties
-abbrev pub RivalsTie : Type 0
-RivalsTie = (lots : Lots) (book : Book) (group : ℕ → Bool) (a : List Choice) (c : Choice)
-    → IsGreatest lots book group a → first_rival lots book a ≡ Some c → IsTie lots book group a (with_bid c a)
 
 -- the same bidders with the same bids, in order
 abbrev pub same_choices : List Choice → List Choice → Bool

@@ -13,8 +13,7 @@ ghost use Rattle.auction_terms.specs.declared.limits.TheConstants.{GREATEST_QUAN
 ghost use Rattle.bid_desk.specs.Closing.{book_of};
 ghost use Rattle.outcome.specs.Following.{awards, cover, covers, following, is_stand_in, with_following};
 ghost use Rattle.outcome.specs.declared.following.Winner.{Winner};
-ghost use Rattle.outcome.specs.inside.Following.{each_put, numbers_passing, options, replaces};
-ghost use Rattle.outcome.specs.inside.Rivals.{both_packages};
+ghost use Rattle.outcome.specs.inside.Following.{both_packages, each_put, numbers_passing, options, replaces};
 
 use crate::allocation::Allocation;
 use crate::costs::lots_taken;
@@ -391,7 +390,7 @@ fn all_following(
 }
 
 /// These awards, and after them those that follow from each in turn, as many as `most`.
-pub fn with_following(
+pub(crate) fn with_following(
     alloc: Global,
     book: &ClosedBook,
     listed: Vec<Allocation>,

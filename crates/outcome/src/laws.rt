@@ -8,7 +8,8 @@ ghost use Rattle.outcome.specs.Solution.{solution_line_fault};
 ghost use Rattle.outcome.specs.PointAllocation.{TakesWhatIsNamed};
 ghost use Rattle.outcome.specs.Following.{FollowingAreGreatest, FollowingAreTheRest};
 ghost use Rattle.outcome.specs.declared.limits.TheConstants.{SOLUTION_LIMIT, TOLERANCE_PARTS};
-ghost use Rattle.outcome.specs.Ties.{OnlyFirstSettlesCosts, OnlyFirstTellsCosts, OthersDiffer, OthersTie, RivalsTie, TheOnlyIsGreatest};
+ghost use Rattle.outcome.specs.Others.{OthersAreTrue};
+ghost use Rattle.outcome.specs.Ties.{OnlyFirstSettlesCosts, OnlyFirstTellsCosts, OthersDiffer, OthersTie, TheOnlyIsGreatest};
 
 /// The lines of a solution have the fault of the first of them with a fault.
 pub fn lines_of_solutions_tell_their_first_fault()
@@ -89,11 +90,6 @@ pub fn others_tie()
     ensures { OthersTie }
 {}
 
-/// A bid that does as well in a winner's place ties.
-pub fn a_rival_ties()
-    ensures { RivalsTie }
-{}
-
 /// What follows from an award of kept bids and of greatest total is of greatest total, too.
 pub fn what_follows_is_as_good()
     ensures { FollowingAreGreatest }
@@ -102,6 +98,12 @@ pub fn what_follows_is_as_good()
 /// Where all allocations of kept bids and of greatest total are known, what follows from them completes all of greatest total, each once.
 pub fn what_follows_is_the_rest()
     ensures { FollowingAreTheRest }
+{}
+
+/// Where all allocations of kept bids and of greatest total are known, what is printed of others is true: they are of greatest total, no two
+/// have the same choices, and there is no other, or there are more.
+pub fn what_is_printed_of_others_is_true()
+    ensures { OthersAreTrue }
 {}
 
 /// The limits of solutions are these numbers.

@@ -11,12 +11,12 @@ ghost use Rattle.byte_sinks.specs.Adds.{Adds};
 ghost use Rattle.bid_desk.specs.Sale.{sale_of};
 ghost use Rattle.outcome.specs.Pricing.{pricing_text};
 ghost use Rattle.outcome.specs.Report.{allocation_text, report_text};
-ghost use Rattle.outcome.specs.Uniqueness.{uniqueness_text};
+ghost use Rattle.outcome.specs.Others.{others_text};
 
 use crate::allocation::Allocation;
+use crate::others::{OtherAwards, add_others};
 use crate::pricing::{Pricing, add_pricing};
 use crate::report_lines::{add_allocation, add_groups};
-use crate::uniqueness::{Uniqueness, add_uniqueness};
 use auction_terms::Groups;
 use bid_desk::ClosedBook;
 use byte_sinks::{Sink, WriteFault, Writer};
@@ -56,40 +56,40 @@ fn add_report<S: Sink>(
     add_groups(writer, book, allocations[0].choices(), groups, allocations);
 }
 
-/// Adds what the winners pay, and what is known of other outcomes.
+/// Adds what the winners pay, and what is known of other awards.
 fn add_after_report<S: Sink>(
     writer: &mut Writer<'_, S>,
     book: &ClosedBook,
     first: &Allocation,
     pricing: &Option<Pricing>,
-    uniqueness: &Uniqueness,
+    others: &OtherAwards,
 )
     ensures { Adds S.taken S.failures writer.old writer.new
         (pricing_text (sale_of book.now) first.now pricing.now
-        ++ uniqueness_text (sale_of book.now) uniqueness.now) }
+        ++ others_text (sale_of book.now) others.now) }
 {
     add_pricing(writer, book, first, pricing);
-    add_uniqueness(writer, book, uniqueness);
+    add_others(writer, book, others);
 }
 
-/// Adds a report, what the winners pay, and what is known of other outcomes.
+/// Adds a report, what the winners pay, and what is known of other awards.
 fn add_report_with<S: Sink>(
     writer: &mut Writer<'_, S>,
     book: &ClosedBook,
     groups: &Groups,
     allocations: &[Allocation],
     pricing: &Option<Pricing>,
-    uniqueness: &Uniqueness,
+    others: &OtherAwards,
 )
     requires count { length groups.now ≡ length allocations.now }
     requires some { 0 < length allocations.now }
     ensures { Adds S.taken S.failures writer.old writer.new
         (report_text (sale_of book.now) groups.now allocations.now
         ++ (pricing_text (sale_of book.now) (slice_index_or allocations.now 0 []) pricing.now
-        ++ uniqueness_text (sale_of book.now) uniqueness.now)) }
+        ++ others_text (sale_of book.now) others.now)) }
 {
     add_report(writer, book, groups, allocations);
-    add_after_report(writer, book, &allocations[0], pricing, uniqueness);
+    add_after_report(writer, book, &allocations[0], pricing, others);
 }
 
 /// Writes an allocation for each group, the first of them for the empty group: each with its total and the group's opportunity cost. It takes no memory.
@@ -113,13 +113,13 @@ pub fn report<S: Sink>(
     writer.flush()
 }
 
-/// Writes the same report, and after it what the winners pay and what is known of other outcomes that are as good. It takes no memory.
+/// Writes the same report, and after it what the winners pay and what is known of other awards of the same total. It takes no memory.
 pub fn report_with<S: Sink>(
     book: &ClosedBook,
     groups: &Groups,
     allocations: &[Allocation],
     pricing: &Option<Pricing>,
-    uniqueness: &Uniqueness,
+    others: &OtherAwards,
     sink: &mut S,
 ) -> Result<(), WriteFault>
     requires count { length groups.now ≡ length allocations.now }
@@ -127,15 +127,15 @@ pub fn report_with<S: Sink>(
     ensures ok { OnOk result (Appends (S.taken sink.old) (S.taken sink.new)
         (report_text (sale_of book.now) groups.now allocations.now
         ++ (pricing_text (sale_of book.now) (slice_index_or allocations.now 0 []) pricing.now
-        ++ uniqueness_text (sale_of book.now) uniqueness.now))) }
+        ++ others_text (sale_of book.now) others.now))) }
     ensures err { IfErr result (λ e. SentFront (S.taken sink.old) (S.taken sink.new)
         (report_text (sale_of book.now) groups.now allocations.now
         ++ (pricing_text (sale_of book.now) (slice_index_or allocations.now 0 []) pricing.now
-        ++ uniqueness_text (sale_of book.now) uniqueness.now)) (written_of e)) }
+        ++ others_text (sale_of book.now) others.now)) (written_of e)) }
     ensures failed { OnErr result (HasFailed (S.failures sink.old) (S.failures sink.new)) }
     ensures succeeded { OnOk result (S.failures sink.new ≡ S.failures sink.old) }
 {
     let mut writer = Writer::new(sink);
-    add_report_with(&mut writer, book, groups, allocations, pricing, uniqueness);
+    add_report_with(&mut writer, book, groups, allocations, pricing, others);
     writer.flush()
 }

@@ -1,4 +1,4 @@
--- An only least point of the program of the kept bids wins the only allocation.
+-- Points of the program of the kept bids that are the only least ones win all allocations of kept bids.
 use Rattle.std.proofs.Common.{◌≡◌, ℕ, ◌+◌, ◌≤◌, Bool, true, false, ◌==◌, cond, List, [], ◌∷◌, ◌++◌, map, refl, sym, ap, ap₂}
 use Rattle.std.proofs.Common.{◌∙◌, Option, Some, subst, arith, eqb-true, eq-eqb, pos, neg_ℤ, ◌≤ℤ◌}
 use Rattle.std.specs.Prelude.{All, IsPermutation, not, sum_by, ◌&&◌}
@@ -16,11 +16,10 @@ use Rattle.auction_terms.specs.Keeping.{Offer, kept_of, is_kept_choice, offers_f
 use Rattle.auction_terms.specs.inside.Keeping.{choice_of}
 use Rattle.auction_terms.proofs.LimitFacts.{kept_are_offers, sized}
 use Rattle.auction_terms.proofs.OfferFacts.{all_agree, all_filter, stands as offers_stand}
-use Rattle.auction_terms.proofs.OnlyFacts.{feasible_permuted, only_among_all, total_permuted}
 use Rattle.program_rows.specs.Points.{objective}
 use Rattle.program_rows.specs.Rows.{program_of, subjects}
 use Rattle.program_rows.specs.Faithful.{back}
-use Rattle.program_rows.specs.Only.{OnlyLeastAreAllKept, OnlyLeastIsOnly, PointsWinKeptBids}
+use Rattle.program_rows.specs.Only.{OnlyLeastAreAllKept, PointsWinKeptBids}
 use Rattle.program_rows.proofs.EachFacts.{each}
 use Rattle.program_rows.proofs.FaithfulFacts.{back_is, chosen, chosen_all, counted_members, exact_point, measured, numbered, presolved_is_faithful, same_choice, values_of}
 
@@ -88,36 +87,7 @@ as-often (x ∷ xs) ys h =
     subst (λ (zs : List Choice). IsPermutation (x ∷ xs) zs) (sym r.is)
     (IsPermutation-trans (x ∷ xs) (x ∷ (r.before ++ r.after)) (r.before ++ x ∷ r.after) moved back_in)
 
--- ---------- the law ----------
-
-pub only_least_is_only : OnlyLeastIsOnly
-only_least_is_only lots book group values a within is_point only moved none =
-    let all = kept_of lots book group in
-    let p = program_of lots all in
-    let fits = sized lots book within in
-    let won = back p.columns values in
-    let parsed = (presolved_is_faithful lots book group within).maps_back values is_point in
-    only_among_all lots book group a fits (feasible_permuted lots book group won a moved parsed.feasible)
-    (λ other feasible kept no_less.
-    let k = recursion_from_All (λ c. is_kept_choice lots book group c ≡ true) other kept in
-    let exact = exact_point lots book group fits other k feasible in
-    let v = values_of lots book group fits other in
-    let same_as_won : total lots book a ≡ total lots book won = total_permuted lots book won a moved in
-    let of_won : pos (total lots book won) ≡ neg_ℤ (objective p values) = parsed.same_total in
-    let of_other : pos (total lots book other) ≡ neg_ℤ (objective p v) = exact.1 in
-    let lower : objective p v ≤ℤ objective p values = omega (arith, ints) in
-    let same : v ≡ values = only v exact.0 lower in
-    let chosen_is : won ≡ map choice_of (chosen all values) =
-    back_is lots (subjects lots all) all values (numbered lots all (kept_are_offers lots book group within)) in
-    let often : (c : Choice) → times c won ≡ times c other = λ c.
-    ap (times c) chosen_is
-    ∙ measured (λ d. cond (same_choice c d) 1 0) (λ o. cond (same_choice c (choice_of o)) 1 0) (chosen all values) (each _ (chosen all values) (λ o. refl))
-    ∙ ap (λ (vs : List Bool). sum_by (λ o. cond (same_choice c (choice_of o)) 1 0) (chosen all vs)) (sym same)
-    ∙ counted_members lots book group fits (λ d. cond (same_choice c d) 1 0) other k feasible.one_bid_each in
-    IsPermutation-trans a won other (IsPermutation-sym won a moved) (as-often won other often))
-    none
-
--- ---------- several points ----------
+-- ---------- the laws ----------
 
 pub points_win_kept_bids : PointsWinKeptBids
 points_win_kept_bids lots book group values within =

@@ -1,37 +1,26 @@
 -- Points whose objective no other one reaches.
-use Rattle.std.specs.Prelude.{◌≡◌, ◌∷◌, ℕ, ◌≤◌, Bool, true, List, None, All, Any, Contains, IsPermutation, ◌≤ℤ◌}
+use Rattle.std.specs.Prelude.{◌≡◌, ◌∷◌, ℕ, ◌≤◌, Bool, true, List, All, Any, Contains, IsPermutation, ◌≤ℤ◌}
 use Rattle.auction_terms.specs.declared.choices.Choice.{Choice}
 use Rattle.auction_terms.specs.Packages.{Lots}
 use Rattle.auction_terms.specs.Allocations.{Book, total, IsFeasible}
 use Rattle.auction_terms.specs.Keeping.{is_kept_choice, kept_of}
 use Rattle.auction_terms.specs.Limits.{IsBook}
-use Rattle.auction_terms.specs.Only.{IsOnly, first_rival}
 use Rattle.program_rows.specs.Program.{Table}
 use Rattle.program_rows.specs.Points.{objective, IsPoint}
 use Rattle.program_rows.specs.Rows.{program_of}
 use Rattle.program_rows.specs.Faithful.{back}
-
--- each point of this objective or less is these values
-abbrev pub IsOnlyLeast : Table → List Bool → Type 0
-IsOnlyLeast program values = (others : List Bool) → IsPoint program others → objective program others ≤ℤ objective program values → others ≡ values
 
 -- each point of the first one's objective or less is one of these
 abbrev pub AreOnlyLeast : Table → List Bool → List (List Bool) → Type 0
 AreOnlyLeast program first others = (values : List Bool) → IsPoint program values → objective program values ≤ℤ objective program first
     → Contains (first ∷ others) values
 
--- such a point of the program of the kept bids wins, in whatever order, the only allocation of a book, if no bid does as well in a winner's place
-abbrev pub OnlyLeastIsOnly : Type 0
-OnlyLeastIsOnly = (lots : Lots) (book : Book) (group : ℕ → Bool) (values : List Bool) (a : List Choice) → IsBook lots book
-    → IsPoint (program_of lots (kept_of lots book group)) values → IsOnlyLeast (program_of lots (kept_of lots book group)) values
-    → IsPermutation (back (program_of lots (kept_of lots book group)).columns values) a → first_rival lots book a ≡ None → IsOnly lots book group a
-
--- a point of that program wins kept bids
+-- a point of the program of the kept bids wins kept bids
 abbrev pub PointsWinKeptBids : Type 0
 PointsWinKeptBids = (lots : Lots) (book : Book) (group : ℕ → Bool) (values : List Bool) → IsBook lots book
     → All (λ c. is_kept_choice lots book group c ≡ true) (back (program_of lots (kept_of lots book group)).columns values)
 
--- such points of that program win, in whatever order, all allocations of kept bids that have at least the first one's total
+-- only least points of that program win, in whatever order, all allocations of kept bids that have at least the first one's total
 abbrev pub OnlyLeastAreAllKept : Type 0
 OnlyLeastAreAllKept = (lots : Lots) (book : Book) (group : ℕ → Bool) (first : List Bool) (others : List (List Bool)) → IsBook lots book
     → IsPoint (program_of lots (kept_of lots book group)) first → AreOnlyLeast (program_of lots (kept_of lots book group)) first others

@@ -1,5 +1,5 @@
 //! The command `verify`: a report of solutions that certificates show to be optimal, prices that are shown to cover every group,
-//! and what comes of a claim that the winners are the only ones.
+//! and what is known of other awards.
 
 ghost use Rattle.std.specs.Prelude.{◌≡◌, ◌≤◌, IfErr, OnOk};
 ghost use Rattle.auction_terms.specs.declared.limits.TheConstants.{MOST_WORKERS};
@@ -24,8 +24,8 @@ use std::sync::Wait;
 use std::thread::Threads;
 
 /// Writes what the solutions of all groups win, and the groups' opportunity costs, where certificates show that nobody
-/// wins more without its group; after it, if there are prices, what the winners pay; and, if it is claimed, that nobody else can win
-/// as much, or a tie.
+/// wins more without its group; after it, if there are prices, what the winners pay; and what is
+/// known of other awards of the same total.
 pub fn verify<R: Threads + Wait + Sync + AllocGlobal, S: Sink>(
     rt: &R,
     input: &Input,
@@ -70,14 +70,14 @@ pub fn write_verified<R: Threads + Wait + Sync + AllocGlobal, S: Sink>(
     let allocations = won.as_slice();
     check_certificates(rt, alloc, auction, &compiler, allocations)?;
     auction.book.within_limits();
-    let claim = claim_of(alloc, auction, &compiler, allocations)?;
+    let others = claim_of(alloc, auction, &compiler, allocations)?;
     let pricing = pricing_of(alloc, auction, &compiler, allocations)?;
     report_with(
         &auction.book,
         &auction.groups,
         allocations,
         &pricing,
-        &claim,
+        &others,
         out,
     )?;
     Ok(())

@@ -1,5 +1,5 @@
 -- How the awards that follow from one are found, winner by winner.
-use Rattle.std.specs.Prelude.{ℕ, Bool, false, ◌&&◌, ℤ, List, ◌∷◌, ◌++◌, drop, filter, length, map, slice_set, take}
+use Rattle.std.specs.Prelude.{ℕ, ◌+◌, Bool, false, ◌&&◌, ℤ, List, [], ◌∷◌, ◌++◌, drop, filter, length, map, slice_set, take}
 use Rattle.std.specs.List.{range_with_len}
 use Rattle.std.specs.Option.{option_map_or}
 use Rattle.std.specs.Ordering.{int_eq}
@@ -9,7 +9,12 @@ use Rattle.auction_terms.specs.Packages.{Lots, fits}
 use Rattle.auction_terms.specs.Domination.{net}
 use Rattle.auction_terms.specs.Allocations.{Book, bid_at, loads}
 use Rattle.outcome.specs.Following.{stand_ins, is_stand_in, variants}
-use Rattle.outcome.specs.inside.Rivals.{both_packages}
+
+-- two packages together
+abbrev pub both_packages : List ℕ → List ℕ → List ℕ
+both_packages [] q = []
+both_packages (x ∷ p) [] = []
+both_packages (x ∷ p) (y ∷ q) = (x + y) ∷ both_packages p q
 
 -- x has this net, its package fits with what the others take, and it stands in for the bid of this number
 abbrev pub replaces : Lots → List Bid → ℕ → ℤ → List ℕ → Bid → Bool

@@ -1,6 +1,6 @@
 use Rattle.std.proofs.Common.{◌≡◌, ◌∙◌, length, sym, ap, arith}
 use Rattle.auction_terms.specs.Terms.{Terms, lots_in}
-use Rattle.outcome.specs.inside.Rivals.{both_packages}
+use Rattle.outcome.specs.inside.Following.{both_packages}
 use Rattle.outcome.proofs.QuantityFacts.{both-length, large-fails}
 use Rattle.outcome.proofs.following.fits_with.Goals as goal
 

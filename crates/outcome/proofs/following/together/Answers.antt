@@ -6,7 +6,7 @@ use Rattle.std.proofs.lemmas.List.{take_more, take_all}
 use Rattle.std.proofs.lemmas.List.Folds.{list_all_at, list_all_more}
 use Rattle.auction_terms.specs.declared.limits.TheConstants.{GREATEST_QUANTITY}
 use Rattle.auction_terms.specs.Packages.{IsPackage}
-use Rattle.outcome.specs.inside.Rivals.{both_packages}
+use Rattle.outcome.specs.inside.Following.{both_packages}
 use Rattle.outcome.proofs.QuantityFacts.{are_small, both-at, both-length, package-both}
 use Rattle.outcome.proofs.following.together.Goals as goal
 

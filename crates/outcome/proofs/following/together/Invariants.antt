@@ -1,5 +1,5 @@
 use Rattle.std.proofs.Common.{◌≡◌, true, take}
-use Rattle.outcome.specs.inside.Rivals.{both_packages}
+use Rattle.outcome.specs.inside.Following.{both_packages}
 use Rattle.outcome.proofs.QuantityFacts.{are_small}
 use Rattle.outcome.proofs.following.together.Given as goal
 

@@ -3,7 +3,7 @@ use Rattle.auction_terms.specs.declared.choices.Choice.{Choice}
 use Rattle.outcome.specs.Pricing.{pricing_text}
 use Rattle.outcome.specs.Report.{report_text}
 use Rattle.bid_desk.specs.Sale.{sale_of}
-use Rattle.outcome.specs.Uniqueness.{uniqueness_text}
+use Rattle.outcome.specs.Others.{others_text}
 use Rattle.auction_input.specs.declared.request.Request.TheVariants as request
 use Rattle.auction_input.specs.Settled.{held}
 use Rattle.answers.specs.Exact.{by_refusal}
@@ -21,13 +21,13 @@ returns-clause-written g c =
     let auction = c.args.auction.now in
     let all = c.as_slice-allocations.result.now in
     let won = c.in_ok-won.ensures.won ∙ ap (λ (xs : List (List Choice)). Ok xs) (sym c.as_slice-allocations.ensures.value) in
-    let claim = c.in_ok-claim.claim in
+    let others = c.in_ok-others.others in
     let pricing = c.in_ok-pricing.pricing in
     let sent = c.in_ok-report_with.ensures.ok in (
       report_text (sale_of auction.book) auction.groups all ++ (pricing_text (sale_of auction.book) (slice_index_or all 0 []) pricing ++
-          uniqueness_text (sale_of auction.book) claim),
+          others_text (sale_of auction.book) others),
       next _ all _ _ (next _ all _ _ won c.in_ok-check_certificates.ensures.shown)
-          (next _ claim _ _ c.in_ok-claim.ensures.parsed (next _ pricing _ _ c.in_ok-pricing.ensures.parsed refl)),
+          (next _ others _ _ c.in_ok-others.ensures.parsed (next _ pricing _ _ c.in_ok-pricing.ensures.parsed refl)),
       sent,
     )
 
@@ -65,15 +65,15 @@ returns-in_err-check_certificates-clause-refused g c =
     c.from_residual-in_err-check_certificates.ensures.1
     (unshown c.args.workers auction c.as_slice-allocations.result.now before r won c.in_err-check_certificates.ensures.refuses)
 
-pub returns-in_err-claim-clause-refused : goal.returns-in_err-claim-clause-refused
-returns-in_err-claim-clause-refused g c =
+pub returns-in_err-others-clause-refused : goal.returns-in_err-others-clause-refused
+returns-in_err-others-clause-refused g c =
     let auction = held c.args.auction.now in
     let before = state (g.S.Sink.taken c.args.out.now) (g.S.Sink.failures c.args.out.now) in
-    let r = c.in_err-claim.field-0.0 in
+    let r = c.in_err-others.field-0.0 in
     let won = c.in_ok-won.ensures.won ∙ ap (λ (xs : List (List Choice)). Ok xs) (sym c.as_slice-allocations.ensures.value) in
-    if-err-of (IsWithoutOutput (request.Verify c.args.workers) auction before before) c.from_residual-in_err-claim.result r
-    c.from_residual-in_err-claim.ensures.1
-    (unclaimed c.args.workers auction c.as_slice-allocations.result.now before r won c.in_ok-check_certificates.ensures.shown c.in_err-claim.ensures.refuses)
+    if-err-of (IsWithoutOutput (request.Verify c.args.workers) auction before before) c.from_residual-in_err-others.result r
+    c.from_residual-in_err-others.ensures.1
+    (unclaimed c.args.workers auction c.as_slice-allocations.result.now before r won c.in_ok-check_certificates.ensures.shown c.in_err-others.ensures.refuses)
 
 pub returns-in_err-pricing-clause-refused : goal.returns-in_err-pricing-clause-refused
 returns-in_err-pricing-clause-refused g c =
@@ -83,8 +83,8 @@ returns-in_err-pricing-clause-refused g c =
     let won = c.in_ok-won.ensures.won ∙ ap (λ (xs : List (List Choice)). Ok xs) (sym c.as_slice-allocations.ensures.value) in
     if-err-of (IsWithoutOutput (request.Verify c.args.workers) auction before before) c.from_residual-in_err-pricing.result r
     c.from_residual-in_err-pricing.ensures.1
-    (unpriced c.args.workers auction c.as_slice-allocations.result.now c.in_ok-claim.claim before r won
-    c.in_ok-check_certificates.ensures.shown c.in_ok-claim.ensures.parsed c.in_err-pricing.ensures.refuses)
+    (unpriced c.args.workers auction c.as_slice-allocations.result.now c.in_ok-others.others before r won
+    c.in_ok-check_certificates.ensures.shown c.in_ok-others.ensures.parsed c.in_err-pricing.ensures.refuses)
 
 pub pricing_of-requires-clause-without : goal.pricing_of-requires-clause-without
 pricing_of-requires-clause-without g c =
@@ -98,7 +98,7 @@ returns-in_err-report_with-clause-refused g c =
     let before = state (g.S.Sink.taken c.args.out.now) (g.S.Sink.failures c.args.out.now) in
     let after = state (g.S.Sink.taken c.report_with.new.sink) (g.S.Sink.failures c.report_with.new.sink) in
     let all = c.as_slice-allocations.result.now in
-    let claim = c.in_ok-claim.claim in
+    let others = c.in_ok-others.others in
     let pricing = c.in_ok-pricing.pricing in
     let f = c.in_err-report_with.field-0.0 in
     let won = c.in_ok-won.ensures.won ∙ ap (λ (xs : List (List Choice)). Ok xs) (sym c.as_slice-allocations.ensures.value) in
@@ -106,8 +106,8 @@ returns-in_err-report_with-clause-refused g c =
     if-err-of (IsWithoutOutput (request.Verify c.args.workers) (held auction) before after) c.from_residual-in_err-report_with.result
     (refusal.Write f) c.from_residual-in_err-report_with.ensures.1
     (inl (cut-short _ (report_text (sale_of auction.book) auction.groups all ++
-    (pricing_text (sale_of auction.book) (slice_index_or all 0 []) pricing ++ uniqueness_text (sale_of auction.book) claim)) before
+    (pricing_text (sale_of auction.book) (slice_index_or all 0 []) pricing ++ others_text (sale_of auction.book) others)) before
     after f
     (next _ all _ _ (next _ all _ _ won c.in_ok-check_certificates.ensures.shown)
-    (next _ claim _ _ c.in_ok-claim.ensures.parsed (next _ pricing _ _ c.in_ok-pricing.ensures.parsed refl))) sent
+    (next _ others _ _ c.in_ok-others.ensures.parsed (next _ pricing _ _ c.in_ok-pricing.ensures.parsed refl))) sent
     c.in_err-report_with.ensures.failed))

@@ -5,9 +5,3 @@ returns-in-BoundBroken c = rw (c.in-BoundBroken.is, c.as_slice-in-BoundBroken.en
 
 pub returns-in-RowBroken : goal.returns-in-RowBroken
 returns-in-RowBroken c = rw (c.in-RowBroken.is, c.as_slice-in-RowBroken.ensures)
-
-pub returns-in-TieBoundBroken : goal.returns-in-TieBoundBroken
-returns-in-TieBoundBroken c = rw (c.in-TieBoundBroken.is, c.as_slice-in-TieBoundBroken.ensures)
-
-pub returns-in-TieRowBroken : goal.returns-in-TieRowBroken
-returns-in-TieRowBroken c = rw (c.in-TieRowBroken.is, c.as_slice-in-TieRowBroken.ensures)

@@ -1,0 +1,25 @@
+use Rattle.std.proofs.Common.{◌≡◌, ◌∙◌, ◌+◌, ℕ, Bool, suc, List, ap, ap₂, drop, length, nat_le, refl, sym, take}
+use Rattle.std.specs.Prelude.{if◌then◌else◌}
+use Rattle.auction_terms.specs.Terms.{lots_in}
+use Rattle.auction_terms.specs.declared.choices.Choice.{Choice}
+use Rattle.auction_terms.specs.declared.limits.TheConstants.{MOST_TIES}
+use Rattle.bid_desk.specs.Closing.{book_of}
+use Rattle.outcome.specs.Following.{with_following}
+use Rattle.outcome.specs.declared.others.Further.{Further}
+use Rattle.outcome.specs.declared.others.Further.TheVariants.{More, NoOther}
+use Rattle.outcome.proofs.OtherFacts.{as-many, one-deeper}
+use Rattle.outcome.proofs.others.others_of.Goals as goal
+
+pub returns : goal.returns
+returns c =
+    let all = with_following (lots_in c.args.book.now.rules) (book_of c.args.book.now) c.args.listed.items in
+    let found : c.in_ok-awards.awards.items ≡ take (suc (suc MOST_TIES)) all = c.in_ok-awards.ensures in
+    let cut : c.truncate.new.self.items ≡ take (suc MOST_TIES) c.in_ok-awards.awards.items = rw c.from-printed.ensures at c.truncate.ensures.items in
+    let others : c.remove.new.self.items ≡ drop 1 c.truncate.new.self.items = c.remove.ensures.items in
+    let awards : c.remove.new.self.items ≡ drop 1 (take (suc MOST_TIES) all) =
+    others ∙ ap (λ (xs : List (List Choice)). drop 1 xs) (cut ∙ ap (λ (xs : List (List Choice)). take (suc MOST_TIES) xs) found
+    ∙ one-deeper (suc MOST_TIES) all) in
+    let further : c.further_than-further.result ≡ (if nat_le (length all) (suc MOST_TIES) then NoOther else More) =
+    (rw c.from-printed.ensures at c.further_than-further.ensures) ∙ ap (λ (b : Bool). if b then NoOther else More)
+    (ap (λ (xs : List (List Choice)). nat_le (length xs) (suc MOST_TIES)) (c.deref.ensures.value ∙ found) ∙ as-many (suc MOST_TIES) all) in
+    c.new.ensures ∙ ap₂ (λ (xs : List (List Choice)) (f : Further). record { awards = xs; further = f }) awards further
