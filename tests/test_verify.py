@@ -75,7 +75,7 @@ def claimed(wdp, number):
         with row(f"auction {number}: {tied.input_text(auction, [()])}"):
             assert seen(wdp, ["verify"], text + claim) == done(report + outcome)
 
-    search = OnlySearch(Layout(first.program), first.ones, None, lambda text: None)
+    search = OnlySearch(Layout(first.program), [first.ones], None, lambda text: None)
     try:
         only = b"%unique\n" + search.certificate()
     except Beaten as beaten:
@@ -85,7 +85,7 @@ def claimed(wdp, number):
         expect(claim, "tie\n" + tied.winners_text(auction, other))
         return "tie"
     assert first.kept == [first.won]
-    verdict = Checker(first.program).only_verdict(first.ones, only.removeprefix(b"%unique\n"))
+    verdict = Checker(first.program).only_verdict([first.ones], only.removeprefix(b"%unique\n"))
     assert verdict == (None, [])
     if first.best == [first.won]:
         expect(only, "unique\n")
@@ -121,7 +121,7 @@ class Certified:
         self.judge = lambda it: checker.verdict(program.objective(ones), it)
         if kind == b"unique":
             self.report, self.what = self.report + b"unique\n", "unique"
-            self.judge = lambda it: checker.only_verdict(ones, it)
+            self.judge = lambda it: checker.only_verdict([ones], it)
 
     def wanted(self, certificate):
         """What wdp may say: status, output and standard error."""

@@ -1,4 +1,5 @@
-"""Whether a text is a certificate that no point of a program has an objective below a bound, or none but one as low as that one.
+"""Whether a text is a certificate that no point of a program has an objective below a bound, or none but these as low as the first
+of them.
 
 This is the definition alone, in Python's whole numbers: the judge of tests. docs/REFERENCE.md has the grammar and the order of
 faults.
@@ -38,14 +39,17 @@ class Checker:
         """What the text comes to as a certificate that no point has an objective below `least`."""
         return self.read(text, least, [])
 
-    def only_verdict(self, ones, text):
-        """What it comes to as a certificate that no point but that of these columns at 1 has an objective as low: below the
-        second side of a split whose first side has no other point."""
+    def only_verdict(self, points, text):
+        """What it comes to as a certificate that no point but these, each the columns at 1, has an objective as low as the first of
+        them: below a split for each, on the second side, whose first side has no other point."""
+        least = self.program.objective(points[0]) + 1
+        return self.read(text, least, [self.all_but(ones) for ones in points])
+
+    def all_but(self, ones):
         columns = enumerate(self.program.columns)
         free = [place for place, column in columns if column.lower != column.upper]
         form = [(place, -1 if place in ones else 1) for place in free]
-        others = Split(form, -len(ones.intersection(free)), True)
-        return self.read(text, self.program.objective(ones) + 1, [others])
+        return Split(form, -len(ones.intersection(free)), True)
 
     def read(self, text, least, splits):
         """Reads a text as a certificate for one bound, below splits that are open."""

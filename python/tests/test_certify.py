@@ -16,10 +16,12 @@ from tied_auctions import subsets
 
 from wdp import solve
 from wdp.certify.layout import Layout
+from wdp.certify.problem import Problem
 from wdp.certify.search import Beaten, LimitReached, OnlySearch, Search
+from wdp.certify.ties import MOST_TIES, find_ties
 from wdp.texts.refusals import NotSolved, Refused
 from wdp.texts.zero_one import AT_LEAST, AT_MOST, EQUAL, Column, Row, ZeroOne
-from wdp.texts.zero_one import read_program, read_solution
+from wdp.texts.zero_one import read_program, read_solution, solution_text
 
 
 def auction(supply, bids):
@@ -76,15 +78,24 @@ def certified(program, ones):
 
 def only(program, ones):
     """Whether the search among all other points shows that there is none as good; else another one is found."""
-    search = OnlySearch(Layout(program), set(ones), None, lambda text: None)
+    search = OnlySearch(Layout(program), [set(ones)], None, lambda text: None)
     try:
         text = search.certificate()
     except Beaten as beaten:
         assert program.objective(search.ones) == program.objective(ones) - beaten.gain
         assert search.ones != ones and program.fault_of(search.ones) is None
         return False
-    assert Checker(program).only_verdict(ones, text) == (None, [])
+    assert Checker(program).only_verdict([ones], text) == (None, [])
     return True
+
+
+def assert_all_ties(program, best):
+    """The search from the first one of the best points finds each other one once, and shows that there are no more."""
+    found = find_ties(Problem(Layout(program)), solution_text(best[0], program))
+    points = [read_solution(text, program, "a tie") for text in found.points]
+    assert len(points) == len(best) - 1
+    assert all(ones in points for ones in best[1:])
+    assert Checker(program).only_verdict([best[0], *points], found.unique) == (None, [])
 
 
 COSTS = {
@@ -110,8 +121,10 @@ def test_small_programs_of_which_each_point_is_tried(seed, count, cost):
             least = program.objective(points[0])
             for ones in (points[0], points[-1]):
                 assert certified(program, ones)[0].least == least
-            ties = sum(program.objective(ones) == least for ones in points)
-            assert only(program, points[0]) == (ties == 1), vars(program)
+            best = [ones for ones in points if program.objective(ones) == least]
+            assert only(program, points[0]) == (len(best) == 1), vars(program)
+            if len(best) <= MOST_TIES:
+                assert_all_ties(program, best)
 
 
 @pytest.mark.parametrize("lot_value", [10**7, 10**9, 10**11])
@@ -150,7 +163,7 @@ def test_limits():
     with pytest.raises(LimitReached, match="the time limit of 1e-09 seconds is reached"):
         Search(Layout(program), best, 1e-9).certificate()
     with pytest.raises(LimitReached, match="no other point has an objective below"):
-        OnlySearch(Layout(program), best, 1e-9, lambda text: None).certificate()
+        OnlySearch(Layout(program), [best], 1e-9, lambda text: None).certificate()
 
 
 SMALL = content("fixtures", "solvers", "three.mps").encode()
@@ -175,7 +188,7 @@ def test_the_command(folder):
     assert (folder / "better").read_bytes() == BEST
     assert CHECKER.verdict(-62, (folder / "certificate").read_bytes()).fault is None
     seen = run("certify", "--unique", "p.mps", "best")
-    assert (seen.status, CHECKER.only_verdict({0, 2, 3}, seen.out.encode()).fault) == (0, None)
+    assert (seen.status, CHECKER.only_verdict([{0, 2, 3}], seen.out.encode()).fault) == (0, None)
     (folder / "p.mps").write_bytes(SMALL.replace(b" X1_2 OBJ -50\n", b" X1_2 OBJ -62\n"))
     seen = run("certify", "--unique", "p.mps", "best")
     assert seen[:2] == (5, WORSE.decode()) and "a tie" in seen.err

@@ -145,9 +145,9 @@ def test_certificates_with_them(monkeypatch, seed, lines):
     checker = Checker(program)
     assert checker.verdict(found.least, text) == (None, [])
     assert checker.verdict(found.least + 1, text).fault is not None
-    only = search.OnlySearch(Layout(program), found.ones, None, lambda text: None)
+    only = search.OnlySearch(Layout(program), [found.ones], None, lambda text: None)
     try:
-        assert checker.only_verdict(found.ones, only.certificate()) == (None, [])
+        assert checker.only_verdict([found.ones], only.certificate()) == (None, [])
     except search.Beaten as beaten:
         assert beaten.gain == 0
 

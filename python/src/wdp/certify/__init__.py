@@ -61,7 +61,7 @@ def only(
     program: bytes, solution: bytes, seconds: float | None = None, say: Say = lambda text: None
 ) -> Only:
     """Whether an optimal solution is the only one. Raises what `certified` does."""
-    return read_problem(program).only(solution, seconds, say)
+    return read_problem(program).only(solution, seconds=seconds, say=say)
 
 
 def add_words(parser: argparse.ArgumentParser) -> None:

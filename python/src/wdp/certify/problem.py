@@ -1,7 +1,7 @@
 """A 0-1 program that is read once: what a solver gets of it, and the search for its certificate."""
 import math
 import re
-from collections.abc import Collection, Mapping
+from collections.abc import Collection, Mapping, Sequence
 from dataclasses import replace
 from functools import cached_property
 
@@ -146,10 +146,18 @@ class Problem:
         best = solution_text(search.ones, self.program) if gain else solution
         return Certified(best, certificate, gain, search.found_rows)
 
-    def only(self, solution: bytes, seconds: float | None = None, say: Say = silence) -> Only:
-        """Whether an optimal solution is the only one. Raises what `certified` does."""
-        ones = self.ones(solution)
-        search = OnlySearch(self.layout, ones, seconds=seconds, say=say, known_rows=self.known_rows)
+    def only(
+        self,
+        solution: bytes,
+        others: Sequence[bytes] = (),
+        seconds: float | None = None,
+        say: Say = silence,
+    ) -> Only:
+        """Whether an optimal solution and these others are the only ones. Raises what `certified` does."""
+        points = [self.ones(text) for text in (solution, *others)]
+        search = OnlySearch(
+            self.layout, points, seconds=seconds, say=say, known_rows=self.known_rows
+        )
         try:
             return Only("unique", search.certificate())
         except Beaten as beaten:

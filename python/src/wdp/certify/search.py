@@ -6,6 +6,7 @@ above the gap are fixed to 0 by a split of their own, whose second side the same
 import contextlib
 import math
 import time
+from collections.abc import Sequence
 from dataclasses import dataclass
 from typing import NamedTuple, NoReturn
 
@@ -390,24 +391,25 @@ class Beaten(Exception):
 
 
 class OnlySearch(Search):
-    """A search for another point as good as `ones`: a certificate shows that there is none, or it ends as Beaten at that point."""
+    """A search for a point beside these that is as good as the first of them: a certificate shows that there is none, or it ends
+    as Beaten at that point."""
 
     def __init__(
         self,
         layout: Layout,
-        ones: set[int],
+        points: Sequence[set[int]],
         seconds: float | None,
         say: Say,
         known_rows: str = "",
     ) -> None:
-        below = layout.split([others(layout, ones)])
-        super().__init__(below, ones, seconds=seconds, say=say, known_rows=known_rows)
-        self.first = ones
+        below = layout.split([others(layout, ones) for ones in points])
+        super().__init__(below, points[0], seconds=seconds, say=say, known_rows=known_rows)
+        self.points = points
         self.least += 1
-        self.is_from_nothing = False  # (the point that is known isn't one of this program)
+        self.is_from_nothing = False  # (the points that are known aren't of this program)
 
     def try_point(self, places: set[int]) -> bool:
-        return places | self.layout.fixed_ones != self.first and super().try_point(places)
+        return places | self.layout.fixed_ones not in self.points and super().try_point(places)
 
     def known(self) -> str:
         return f"no other point has an objective below {self.root_value}"
