@@ -165,17 +165,29 @@ def test_a_report_is_a_sequence_with_lots_and_tables():
 def test_certified_from_nothing_and_from_less_than_the_best():
     pytest.importorskip("swiglpk", reason="swiglpk isn't there")
     for solutions in (None, ["X1_1 1\nX2_1 1\n", *SOLUTIONS[1:]]):
-        found = auction.certify(solutions, unique=True, time_limit=60)
-        assert (values_of(found.report), found.report.uniqueness) == (EXPECTED, "only")
+        found = auction.certify(solutions, ties=True, time_limit=60)
+        assert values_of(found.report) == EXPECTED
+        assert found.report.has_all_awards and found.report.awards == (found.report[0],)
         assert auction.verify(found.solutions, found.certificates, found.unique) == found.report
-    assert auction.certify(SOLUTIONS).report.uniqueness == "unasked"
+    assert not auction.certify(SOLUTIONS).report.has_all_awards
     refused(lambda: auction.certify(SOLUTIONS[:2]))
     refused(lambda: auction.certify(["X9_9 1\n"] * 4))
-    # a tie has the other winners
+
+
+def test_awards_that_tie():
+    pytest.importorskip("swiglpk", reason="swiglpk isn't there")
     forms = [("Alpha", [(20, 1)]), ("Beta", [(20, 2)])]
-    found = made(rules=RULES[:2] + RULES[3:5], forms=forms).certify(unique=True)
-    both = {found.report[0].winners[0], found.report.uniqueness.winners[0]}
-    assert both == {wdp.Winner("Alpha", 1, 20), wdp.Winner("Beta", 1, 20)} and found.unique is None
+    tied = made(rules=RULES[:2] + RULES[3:5], forms=forms)
+    found = tied.certify(ties=True)
+    winners = {award.winners for award in found.report.awards}
+    assert winners == {(wdp.Winner("Alpha", 1, 20),), (wdp.Winner("Beta", 1, 20),)}
+    assert len(found.report.awards) == 2
+    assert found.report.has_all_awards
+    again = tied.verify(found.solutions, found.certificates, found.unique, found.ties)
+    assert again == found.report
+    without = tied.verify(found.solutions, found.certificates, ties=found.ties)
+    assert without.awards == found.report.awards
+    assert not without.has_all_awards
 
 
 def test_the_matrix_of_a_program():
@@ -214,7 +226,7 @@ def test_frames():
     wanted = {"group": [1, 2, 3, 4], "left_out": NAMES, "total": [62, 32, 50, 50]}
     assert report.to_frame().to_dict("list") == {**wanted, "cost": [0, 0, 8, 20]}
     wanted = {"bidder": ["Alpha", "Beta", "Gamma"], "bid": [1, 1, 1], "amount": [30, 20, 12]}
-    for result in (report[0], wdp.Tie(report[0].winners, 62)):
+    for result in (report[0], wdp.Allocation(report[0].winners, 62)):
         assert result.to_frame().to_dict("list") == {**wanted, "A": [1, 1, 0], "B": [0, 0, 1]}
     assert list(wdp.Allocation((), 0).to_frame().columns) == list(wanted)
     # refused

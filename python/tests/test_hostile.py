@@ -156,8 +156,21 @@ def test_answers_that_are_nearly_right(answered):
     assert answered(report, answers, example.INPUT) == [WORKED]
     beyond = ["unique\n", "", "unique", "unique\nunique\n", "Unique\n", "tie\n", "tie\nBeta 1 20\n"]
     beyond += ["tie\ntotal 62\ntotal 62\n", "tie\ntotal 62\nunique\n"]
-    right = WORKED + "unique\n"
-    assert answered(verify, [WORKED + more for more in beyond], example.INPUT) == [right]
+    tie = "tie\nBeta 1 20\ntotal 62\n"
+    beyond += [f"{tie}unique\n", f"{tie}and more\n", tie, "no other\n", "and more\n"]
+    beyond += ["tie\nBeta 1 20\ntotal 61\nno other\n", f"{tie}no other\nno other\n"]
+    beyond += [f"{tie * 65}no other\n", f"{tie * 63}and more\n"]
+    beyond += [f"{tie}no other\n", f"{tie * 64}and more\n"]
+    right = ["unique\n", f"{tie}no other\n", f"{tie * 64}and more\n"]
+    answers = [WORKED + more for more in beyond]
+    assert answered(verify, answers, example.INPUT) == [WORKED + more for more in right]
+    tied = lambda auction: auction.verify(*given, ties=[""])  # noqa: E731
+    beyond = ["", tie, tie * 2, f"{tie}no other\n", f"{tie}unique\n"]
+    assert answered(tied, [WORKED + more for more in beyond], example.INPUT) == [WORKED + tie]
+    all_tied = lambda auction: auction.verify(*given, "bound 1", [""] * 2)  # noqa: E731
+    beyond = ["unique\n", f"{tie}no other\n", f"{tie * 3}no other\n"]
+    answers = [WORKED + more for more in beyond]
+    assert answered(all_tied, answers, example.INPUT) == answers[2:]
     changes = [("-", "Beta"), ("1", "2"), ("ENDATA\n", ""), ("NAME wdp\n", "")]
     answers = [PROGRAM, PROGRAM[:-1], "x" + PROGRAM, PROGRAM * 2, PROGRAM + "\n", PROGRAM[14:]]
     answers += [PROGRAM.replace(old, new, 1) for old, new in changes]

@@ -51,15 +51,15 @@ def no_solver(monkeypatch):
     monkeypatch.setattr(solve, "point_of", lambda program, *how: solve.nothing(program))
 
 
-def priced(wdp, auction, groups, unique=False):
+def priced(wdp, auction, groups, ties=False):
     asked = package.Auction.from_text(tied_auctions.input_text(auction, groups), program=wdp)
-    return asked.prices(asked.certify(unique=unique), "highs")
+    return asked.prices(asked.certify(ties=ties), "highs")
 
 
 def shown(wdp, found):
     """What `wdp verify` prints of the prices."""
     said = output(wdp, "verify", found.audit).decode()
-    return re.search(r"(?m)^prices\n(.*\n)*?(?=unique\n|tie\n|\Z)", said)[0]
+    return re.search(r"(?m)^prices\n(.*\n)*?(?=unique\n|tie\n|no other\n|\Z)", said)[0]
 
 
 def assert_of_the_rule(wdp, auction, groups):
@@ -99,6 +99,10 @@ def test_what_the_random_auctions_are():
     assert {kind: count for kind, count in counted.items() if count < KINDS[kind]} == {}
 
 
+def is_only(report):
+    return report.has_all_awards and len(report.awards) == 1
+
+
 def gaps_of(costs):
     """What each group has to pay above what its winners would pay alone."""
     return {
@@ -113,15 +117,15 @@ def test_the_order_of_the_rules_changes_nothing(wdp, no_solver, first):
     tried = 0
     for number in range(first, first + BLOCK):
         auction, _ = drawn(number)
-        found = priced(wdp, auction, [()], unique=True)
-        if found.report.uniqueness != "only":
+        found = priced(wdp, auction, [()], ties=True)
+        if not is_only(found.report):
             continue
         other, order = priced_auctions.permuted(auction, random.Random(number))
-        again = priced(wdp, other, [()], unique=True)
+        again = priced(wdp, other, [()], ties=True)
         names = {BIDDERS[at]: BIDDERS[place] for at, place in enumerate(order)}
         exact = {names[name]: price for name, price in again.report.prices.exact.items()}
         assert exact == found.report.prices.exact
-        assert again.report.uniqueness == "only"
+        assert is_only(again.report)
         tried += 1
     assert tried >= BLOCK // 3
 
@@ -475,22 +479,22 @@ BELONG = "They belong to the winners of this page"
 def test_prices_of_a_tie_belong_to_the_winners_of_the_page(auction, tmp_path):
     """Either bidder pays the 20 that the other one bids."""
     auction.put("input.txt", TIED)
-    assert "proved: others reach the same total" in auction.said("--ties")
-    assert auction.read("unique.txt").startswith(b"%tie\nX")
+    assert "proved: these 2 awards, and no other, reach" in auction.said("--ties")
+    assert auction.read("ties.txt").startswith(b"%tie\nX")
     assert auction.read("audit.txt").count(b"%tie\n") == 1 and published(auction)[1]["certified"]
     verified = output(auction.wdp, "verify", auction.read("audit.txt"))
     first = re.search(rb"prices\n(\w+) 20\nsum 20\nby the rule\n", verified)[1].decode()
-    assert f"{BELONG}; by the other award there are others, perhaps of another sum." in (
+    assert f"{BELONG}; by another award there are others, perhaps of another sum." in (
         published(auction)[0]
     )
-    # the lot falls on the other one, whose prices aren't those of the first
+    # the other one is drawn, whose prices aren't those of the first
     files = [auction.where / "input.txt", auction.where / "report.txt"]
     drawn, priced = Auction(tmp_path / "drawn", auction.wdp), tmp_path / "priced.txt"
     for audit, has_prices in ((auction.where / "audit.txt", False), (priced, True)):
-        words = ["--audit", audit, "--drawn", "--output", drawn.where / "results"]
+        words = ["--audit", audit, "--drawn", 2, "--output", drawn.where / "results"]
         assert run("results", *files, *words).status == 0
         page, said = published(drawn)
-        assert said["is_drawn"] and has_prices == (said["prices"] is not None) == (BELONG in page)
+        assert said["drawn"] == 2 and has_prices == (said["prices"] is not None) == (BELONG in page)
         assert office("prices", drawn.where / "results/audit.txt", "--output", priced).status == 0
     (winner,) = (each["name"] for each in said["bidders"] if each["bid"])
     assert winner != first and said["prices"]["total"] == 20

@@ -219,43 +219,123 @@ def test_that_nobody_else_wins_is_shown(desk):
     parts = SOLUTIONS + CERTIFICATES.replace("10", "11", 1) + "%unique\nbound 2 1 C1 21\n"
     page = desk.page(data, report, audit=parts + data)
     assert page.texts["proof"].startswith("Proved: these are the only winners.")
-    assert desk.json()["proof"] == "only"
-    seen = desk.results(data, report, "--drawn", audit=parts + data)
+    assert (desk.json()["proof"], len(desk.json()["awards"])) == ("all", 1)
+    seen = desk.results(data, report, "--drawn", 2, audit=parts + data)
     stopped(seen, "shows no tie, so that nothing was drawn", status=2)
 
 
+HEADINGS = ["Award", "Bidders who don't win the same", "Opportunity costs"]
 WON = "10 for 1 of A (bid 1)"
-IN_TIE = [["Alpha", WON, "nothing"], ["Beta", "nothing", WON], ["Cost of Alpha", "10", "0"]]
-PROVED = "Proved: another award reaches the same total, and none reaches more. The audit shows it. Which one holds"
+IN_TIE = [
+    ["1 (this page)", f"Alpha: {WON}; Beta: nothing", "Alpha: 10"],
+    ["2", f"Alpha: nothing; Beta: {WON}", "Alpha: 0"],
+]
+AT_LEAST = "Proved: at least these 2 awards reach the same total, and none reaches more."
+ALL = "Proved: these 2 awards, and no other, reach the greatest total. The audit shows it."
+# If Alpha wins nothing, Beta's point is excluded, so that nobody wins; if it wins, its point is, and Beta wins, too, as it can't.
+UNIQUE = "%unique\nsplit 0 X1_1 1\nbound 1 0 10 20\nbound 0 1 0 2 C1 1\n"
 
 
-def test_both_awards_of_a_tie_and_the_one_that_was_drawn(desk):
+def test_the_awards_of_a_tie_that_may_be_wider(desk):
     page, said = desk.audited(TIED), desk.json()
-    assert page.rows("ties") == [["Bidder, cost", "Award of this page", "Other award"], *IN_TIE]
-    assert page.texts["proof"].startswith(PROVED)
-    known = said["proof"], said["is_drawn"], said["tied_award"]["costs"]
-    assert known == ("tie", False, [0, 0])
+    assert page.rows("ties") == [HEADINGS, *IN_TIE]
+    assert page.texts["proof"].startswith(AT_LEAST)
+    assert "don't draw from these alone" in page.texts["proof"]
+    assert (said["proof"], said["award"], said["drawn"]) == ("some", 1, None)
+    assert [award["costs"] for award in said["awards"]] == [[0, 10], [0, 0]]
+    assert [award["winners"][0]["name"] for award in said["awards"]] == ["Alpha", "Beta"]
     assert digest(TIE_REPORT + "tie\nBeta 1 10\ntotal 10\n") in page.texts["audit"]
-    page, said = desk.audited(TIED, "--drawn", "--currency", "GBP"), desk.json()
-    assert page.rows("ties")[1:] == [[name, other, first] for name, first, other in IN_TIE]
-    assert "was drawn by lot, and the lot fell on the award of this page" in page.texts["proof"]
+
+
+def test_the_awards_of_a_tie_that_are_all(desk):
+    page = desk.audited(TIED.replace("%rules", f"{UNIQUE}%rules"))
+    assert page.texts["proof"].startswith(ALL)
+    assert desk.json()["proof"] == "all"
+    assert digest(TIE_REPORT + "tie\nBeta 1 10\ntotal 10\nno other\n") in page.texts["audit"]
+
+
+DRAWN_REPORT = TIE_REPORT.replace("Alpha 1 10", "Beta 1 10").replace("cost 10", "cost 0")
+DRAWN = "%solution\n# award 2\nX2_1 1\n%solution\nX2_1 1\n" + CERTIFICATES
+DRAWN += f"%tie\n# award 1\nX1_1 1\n{TIE}"
+
+
+def test_the_award_that_was_drawn(desk):
+    page, said = desk.audited(TIED, "--drawn", "2", "--currency", "GBP"), desk.json()
+    (_, *first), (_, *second) = IN_TIE
+    assert page.rows("ties")[1:] == [["1", *first], ["2 (this page)", *second]]
+    assert "this page shows award 2, which was drawn" in page.texts["proof"]
     alpha, beta = page.rows("bidders")[1:3]
     assert (alpha[1:3], beta[1:3]) == (["0", "0"], ["10", "not asked for"])
     groups = [["1", "nobody", "10", "0", "Beta"], ["2", "Alpha", "10", "0", "Beta"]]
     assert page.rows("groups")[1:] == groups
-    assert (said["certified"], said["proof"], said["is_drawn"]) == (True, "tie", True)
-    drawn = "%solution\nX2_1 1\n" * 2 + CERTIFICATES + "%tie\nX1_1 1\n" + TIE
-    assert (desk.out / "audit.txt").read_text() == drawn
-    report = TIE_REPORT.replace("Alpha 1 10", "Beta 1 10").replace("cost 10", "cost 0")
-    assert said["report_sha256"] == digest(report)
-    assert said["audit"]["report_sha256"] == digest(report + "tie\nAlpha 1 10\ntotal 10\n")
+    assert (said["certified"], said["award"], said["drawn"]) == (True, 2, 2)
+    assert (desk.out / "audit.txt").read_text() == DRAWN
+    assert said["report_sha256"] == digest(DRAWN_REPORT)
+    assert said["audit"]["report_sha256"] == digest(DRAWN_REPORT + "tie\nAlpha 1 10\ntotal 10\n")
+
+
+# the report that is given, the audit, the words, and the award that is published
+NUMBERED = [
+    (TIE_REPORT, TIED, ["--drawn", "1"], 1),
+    (TIE_REPORT, DRAWN, ["--drawn", "1"], 1),
+    (TIE_REPORT, DRAWN, ["--drawn", "2"], 2),
+    (DRAWN_REPORT, DRAWN, ["--drawn", "2"], 2),
+    (DRAWN_REPORT, DRAWN, [], 2),
+]
+
+
+@pytest.mark.parametrize("report, audit, words, number", NUMBERED)
+def test_an_award_keeps_its_number(desk, report, audit, words, number):
+    """Whichever award is the first of the audit."""
+    desk.page(TIE, report, *words, audit=audit)
+    said = desk.json()
+    assert (said["award"], said["drawn"]) == (number, number if words else None)
+    assert [award["winners"][0]["name"] for award in said["awards"]] == ["Alpha", "Beta"]
+    assert (desk.out / "audit.txt").read_text() == (TIED if number == 1 else DRAWN)
+
+
+# Alpha offers as much for one lot as for two
+WIDER = TIE.replace("category,A,1,", "category,A,2,").replace("Alpha,A\n10,1", "Alpha,A\n10,1\n10,2")
+WIDER = WIDER.replace("Beta,A\n10,1\n", "Beta,A\n").replace("-\nAlpha\n", "-\n")
+WIDER_AUDIT = "%solution\nX1_1 1\n%certificate\nbound 1 B1 10\n%unique\nbound 1 10\n" + WIDER
+WIDER_REPORT = "group 1 -\nAlpha 1 10\ntotal 10\ncost 0\n"
+
+
+def test_an_award_with_a_bid_in_no_program(desk):
+    page = desk.page(WIDER, WIDER_REPORT, audit=WIDER_AUDIT)
+    rows = [
+        ["1 (this page)", "Alpha: 10 for 1 of A (bid 1)", "the same"],
+        ["2 (has a bid in no program)", "Alpha: 10 for 2 of A (bid 2)", "the same"],
+    ]
+    assert page.rows("ties")[1:] == rows
+    said = desk.json()
+    assert [award["can_be_first"] for award in said["awards"]] == [True, False]
+    assert said["proof"] == "all"
+
+
+# which award was drawn, and why it isn't published
+REFUSED = [
+    ("2", "award 2 can't be the first of an audit: bid 2 of Alpha is in no program", 1),
+    ("3", "there is no award 3: there are 2 awards", 2),
+    ("0", "argument --drawn: invalid number of an award value: '0'", 2),
+    ("two", "argument --drawn: invalid number of an award value: 'two'", 2),
+]
+
+
+@pytest.mark.parametrize("drawn, why, status", REFUSED)
+def test_an_award_that_cannot_be_drawn(desk, drawn, why, status):
+    seen = desk.results(WIDER, WIDER_REPORT, "--drawn", drawn, audit=WIDER_AUDIT)
+    stopped(seen, why, status=status)
 
 
 def test_winners_who_do_not_change_are_left_out(desk):
     """Gamma wins the lot of B in each award, and its cost stays."""
     data, report, audit = of_audit("three.txt")
     page = desk.page(data, report, audit=audit)
-    assert [row[0] for row in page.rows("ties")[1:]] == ["Alpha", "Beta", "Cost of Alpha"]
+    assert page.rows("ties")[1:] == [
+        ["1 (this page)", "Alpha: 10 for 1 of A (bid 1); Beta: nothing", "Alpha: 10"],
+        ["2", "Alpha: nothing; Beta: 10 for 1 of A (bid 1)", "Alpha: 0"],
+    ]
 
 
 def test_a_full_disk(desk):

@@ -7,13 +7,13 @@ The command wdp-office has an auction's office round it.
 from wdp.api import Auction
 from wdp.office.judge import Explained, Finding
 from wdp.results import Allocation, Certified, Counts, Group, Matrix, Prices, Program, Report
-from wdp.results import Solutions, Tie, Winner
+from wdp.results import Solutions, Winner
 from wdp.texts.refusals import Missing, NotFound, NotSolved, Refused, Unclear, WrongWords
 
 __version__ = "2.0.0"
 __all__ = ["Allocation", "Auction", "Certified", "Counts", "Explained", "Finding", "Group"]
 __all__ += ["Matrix", "Missing", "NotFound", "NotSolved", "Prices", "Program", "Refused"]
-__all__ += ["Report", "Solutions", "Tie", "Unclear", "Winner", "WrongWords"]
+__all__ += ["Report", "Solutions", "Unclear", "Winner", "WrongWords"]
 # (a traceback names them as they are imported)
 for _refusal in (Missing, NotFound, NotSolved, Refused, Unclear, WrongWords):
     _refusal.__module__ = __name__

@@ -3,7 +3,7 @@ from __future__ import annotations
 
 import os
 from collections.abc import Callable, Iterable
-from dataclasses import replace
+from dataclasses import dataclass, replace
 from functools import partial
 from numbers import Real
 from typing import Any
@@ -25,6 +25,14 @@ from wdp.texts.tables import encoded
 UNENDED = "the last line has no end, as in a file that was cut off; say allow_unended=True if it is complete"
 
 Found = certify.Certified
+
+
+@dataclass(frozen=True)
+class Claim:
+    """What is claimed of group 1: solutions that tie with its own, and the certificate that there are no others."""
+
+    ties: tuple[str, ...] = ()
+    unique: str | None = None
 
 
 class Auction:
@@ -128,7 +136,7 @@ class Auction:
         solutions: Iterable[Any] = (),
         certificates: Iterable[Any] = (),
         unique: Text | None = None,
-        tie: Any = None,
+        ties: Iterable[Any] = (),
         prices: Text | None = None,
         cover: Text | None = None,
         rule: Text | None = None,
@@ -138,8 +146,12 @@ class Auction:
         shown = listed(certificates, "certificates")
         parts = [records.part("solution", x, n) for n, x in enumerate(solution_texts(solutions), 1)]
         parts += [records.part("certificate", text, n) for n, text in enumerate(shown, 1)]
-        tie = None if tie is None else records.solution_text(tie, "tie")
-        others = dict(unique=unique, tie=tie, prices=prices, cover=cover, rule=rule)
+        tied = [
+            records.solution_text(solution, f"tie {number}")
+            for number, solution in enumerate(listed(ties, "ties"), 1)
+        ]
+        parts += [records.part("tie", text, number) for number, text in enumerate(tied, 1)]
+        others = dict(unique=unique, prices=prices, cover=cover, rule=rule)
         parts += [records.part(head, text) for head, text in others.items() if text is not None]
         return self._given + b"".join(parts)
 
@@ -196,13 +208,14 @@ class Auction:
     def certify(
         self,
         solutions: Iterable[Any] | None = None,
-        unique: bool = False,
+        ties: bool = False,
         time_limit: float | None = None,
     ) -> Certified:
         """Certifies each group's solution, and verifies that: a better solution replaces one that isn't optimal. Without
-        solutions the search begins from nothing, which may take long. With `unique` it is also proved that nobody else can
-        win with group 1's total, or shown who can. `time_limit` is in seconds, for each search. Raises Refused if `report`
-        does or a limit is reached, and Missing without numpy, scipy and swiglpk."""
+        solutions the search begins from nothing, which may take long. With `ties` it also finds who else can win with group 1's
+        total, and proves that nobody else can; it ends at 64 solutions beside the first, which is as many as an audit can list.
+        `time_limit` is in seconds, for each search. Raises Refused if `report` does or a limit is reached, and Missing without
+        numpy, scipy and swiglpk."""
         programs = [program.text.encode() for program in self.compile()]
         seconds = seconds_of(time_limit)
         if solutions is None:
@@ -211,21 +224,26 @@ class Auction:
             begun = [records.encoded(text, "solution") for text in solution_texts(solutions)]
             self.report(begun)
         found = [certify.certified(mps, text, seconds) for mps, text in zip(programs, begun)]
-        claims: dict[str, str | None] = {}
-        if unique and found:
-            only = certify.only(programs[0], found[0].solution, seconds)
-            claims[only.claim] = only.text.decode()
-        return self._certified(found, "certify", b"", claims)
+        claim = Claim()
+        if ties and found:
+            claim = claim_of(programs[0], found[0].solution, seconds)
+        return self._certified(found, solver="certify", claim=claim)
 
     def _certified(
-        self, found: list[Found], solver: str, parts: bytes, claims: dict[str, str | None]
+        self, found: list[Found], *, solver: str, claim: Claim, parts: bytes = b""
     ) -> Certified:
-        """What `wdp verify` says of solutions with what shows it; of other winners the claims are `unique`, or `tie`."""
-        made = Solutions(tuple(each.solution.decode() for each in found), solver)
-        shown = tuple(each.certificate.decode() for each in found)
-        audit = parts + self.input(made, shown, **claims)
-        report, both = self._report("verify", audit, 1), (claims.get("unique"), claims.get("tie"))
-        return Certified(report, made, shown, *both, audit)
+        """What `wdp verify` says of solutions with what shows it, and of what is claimed of others."""
+        solutions = Solutions(tuple(each.solution.decode() for each in found), solver)
+        certificates = tuple(each.certificate.decode() for each in found)
+        audit = self.input(solutions, certificates, unique=claim.unique, ties=claim.ties)
+        return Certified(
+            report=self._report("verify", parts + audit, workers=1),
+            solutions=solutions,
+            certificates=certificates,
+            unique=claim.unique,
+            ties=claim.ties,
+            audit=parts + audit,
+        )
 
     def prices(
         self, certified: Certified, solver: str | None = None, time_limit: float | None = None
@@ -259,8 +277,9 @@ class Auction:
         points = [each.solution for each in found]
         award = pricing.Award(self._given, programs[0].text.encode(), points, listed)
         priced = pricing.Search(award, solver=name, seconds=seconds).run()
-        claims = {"unique": certified.unique, "tie": certified.tie}
-        made = with_more(priced.added)._certified(found, name, priced.parts, claims)
+        grown = with_more(priced.added)
+        claim = Claim(certified.ties, certified.unique)
+        made = grown._certified(found, solver=name, claim=claim, parts=priced.parts)
         return replace(made, limit=priced.limit)
 
     def report(self, solutions: Iterable[Any], workers: int = 1) -> Report:
@@ -274,21 +293,29 @@ class Auction:
         solutions: Iterable[Any],
         certificates: Iterable[Text],
         unique: Text | None = None,
-        tie: Any = None,
+        ties: Iterable[Any] = (),
         workers: int = 1,
         *,
         prices: Text | None = None,
         cover: Text | None = None,
         rule: Text | None = None,
     ) -> Report:
-        """The same as `report`, proved: a certificate for each group shows that no total is greater. With `unique`, a
-        certificate that the solution of group 1 is the only optimal one, or `tie`, another solution with the same total, the
-        report's `uniqueness` is what that shows. With `prices`, a line `NAME PRICE` for each winner of group 1, and `cover`, a
+        """The same as `report`, proved: a certificate for each group shows that no total is greater. With `ties`, other solutions
+        of group 1 with the same total, the report has these, too, and with `unique`, a certificate that there are no others, all
+        awards. With `prices`, a line `NAME PRICE` for each winner of group 1, and `cover`, a
         certificate that they cover every group, perhaps with `rule`, which shows that they are those of the rule, the report
         has `prices`; docs/REFERENCE.md has these texts. Raises Refused if `report` does, if a certificate doesn't show its bound,
         and if a claim doesn't hold."""
-        given = self.input(solutions, certificates, unique, tie, prices, cover, rule)
-        return self._report("verify", given, workers)
+        audit = self.input(
+            solutions,
+            certificates,
+            unique=unique,
+            ties=ties,
+            prices=prices,
+            cover=cover,
+            rule=rule,
+        )
+        return self._report("verify", audit, workers)
 
     def map(self, solution: Any, group: int = 1) -> Allocation:
         """Winners and total in pounds of a solution of one group, by the group's number from 1. Raises Refused if it isn't a
@@ -302,6 +329,16 @@ class Auction:
         the profile that docs/REFERENCE.md describes."""
         text = mps_text.text if isinstance(mps_text, Program) else mps_text
         return answers.read_counts(self._answer(["check"], records.encoded(text, "program")))
+
+
+def claim_of(program: bytes, solution: bytes, seconds: float | None) -> Claim:
+    """All solutions that tie with an optimal one of a program, up to the limit of an audit."""
+    problem = certify.read_problem(program)
+    from wdp.certify.ties import find_ties
+
+    found = find_ties(problem, solution, seconds=seconds)
+    ties = tuple(point.decode() for point in found.points)
+    return Claim(ties, None if found.unique is None else found.unique.decode())
 
 
 def checked_solver(solver: str | None) -> str:

@@ -11,21 +11,24 @@ import secrets
 import shlex
 import tempfile
 from collections.abc import Callable, Collection, Iterator, Mapping, Sequence
-from dataclasses import dataclass, field
+from dataclasses import dataclass, field, replace
 from functools import partial
 from itertools import count, groupby
 from pathlib import Path
 from typing import TYPE_CHECKING
 
-from wdp import certify, files, groups, memory, prices, solve, steps
+from wdp import audits, certify, files, groups, memory, prices, solve, steps
 from wdp.cli import reported
 from wdp.folder import INPUT, Folder
 from wdp.office.choices import checked
 from wdp.office.faults import counted
+from wdp.office.judge import explained
 from wdp.program import Limits, answer, found_program
 from wdp.publish import command as publishing
+from wdp.publish.results import Results
 from wdp.steps import Step, Watch
 from wdp.texts import accepted, answers, certificates
+from wdp.texts.answers import MOST_TIES
 from wdp.texts.parts import MOST_OF_INPUT, groups_in, names_in, parts_of, with_groups
 from wdp.texts.refusals import NotSolved, Refused, WrongWords, need
 from wdp.texts.zero_one import read_program, read_solution, solution_text
@@ -36,7 +39,9 @@ if TYPE_CHECKING:
 
 NAMES = "programs/names.txt"  # the names that each group leaves out; there once all programs are
 ROWS = "inequalities.txt"  # multipliers of rows that group 1's search found to be of use
-REPORT, AUDIT, UNIQUE, PRICES = "report.txt", "audit.txt", "unique.txt", "prices.txt"
+REPORT, AUDIT, TIES, PRICES = "report.txt", "audit.txt", "ties.txt", "prices.txt"
+AWARDS = "awards"  # the folders of awards that were made the first
+UNPRICED = "unpriced.txt"  # the audit, without prices, that such a folder was made of
 UNCERTIFIED, PAGE, RESULTS = "report.uncertified.txt", "page.json", "results"
 WRONG = 3  # the status if an answer can't be the best one
 GIVEN_UP = 4  # that of a step whose search ended at its limit
@@ -106,7 +111,7 @@ class Run(Folder):
     jobs: int
     quiet: bool
     is_certified: bool
-    is_only: bool
+    finds_ties: bool
     is_priced: bool
     page: dict[str, str | None] | None
     shows: Callable[[str], None]
@@ -191,12 +196,39 @@ class Run(Folder):
                 self.leave(ROWS, found.rows.encode("ascii"))
             self.leave(solution, found.solution)
             self.leave(certificate, found.certificate)
-        if group == 1 and self.is_only and not self.has(UNIQUE):
-            with steps.ended_at_once():
-                problem = self.problem_of(group, program)
-                problem.known_rows = self.known_rows()
-                only = problem.only(self.read(solution), self.seconds)
-            self.leave(UNIQUE, part(only.claim, only.text))
+        if group == 1 and self.finds_ties and not self.has(TIES):
+            self.find_ties(program)
+
+    def find_ties(self, program: bytes) -> None:
+        """All solutions that tie with that of group 1, and the certificate that there are no others. What a run found that was cut is
+        taken over."""
+        from wdp.certify.search import LimitReached
+        from wdp.certify.ties import find_ties
+
+        with steps.ended_at_once():
+            problem = self.problem_of(1, program)
+            problem.known_rows = self.known_rows()
+        try:
+            found = find_ties(
+                problem,
+                self.read(of_group("solution", 1)),
+                [self.read(name) for name in self.kept("ties")],
+                seconds=self.seconds,
+                keep=partial(self.keep, "ties"),
+                at_once=steps.ended_at_once,
+            )
+        except LimitReached:
+            known = counted(1 + len(list(self.kept("ties"))), "award")
+            limit = f"the search for ties ended at its limit of {self.seconds} s"
+            raise NotSolved(f"{known} found; {limit}", GIVEN_UP) from None
+        unique = b"" if found.unique is None else part("unique", found.unique)
+        self.leave(TIES, part("tie", *found.points) + unique)
+
+    def ties(self) -> bytes:
+        """The parts of an audit that list what ties with the first award, as far as it is known."""
+        if self.has(TIES):
+            return self.read(TIES)
+        return part("tie", *(self.read(name) for name in self.kept("ties")))
 
     def taken_over(self, group: int) -> certify.Certified | None:
         """What shows a group that leaves out fewer, if its solution has no bid of the others: then no other is better here, and
@@ -291,7 +323,7 @@ class Run(Folder):
         program = self.read(of_group("program", 1))
         award = prices.Award(self.read(INPUT), program, solutions, [*names.values()])
         award.problem.known_rows = self.known_rows()
-        kept = list(self.allocations())
+        kept = list(self.kept("prices"))
         for name in kept:
             award.learn(self.read(name))
         if kept and not self.quiet:
@@ -303,7 +335,7 @@ class Run(Folder):
             at_once=steps.ended_at_once,
             log=self.log_of("prices"),
             say=lambda text: None if self.quiet else say(f"prices: {text}"),
-            keep=self.keep,
+            keep=partial(self.keep, "prices"),
         )
         priced = search.run()
         if priced.limit is not None:
@@ -313,17 +345,18 @@ class Run(Folder):
         lines = "".join(f"{names}\n" for names in added).encode()
         self.leave(PRICES, priced.parts + part("groups", lines))
 
-    def allocations(self) -> Iterator[str]:
-        """The files of the allocations that the search for prices found, in its order."""
+    def kept(self, folder: str) -> Iterator[str]:
+        """The files of what a search found, in its order, in the folder for it."""
         for number in count(1):
-            name = f"prices/{number}.txt"
+            name = f"{folder}/{number}.txt"
             if not self.has(name):
                 return
             yield name
 
-    def keep(self, allocation: bytes) -> None:
-        """Keeps an allocation that the search for prices found."""
-        self.leave(f"prices/{len(list(self.allocations())) + 1}.txt", allocation)
+    def keep(self, folder: str, solution: bytes) -> None:
+        """Keeps what a search found in the folder for it."""
+        number = len(list(self.kept(folder))) + 1
+        self.leave(f"{folder}/{number}.txt", solution)
 
     def report(self) -> None:
         """The report, with certificates the audit that `wdp verify` prints it of, and if a page is wanted the results."""
@@ -343,9 +376,9 @@ class Run(Folder):
             for name, text in made.items():
                 self.leave(name, text)
 
-    def audit(self, data: bytes, groups: list[int]) -> bytes:
+    def audit(self, data: bytes, groups: list[int], *, with_prices: bool = True) -> bytes:
         """The input with all that shows its report, and the prices if they are there with their groups."""
-        is_priced = self.is_priced and self.has(PRICES)
+        is_priced = with_prices and self.is_priced and self.has(PRICES)
         added = self.added() if is_priced else {}
         if not all(self.has(of_group("certificate", group)) for group in added):
             added, is_priced = {}, False
@@ -353,8 +386,7 @@ class Run(Folder):
         for kind in ("solution", "certificate"):
             audit += part(kind, *(self.read(of_group(kind, k)) for k in [*groups, *added]))
         audit += self.read(PRICES).rpartition(b"%groups\n")[0] if is_priced else b""
-        audit += self.read(UNIQUE) if self.has(UNIQUE) else b""
-        return audit + with_groups(data, added.values())
+        return audit + self.ties() + with_groups(data, added.values())
 
     def publish(self, data: bytes, report: bytes, audit: bytes | None) -> None:
         """Has the program judge what was found, and makes the tables and the page."""
@@ -369,12 +401,25 @@ class Run(Folder):
             for line in results.prices_table().text().splitlines():
                 self.shows(line)
             say(f"proved: {results.proved_of_prices()}")
+        self.tell_awards(results)
+
+    def tell_awards(self, results: Results) -> None:
+        """Says who else can win with the total of group 1, as far as that is known."""
+        if results["proof"] == "none":
+            return
+        table = results.ties_table()
+        if self.finds_ties and table.rows:
+            for line in table.text().splitlines():
+                self.shows(line)
+        say(results.told_of_awards())
+        if results["proof"] == "some" and self.has(TIES):
+            say(f"the search for ties ended at the limit of an audit, {MOST_TIES} beside the first")
 
     def is_done(self, group: int) -> bool:
         """Whether a group's step is done, as far as that is asked for; Refused if a file isn't what the step left."""
         kinds = ("solution", "certificate") if self.is_certified else ("answer",)
         wanted = [of_group(kind, group) for kind in kinds]
-        wanted += [UNIQUE] if self.is_only and group == 1 else []
+        wanted += [TIES] if self.finds_ties and group == 1 else []
         return all(self.has(name) and self.read(name) is not None for name in wanted)
 
     def solved(self, asked: dict[int, str]) -> bool:
@@ -473,28 +518,49 @@ class Run(Folder):
             which = f"; the report is {self.path(UNCERTIFIED)}" if is_kept else ""
             say(f"not certified: nothing shows that these totals are the greatest ones{which}")
             return 0
-        if self.has(UNIQUE):
-            is_tie = self.read(UNIQUE).startswith(b"%tie")
-            tie = "others reach the same total; who wins is for the auction's rules to say"
-            say(f"proved: {tie if is_tie else 'nobody else can win with the total of group 1'}")
-        elif self.is_only:
-            only = "whether others can win with the total of group 1"
-            say(f"not proved: {only}, since the search didn't end")
+        if self.finds_ties and not self.has(TIES):
+            what = "whether others can win with the total of group 1"
+            say(f"not proved: {what}, since the search didn't end")
         again = f"wdp verify < {shlex.quote(str(self.path(AUDIT)))} prints it again"
         which = f": the report is {self.path(REPORT)}, and {again}" if is_kept else ""
         say(f"each total is certified{which}")
-        return int(self.is_only and not self.has(UNIQUE))
+        return int(self.finds_ties and not self.has(TIES))
 
-    def in_place(self, data: bytes | None = None, step: str | None = None) -> int:
-        """Does all, or one step, in the folder, which stays."""
+    def in_place(self, data: bytes | None = None, step: str | None = None, award: int = 1) -> int:
+        """Does all, or one step, in the folder, which stays; and another award than the first in a folder of its own."""
         if not self.where.is_dir():
             raise Refused(f"{self.where} is no folder; --input FILE makes it, with the input")
         if step:
             with self.locked(alone=False):
                 return self.one_step(step)
-        with self.locked(alone=True), self.scratch():
-            self.take_input(data)
-            return self.through()
+        with self.locked(alone=True):
+            with self.scratch():
+                self.take_input(data)
+                status = self.through()
+            return status or self.with_first(award)
+
+    def with_first(self, award: int) -> int:
+        """Does all for an award that isn't the first of the audit, in a folder of its own, in which it is."""
+        if award == 1:
+            return 0
+        data = self.read(INPUT)
+        audit = self.read(AUDIT)
+        _, report = publishing.judged(self.program, "verify", audit)
+        audits.check_first(award, report.awards, explained(self.program, data, True).left_out)
+        unpriced = self.audit(data, list(self.names()), with_prices=False)
+        first = audits.with_first(unpriced, award)
+        own = replace(self, where=self.path(AWARDS) / str(award), page=None)
+        if not own.has(UNPRICED) or own.read(UNPRICED) != first:
+            files.remove(own.where)
+        own.where.mkdir(parents=True, exist_ok=True)
+        with own.locked(alone=True), own.scratch():
+            if not own.has(UNPRICED):
+                own.take_audit(first)
+                own.leave(UNPRICED, first)
+            status = own.through()
+        if not status:
+            say(f"award {award} is the first of {own.path(AUDIT)}")
+        return status
 
     def keep_page(self, page: dict[str, str | None]) -> None:
         """Title and currency stay as they were if nothing is said of them."""
@@ -545,20 +611,23 @@ class Run(Folder):
 
     def take_audit(self, audit: bytes) -> None:
         """Puts what an audit has into the folder, as if steps had left it, but for its prices, which are found anew."""
-        audit = publishing.without_prices(audit)
+        audit = audits.without_prices(audit)
         parts = list(parts_of(audit))
         publishing.judged(self.program, "verify", audit)
-        self.take_input(b"".join(it.head + it.text for it in parts if it.kind in accepted.KINDS))
+        self.take_input(audits.joined(part for part in parts if part.kind in accepted.KINDS))
         self.compile()
-        for kind in ("solution", "certificate"):
-            for group, text in enumerate((it.text for it in parts if it.kind == kind), 1):
-                if kind == "solution":
-                    program = read_program(self.read(of_group("program", group)))
-                    text = solution_text(read_solution(text, program, "a solution"), program)
-                self.leave(of_group(kind, group), text)
-        for it in parts:
-            if it.kind in ("unique", "tie"):
-                self.leave(UNIQUE, it.head + it.text)
+        solutions = [part.text for part in parts if part.kind == "solution"]
+        for group, text in enumerate(solutions, 1):
+            program = read_program(self.read(of_group("program", group)))
+            ones = read_solution(text, program, "a solution")
+            solution = audits.mark_of(text) + solution_text(ones, program)
+            self.leave(of_group("solution", group), solution)
+        shown = [part.text for part in parts if part.kind == "certificate"]
+        for group, text in enumerate(shown, 1):
+            self.leave(of_group("certificate", group), text)
+        ties = [part for part in parts if part.kind in ("tie", "unique")]
+        if ties:
+            self.leave(TIES, audits.joined(ties))
 
 
 def add_shared_words(parser: argparse.ArgumentParser) -> None:
@@ -570,7 +639,14 @@ def add_shared_words(parser: argparse.ArgumentParser) -> None:
     add("--jobs", type=jobs, default=processors, metavar="N", help=how)
     quiet = "print what fails and how the run ends, but no progress"
     add("--quiet", action="store_true", help=quiet)
-    parser.set_defaults(is_only=False, is_priced=True, is_certified=True, title=None, currency=None)
+    parser.set_defaults(
+        finds_ties=False,
+        award=None,
+        is_priced=True,
+        is_certified=True,
+        title=None,
+        currency=None,
+    )
 
 
 def add_words(parser: argparse.ArgumentParser) -> None:
@@ -582,8 +658,13 @@ def add_words(parser: argparse.ArgumentParser) -> None:
     given = "the input, which is copied to DIR/input.txt; `-` is standard input"
     add("--input", metavar="FILE", help=given)
     add_shared_words(parser)
-    ties = "prove that nobody else can win with the total of group 1, or find others who can"
-    add("--ties", dest="is_only", action="store_true", help=ties)
+    ties = "find all who can win with the total of group 1, and prove that nobody else can"
+    add("--ties", dest="finds_ties", action="store_true", help=ties)
+    number = checked("number of an award", int, lambda number: number >= 1)
+    award = (
+        f"--ties, and make award N of those the first, with prices of its own, in DIR/{AWARDS}/N"
+    )
+    add("--award", type=number, metavar="N", help=award)
     without = partial(add, action="store_false")
     without("--no-prices", dest="is_priced", help="leave out what the winners pay")
     says = f"report what the solver says, without certificates and prices: DIR/{UNCERTIFIED}"
@@ -604,13 +685,26 @@ def run_of(given: argparse.Namespace, folder: Path | None, shows: Callable[[str]
         need("a certificate", *certify.LIBRARIES)
     where = folder or Path(tempfile.gettempdir(), "auction." + secrets.token_hex(8))
     page = {"title": given.title, "currency": given.currency} if folder else None
-    how = given.time_limit, given.jobs, given.quiet, given.is_certified, given.is_only
-    return Run(where, program, solver, *how, given.is_certified and given.is_priced, page, shows)
+    return Run(
+        where=where,
+        program=program,
+        solver=solver,
+        seconds=given.time_limit,
+        jobs=given.jobs,
+        quiet=given.quiet,
+        is_certified=given.is_certified,
+        finds_ties=given.finds_ties or given.award is not None,
+        is_priced=given.is_certified and given.is_priced,
+        page=page,
+        shows=shows,
+    )
 
 
 def run(given: argparse.Namespace) -> int:
-    if given.is_only and not given.is_certified:
+    if (given.finds_ties or given.award) and not given.is_certified:
         raise WrongWords("--ties needs certificates, and --no-certify makes none")
+    if given.award and (given.step or not given.folder):
+        raise WrongWords("--award goes with DIR, and not with --step")
     own = run_of(given, given.folder, (lambda line: None) if given.quiet else say)
     if not given.folder:
         if given.step or given.input not in (None, "-") or given.title or given.currency:
@@ -620,7 +714,7 @@ def run(given: argparse.Namespace) -> int:
     data = files.read(given.input, MOST_OF_INPUT) if given.input else None
     if data is not None:
         given.folder.mkdir(parents=True, exist_ok=True)
-    return own.in_place(data, given.step)
+    return own.in_place(data, given.step, given.award or 1)
 
 
 def run_prices(given: argparse.Namespace) -> int:

@@ -68,11 +68,6 @@ class Allocation(Table):
 
 
 @dataclass(frozen=True)
-class Tie(Allocation):
-    """Another allocation whose total is that of group 1."""
-
-
-@dataclass(frozen=True)
 class Group(Allocation):
     """The outcome of a group: its number from 1, the names of the bidders that are left out, winners, total and opportunity
     cost in pounds: how much more the others and the value of unsold lots would bring without it."""
@@ -112,13 +107,20 @@ class Report(Table, Sequence[Group]):
     """The outcome of each group: by its place, or one after the other. `is_certified` is whether certificates showed that
     each total is the greatest one: without them it is the solver's word.
 
-    `uniqueness` is what is proved of group 1: 'unasked', 'only' if no other allocation has so great a total, or a Tie.
+    `ties` are other allocations of group 1's total that are known, in the order of the program. `has_all_awards` is whether it is
+    proved that besides these and group 1's own no allocation has so great a total.
     `prices` are those that the input gave, if it did."""
 
     groups: tuple[Group, ...]
     is_certified: bool = False
-    uniqueness: str | Tie = "unasked"
+    ties: tuple[Allocation, ...] = ()
+    has_all_awards: bool = False
     prices: Prices | None = None
+
+    @property
+    def awards(self) -> tuple[Allocation, ...]:
+        """The allocations of group 1's total that are known, numbered from 1 in this order: its own, and those that tie with it."""
+        return (*self.groups[:1], *self.ties)
 
     def __len__(self) -> int:
         return len(self.groups)
@@ -223,15 +225,16 @@ class Solutions(Sequence[str]):
 
 @dataclass(frozen=True)
 class Certified:
-    """A certified outcome: the report, the solutions that are optimal, and the certificate of each; what is proved of other winners
-    of group 1, if asked; and the audit, an input of which `wdp verify` prints the report. If prices aren't shown to be those of
-    the rule, `limit` says which limit of the formats exact ones are beyond."""
+    """A certified outcome: the report, the solutions that are optimal, and the certificate of each; if asked, the solutions of group
+    1 that tie with the first, and `unique`, the certificate that there are no others, if they aren't too many for an audit; and the
+    audit, an input of which `wdp verify` prints the report. If prices aren't shown to be those of the rule, `limit` says which limit
+    of the formats exact ones are beyond."""
 
     report: Report
     solutions: Solutions
     certificates: tuple[str, ...]
     unique: str | None
-    tie: str | None
+    ties: tuple[str, ...]
     audit: bytes = field(repr=False)
     limit: str | None = None
 

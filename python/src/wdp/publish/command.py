@@ -8,22 +8,23 @@ them. --text prints the same tables for people, with or without these files.
 what wdp prints after REPORT of prices and of other winners is proved, and DIR also gets audit.txt, with which anyone can
 repeat the audit. Nothing else certifies a result.
 
---drawn publishes the other award of a tie, if the lot fell on it, with an audit in which it comes first.
+--drawn N publishes award N of those that tie, if it was drawn, with an audit in which it comes first.
 Exit status: 0 the files are written; 1 a text is refused or a package is missing; 2 the options are wrong.
 """
 import argparse
-from collections.abc import Callable
+from collections.abc import Callable, Sequence
 from dataclasses import dataclass
 from itertools import islice
 
+from wdp import audits
 from wdp.files import put, read, tell, write_folder
 from wdp.office import choices
 from wdp.office.faults import quoted
 from wdp.office.judge import explained
 from wdp.office.sheets import read_pairs
 from wdp.program import Limits, answer, found_program
-from wdp.publish.results import AUDIT, Results, figures_of
-from wdp.results import Report, Tie
+from wdp.publish.results import AUDIT, Results, figures_of, figures_of_awards
+from wdp.results import Allocation, Report
 from wdp.texts import accepted
 from wdp.texts.accepted import Accepted, Rules
 from wdp.texts.answers import GROUP, Asked, read_report
@@ -35,14 +36,6 @@ from wdp.texts.tables import digest_of
 MOST_OF_AN_AUDIT = 2**31
 LONGEST, LONGEST_NAME = {"title": 200, "currency": 20}, 100
 TITLE = "Results of the auction"
-OF_PRICES = (
-    "prices",
-    "cover",
-    "rule",
-    "weights",
-)  # kinds of parts; `weights` is of an earlier version
-# of an award the audit that has it first, and what the program prints of that, as it is and as a report
-Award = tuple[bytes | None, bytes, Report]
 
 
 @dataclass(frozen=True)
@@ -55,12 +48,43 @@ class Given:
     data: bytes
     report: bytes
     audit: bytes | None = None
-    is_drawn: bool = False
+    drawn: int | None = None
     sources: tuple[str, str, str] = ("the input", "the report", "the audit")
     title: str = TITLE
     currency: str | None = None
     names: str | None = None
     is_kept: bool = False
+
+
+@dataclass(frozen=True)
+class Judged:
+    """What the program prints of an input, as it is and as a report; and of an audit its bytes, and the numbers of the awards that it
+    lists."""
+
+    program: str
+    printed: bytes
+    report: Report
+    audit: bytes | None = None
+    numbers: Sequence[int] = (1,)
+
+    @classmethod
+    def of(cls, program: str, audit: bytes) -> "Judged":
+        printed, report = judged(program, "verify", audit)
+        return cls(program, printed, report, audit=audit, numbers=audits.numbers_in(audit))
+
+    def with_first(self, number: int) -> "Judged":
+        """The same of the audit in which this award is the first."""
+        assert self.audit is not None
+        return Judged.of(self.program, audits.with_first(self.audit, number))
+
+
+@dataclass(frozen=True)
+class Published:
+    """The award that is published, with all that are known to tie, by their numbers, and its own number."""
+
+    judged: Judged
+    awards: Sequence[Allocation]
+    number: int = 1
 
 
 def is_line(text: object, longest: int) -> bool:
@@ -86,7 +110,9 @@ def add_words(parser: argparse.ArgumentParser) -> None:
     names = "a file with a row `code,name` for each bidder or category that has another name"
     add("--names", metavar="FILE", type=choices.path, help=names)
     add("--audit", metavar="FILE", help="what `wdp verify` reads, with INPUT at its end")
-    add("--drawn", action="store_true", help="publish the tied award, since the lot fell on it")
+    number = choices.checked("number of an award", int, lambda number: number >= 1)
+    drawn = "publish this award of those that tie, since it was drawn"
+    add("--drawn", type=number, metavar="N", help=drawn)
 
 
 def read_names(path: str, rules: Rules, regular: bool) -> dict[str, str]:
@@ -138,7 +164,7 @@ def judged(program: str, command: str, text: bytes) -> tuple[bytes, Report]:
     return output, read_report(output, asked, command == "verify")
 
 
-def of_report(given: Given, auction: Accepted) -> Award:
+def of_report(given: Given, auction: Accepted) -> Published:
     """The award of a report without an audit, once the program prints it again of its winners."""
     text, source = given.report, given.sources[1]
     try:
@@ -154,44 +180,32 @@ def of_report(given: Given, auction: Accepted) -> Award:
             raise Refused(f"{source}: line {number}: {why}")
     if fault := disproved(report):
         raise Refused(f"{source}: {fault}; nothing is published")
-    return None, text, report
+    return Published(Judged(given.program, text, report), awards=report.awards)
 
 
-def without_prices(audit: bytes) -> bytes:
-    """The audit without its prices and what shows them, as this version has them or an earlier one."""
-    parts = [part for part in parts_of(audit) if part.kind not in OF_PRICES]
-    return b"".join(part.head + part.text for part in parts)
-
-
-def with_tie_first(audit: bytes) -> bytes:
-    """The audit with group 1's solution and the one that ties in each other's place, without the first one's prices."""
-    parts = list(parts_of(without_prices(audit)))
-    kinds, texts = [part.kind for part in parts], [part.text for part in parts]
-    one, two = kinds.index("solution"), kinds.index("tie")
-    texts[one], texts[two] = texts[two], texts[one]
-    return b"".join(part.head + text for part, text in zip(parts, texts))
-
-
-def awards_in(given: Given, audit: bytes, count: int) -> list[Award]:
-    """The awards that an audit shows, the published one first. Either award of a tie may be the first of an audit; the report is
-    that of the one that wasn't drawn."""
+def of_audit(given: Given, audit: bytes, count: int) -> Published:
+    """The award of an audit that is published: its first one, or the one that was drawn. The report is that of the audit, or, if an
+    award was drawn, that of award 1 too."""
     source = given.sources[2]
     try:
-        printed, report = judged(given.program, "verify", audit)
-        awards: list[Award] = [(audit, printed, report)]
-        if isinstance(report.uniqueness, Tie):
-            tied = with_tie_first(audit)
-            awards.append((tied, *judged(given.program, "verify", tied)))
+        own = Judged.of(given.program, audit)
+        listed = own if own.numbers[:1] == [1] else own.with_first(1)
     except Refused as error:
         raise Refused(f"{source}: wdp verify refuses it: {error.text}") from None
-    if given.is_drawn and len(awards) == 1:
-        raise WrongWords(f"--drawn: {source} shows no tie, so that nothing was drawn")
-    if given.is_drawn and report_in(printed, count) == given.report:
-        awards.reverse()
-    _, undrawn, _ = awards[-1] if given.is_drawn else awards[0]
-    if report_in(undrawn, count) != given.report:
+    reports = [report_in(own.printed, count)]
+    if given.drawn is not None:
+        reports.append(report_in(listed.printed, count))
+    if given.report not in reports:
         raise Refused(f"{source}: what wdp verify prints of it isn't the report")
-    return awards
+    awards = listed.report.awards
+    if given.drawn is not None and len(awards) == 1:
+        raise WrongWords(f"--drawn: {source} shows no tie, so that nothing was drawn")
+    if given.drawn in (None, own.numbers[0]):
+        return Published(own, awards=awards, number=own.numbers[0])
+    left_out = explained(given.program, given.data, True).left_out
+    number = given.drawn or 1
+    audits.check_first(number, awards, left_out)
+    return Published(own.with_first(number), awards=awards, number=number)
 
 
 def report_in(output: bytes, count: int) -> bytes:
@@ -214,8 +228,8 @@ def with_added(given: Given, audit: bytes) -> bytes:
 
 def results_from(given: Given) -> Results:
     """The figures of an input and its report, with the audit that is published with them."""
-    if given.is_drawn and given.audit is None:
-        raise WrongWords("--drawn needs --audit, whose tie was drawn")
+    if given.drawn is not None and given.audit is None:
+        raise WrongWords("--drawn needs --audit, which has the award that was drawn")
     found, source = explained(given.program, given.data, True), given.sources[0]
     if found.findings:
         hint = f"wdp-office explain {source} says where"
@@ -226,17 +240,24 @@ def results_from(given: Given) -> Results:
     names = read_names(given.names, auction.rules, given.is_kept) if given.names else {}
     count, grown = len(auction.groups), b""
     if given.audit is None:
-        awards = [of_report(given, auction)]
+        published = of_report(given, auction)
     else:
         grown = with_added(given, given.audit)
-        awards = awards_in(given, given.audit, count)
-    (audit, printed, report), *others = awards
-    other = others[0][-1] if others else None
+        published = of_audit(given, given.audit, count)
+    audit, printed = published.judged.audit, published.judged.printed
     figures = {
-        "certified": report.is_certified,
+        "certified": published.judged.report.is_certified,
         "title": given.title,
         "currency": given.currency,
-        **figures_of(auction, report, other, given.is_drawn),
+        **figures_of(auction, published.judged.report),
+        **figures_of_awards(
+            auction,
+            published.judged.report,
+            awards=published.awards,
+            number=published.number,
+            drawn=given.drawn,
+            left_out=found.left_out,
+        ),
         "left_out": [{"bidder": bidder, "why": why} for bidder, why in found.left_out],
         "names": names,
         "input_sha256": digest_of(given.data),
@@ -268,8 +289,19 @@ def run(given: argparse.Namespace) -> int:
     data, report = read(given.input, MOST_OF_INPUT), read(given.report, MOST_OF_INPUT)
     audit = read(given.audit, MOST_OF_AN_AUDIT) if given.audit else None
     sources = given.input, given.report, given.audit or ""
-    about = given.drawn, sources, given.title, given.currency, given.names
-    results = results_from(Given(found_program(given.program), data, report, audit, *about))
+    results = results_from(
+        Given(
+            program=found_program(given.program),
+            data=data,
+            report=report,
+            audit=audit,
+            drawn=given.drawn,
+            sources=sources,
+            title=given.title,
+            currency=given.currency,
+            names=given.names,
+        )
+    )
     if given.output is not None:
         tell(f"results: {publish(results, given.output)} files in {given.output}\n")
     if given.text:

@@ -7,7 +7,8 @@ from pathlib import Path
 from typing import Any, NamedTuple, cast
 
 from wdp.office.faults import Cell, aligned, figure, printed
-from wdp.results import Group, Report
+from wdp.audits import left_out_bid
+from wdp.results import Allocation, Report
 from wdp.texts.accepted import Accepted
 from wdp.texts.refusals import need
 from wdp.texts.tables import field_text
@@ -34,6 +35,7 @@ GROUPS |= {"Paid": "paid", "Winners": "winners"}
 GROUPS_CSV = {it: GROUPS[it] for it in ("Group", "Left out", "Winners", "Total")}
 GROUPS_CSV |= {"Opportunity cost": "cost", "Paid": "paid", "Added": "is_added"}
 LEFT_OUT = {"Bidder": "bidder", "Bid": "why"}
+TIES = "Award", "Bidders who don't win the same", "Opportunity costs"
 # headings of columns that are added up, figures that are amounts, and words in the place of a figure that there isn't
 SUMMED = {"Amount", "Alone", "Exact price", "Price", "Reserve", "Lots"}
 SUMMED |= {"Supply", "Sold", "Unsold", "Value left"}
@@ -44,8 +46,8 @@ BLANKS = NOT_ASKED_FOR, NONE_WON, NO_BIDS = "not asked for", "none won", "no bid
 Figures = dict[str, Any]  # of the whole, or of a bidder, a group and so on
 
 
-def won_in(group: Group, auction: Accepted) -> list[Figures]:
-    bids = [(won, auction.bids[won.bidder][won.bid - 1]) for won in group.winners]
+def won_in(award: Allocation, auction: Accepted) -> list[Figures]:
+    bids = [(won, auction.bids[won.bidder][won.bid - 1]) for won in award.winners]
     return [
         {"name": won.bidder, "bid": won.bid, "amount": won.amount, "lots": list(bid.lots)}
         for won, bid in bids
@@ -182,19 +184,52 @@ class Results(Figures):
             sums += f", and the unsold lots have a value of {self.money(self['value_left'])}"
             sums += f", in all {self.money(self['total'])}"
         prices = f"Proved: {self.proved_of_prices()}." if self["prices"] else ""
-        if prices and self["tied_award"]:
+        if prices and len(self["awards"]) > 1:
             prices += " They belong to the winners of this page; "
-            prices += "by the other award there are others, perhaps of another sum."
-        proof = "Proved: another award reaches the same total, and none reaches more. The audit shows it."
-        if self["proof"] == "only":
-            proof = "Proved: these are the only winners. No other combination of bids reaches the same total. The audit shows it."
-        elif self["proof"] == "none":
-            proof = "Whether others reach the same total isn't shown."
-        elif self["is_drawn"]:
-            proof += " Which of the two holds was drawn by lot, and the lot fell on the award of this page."
-        else:
-            proof += " Which one holds, as by lot, is for the auction's rules to say."
+            prices += "by another award there are others, perhaps of another sum."
+        proof = f"{self.proved_of_awards()}{self.choice_of_award()}"
         return {"certified": certified, "sums": sums + ".", "prices": prices, "proof": proof}
+
+    def proved_of_awards(self) -> str:
+        """A sentence about all awards of this total."""
+        count = len(self["awards"])
+        if self["proof"] == "none":
+            return "Whether others reach the same total isn't shown."
+        if self["proof"] == "some":
+            return (
+                f"Proved: at least these {count} awards reach the same total, and none reaches more. "
+                "That there are no others isn't shown: don't draw from these alone."
+            )
+        if count == 1:
+            return (
+                "Proved: these are the only winners. "
+                "No other combination of bids reaches the same total. The audit shows it."
+            )
+        return f"Proved: these {count} awards, and no other, reach the greatest total. The audit shows it."
+
+    def told_of_awards(self) -> str:
+        """The same of what is proved as a message of a run."""
+        count = len(self["awards"])
+        if self["proof"] == "some":
+            return f"at least these {count} awards reach the total of group 1: don't draw from these alone"
+        if count == 1:
+            return "proved: nobody else can win with the total of group 1"
+        rules = "which one holds is for the auction's rules to say"
+        return f"proved: these {count} awards, and no other, reach the total of group 1; {rules}"
+
+    def choice_of_award(self) -> str:
+        """Of several awards a sentence about the one of this page; else nothing."""
+        if self["drawn"] is not None:
+            return (
+                f" A draw decided between the awards, and this page shows award {self['drawn']}, "
+                "which was drawn."
+            )
+        if len(self["awards"]) == 1:
+            return ""
+        return (
+            f" This page shows award {self['award']}. "
+            "Which award holds is for the auction's rules to say, perhaps by a draw."
+        )
 
     def cell(self, key: str, of: Figures) -> Cell:
         """A figure as tables for people have it."""
@@ -248,24 +283,49 @@ class Results(Figures):
         return None if winner["cost"] is None else max(winner["cost"], winner["reserve"])
 
     def ties_table(self) -> Table:
-        """What differs between the award of the page and the other one: a row for each bidder who doesn't win the same in both,
-        then one for each group whose cost isn't the same."""
+        """The awards that tie, a row for each: what bidders win in it and what groups cost by it, of those for whom this isn't the
+        same by all awards."""
+        awards = self["awards"]
+        wins = [{won["name"]: self.won_text(won) for won in award["winners"]} for award in awards]
+        bidders = [
+            bidder["name"]
+            for bidder in self["bidders"]
+            if len({win.get(bidder["name"]) for win in wins}) > 1
+        ]
+        groups = [
+            place
+            for place in range(len(self["groups"]))
+            if len({award["costs"][place] for award in awards}) > 1
+        ]
+        rows = [
+            (self.award_text(award), self.wins_text(win, bidders), self.costs_text(award, groups))
+            for award, win in zip(awards, wins, strict=True)
+        ]
+        return Table("ties", [*TIES], rows if len(awards) > 1 else [])
 
-        def won_text(won: Figures) -> str:
-            return f"{won['amount']:,} for {self.lots_text(won['lots'])} (bid {won['bid']:,})"
+    def award_text(self, award: Figures) -> str:
+        """An award's number, and what is to be said of it."""
+        notes = []
+        if award["number"] == self["award"]:
+            notes.append("this page")
+        if not award["can_be_first"]:
+            notes.append("has a bid in no program")
+        return f"{award['number']} ({', '.join(notes)})" if notes else str(award["number"])
 
-        rows: list[Sequence[Cell]] = []
-        if other := self["tied_award"]:
-            winners = self["groups"][0]["winners"], other["winners"]
-            awards = [{won["name"]: won_text(won) for won in award} for award in winners]
-            for bidder in self["bidders"]:
-                pair = [award.get(bidder["name"], "nothing") for award in awards]
-                if pair[0] != pair[1]:
-                    rows.append([self.called(bidder["name"]), *pair])
-            for group, cost in zip(self["groups"], other["costs"]):
-                if group["cost"] != cost:
-                    rows.append([f"Cost of {', '.join(group['left_out'])}", group["cost"], cost])
-        return Table("ties", ["Bidder, cost", "Award of this page", "Other award"], rows)
+    def won_text(self, won: Figures) -> str:
+        return f"{won['amount']:,} for {self.lots_text(won['lots'])} (bid {won['bid']:,})"
+
+    def wins_text(self, win: dict[str, str], bidders: Sequence[str]) -> str:
+        """What these bidders win in an award."""
+        return "; ".join(f"{self.called(name)}: {win.get(name, 'nothing')}" for name in bidders)
+
+    def costs_text(self, award: Figures, groups: Sequence[int]) -> str:
+        """What the groups at these places cost by an award."""
+        costs = [
+            f"{' + '.join(self['groups'][place]['left_out'])}: {award['costs'][place]:,}"
+            for place in groups
+        ]
+        return "; ".join(costs) or "the same"
 
     def tables(self) -> list[Table]:
         """All tables that have a row, in the order of the page."""
@@ -339,9 +399,8 @@ def bound_in(report: Report) -> list[int]:
     ]
 
 
-def figures_of(auction: Accepted, report: Report, other: Report | None, is_drawn: bool) -> Figures:
-    """The figures of an auction from its input and its report. `other` is the report by the other award of a tie, if one is shown,
-    and `is_drawn` whether a draw decided between the two."""
+def figures_of(auction: Accepted, report: Report) -> Figures:
+    """The figures of an auction from its input and its report."""
     groups, prices = groups_of(report, auction), report.prices
     won = groups[0]["winners"]
     bidders = list(bidders_of(won, report, auction))
@@ -350,7 +409,6 @@ def figures_of(auction: Accepted, report: Report, other: Report | None, is_drawn
     loads = [(pool, auction.rules.load(pool, sold)) for pool in auction.rules.pools]
     reserves = [x["name"] for x in bidders if x["bid"] and x["exact_price"] == str(x["reserve"])]
     shown: Figures = {"groups": bound_in(report), "reserves": reserves}
-    costs = [group.cost for group in other.groups] if other else []
     return {
         "total": report.groups[0].total,
         "amounts": sum(each["amount"] for each in won),
@@ -369,7 +427,40 @@ def figures_of(auction: Accepted, report: Report, other: Report | None, is_drawn
             "is_by_rule": prices.is_by_rule,
             **shown,
         },
-        "proof": "tie" if other else "only" if report.uniqueness == "only" else "none",
-        "is_drawn": is_drawn,
-        "tied_award": other and {"winners": won_in(other.groups[0], auction), "costs": costs},
     }
+
+
+def figures_of_awards(
+    auction: Accepted,
+    report: Report,
+    *,
+    awards: Sequence[Allocation],
+    number: int,
+    drawn: int | None,
+    left_out: Sequence[tuple[str, str]],
+) -> Figures:
+    """The figures of all awards that are known to tie, by their numbers. The report is of the one of this number."""
+    proof = "some" if len(awards) > 1 else "none"
+    return {
+        "proof": "all" if report.has_all_awards else proof,
+        "award": number,
+        "drawn": drawn,
+        "awards": [
+            {
+                "number": place,
+                "winners": won_in(award, auction),
+                "costs": costs_by(award, report),
+                "can_be_first": left_out_bid(award, left_out) is None,
+            }
+            for place, award in enumerate(awards, 1)
+        ],
+    }
+
+
+def costs_by(award: Allocation, report: Report) -> list[int]:
+    """What each group of a report costs by another award of the same total."""
+    amounts = {won.bidder: won.amount for won in award.winners}
+    return [
+        group.total - award.total + sum(amounts.get(name, 0) for name in group.names)
+        for group in report.groups
+    ]

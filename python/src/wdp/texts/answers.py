@@ -7,14 +7,15 @@ from fractions import Fraction
 from functools import cached_property
 
 from wdp.texts.refusals import Unclear, escaped
-from wdp.results import Allocation, Counts, Group, Prices, Program, Report, Tie, Winner
+from wdp.results import Allocation, Counts, Group, Prices, Program, Report, Winner
 from wdp.texts.accepted import Bid, form_of
 from wdp.texts.parts import groups_in, names_in, parts_of
 
 NAME = "[A-Za-z][A-Za-z0-9]{0,15}"
 HEAD = rf"([1-9][0-9]{{0,3}}) (-|{NAME}(?:\+{NAME})*)\n"
 TOTAL = "(0|[1-9][0-9]{0,29})\n"
-WON = rf"((?:{NAME} [1-9][0-9]{{0,3}} [1-9][0-9]{{0,12}}\n)*)total {TOTAL}"
+WINNERS = rf"(?:{NAME} [1-9][0-9]{{0,3}} [1-9][0-9]{{0,12}}\n)*"
+WON = rf"({WINNERS})total {TOTAL}"
 SIZE = "(0|[1-9][0-9]{0,17})"
 PROGRAM = re.compile(rf"^\* program {HEAD}", re.MULTILINE)
 ALLOCATION = re.compile(WON)
@@ -26,10 +27,12 @@ PAID = rf"{NAME} {WHOLE}(?: {FRACTION})?\n"
 PRICES = re.compile(
     rf"prices\n((?:{PAID})*)sum ({WHOLE})(?: ({FRACTION}|{WHOLE}))?\n(by the rule\n)?"
 )
-CLAIM = re.compile(rf"unique\n|tie\n{WON}")
+TIE = re.compile(rf"tie\n{WON}")
+TIES = re.compile(rf"((?:tie\n{WINNERS}total {WHOLE}\n)*)(?:(unique|no other|and more)\n)?")
 COUNTS = re.compile(rf"rows {SIZE} columns {SIZE} entries {SIZE}\n")
 END = re.compile(r"\Z")
 
+MOST_TIES = 64  # that an input lists beside group 1's solution, and that the program prints
 # bytes that a group has at most in a report: 256 winners of 36 bytes, as many names, and two lines
 MOST_OF_GROUP = 16_384
 # bytes that a byte of a form has at most in a program: a bid of 4 bytes loads 16 pools, in as many lines of 27 bytes, and has
@@ -38,16 +41,20 @@ MOST_OF_BYTE = 140
 
 
 class Asked:
-    """What an input asks for, which an answer is compared with: its groups, whether prices are given and something is
-    claimed, and how many bytes an answer has at most; and the lots of its bids."""
+    """What an input asks for, which an answer is compared with: its groups, whether prices are given, how many solutions of group 1
+    tie and whether these are claimed to be all, and how many bytes an answer has at most; and the lots of its bids.
+    """
 
     def __init__(self, given: bytes) -> None:
         parts = list(parts_of(given))
-        kinds = {part.kind for part in parts}
-        self.is_claimed, self.is_priced = bool({"unique", "tie"} & kinds), "prices" in kinds
+        kinds = [part.kind for part in parts]
+        self.is_priced = "prices" in kinds
+        self.has_unique = "unique" in kinds
+        self.ties = kinds.count("tie")
         self.groups = [set(line.split("+")) - {"-"} for line in groups_in(given)]
         count = len(self.groups) + 2
-        self.most_of_report = count * MOST_OF_GROUP
+        ties = MOST_TIES if self.has_unique else self.ties
+        self.most_of_report = (count + ties) * MOST_OF_GROUP
         self.most_of_programs = count * (MOST_OF_GROUP + MOST_OF_BYTE * len(given))
         rules = (row for part in parts if part.kind == "rules" for row in part.rows())
         self._categories = names_in(rules, "category")
@@ -117,18 +124,41 @@ def read_map(output: bytes, asked: Asked) -> Allocation:
 
 
 def read_report(output: bytes, asked: Asked, is_certified: bool) -> Report:
-    more = [PRICES] * asked.is_priced + [CLAIM] * asked.is_claimed
-    found, groups = iter(pieces(output, *[GROUP] * len(asked.groups), *more)), []
+    more = [PRICES] if asked.is_priced else []
+    found = iter(pieces(output, *[GROUP] * len(asked.groups), *more, TIES))
+    groups = []
     for group in range(1, len(asked.groups) + 1):
         number, left_out, won, total, cost = next(found).groups()
         names = names_of_head(number, left_out, group, asked)
         groups.append(Group(asked.winners(won), int(total), group, names, int(cost)))
     prices = prices_of(next(found), groups[0].winners) if asked.is_priced else None
-    uniqueness: str | Tie = "unasked"
-    if asked.is_claimed:
-        won, total = next(found).groups()
-        uniqueness = Tie(asked.winners(won), int(total)) if total else "only"
-    return Report(tuple(groups), is_certified, uniqueness, prices)
+    text, last = next(found).groups()
+    ties = [Allocation(asked.winners(won), int(total)) for won, total in TIE.findall(text)]
+    check_ties(ties, last, groups, asked)
+    return Report(
+        groups=tuple(groups),
+        is_certified=is_certified,
+        ties=tuple(ties),
+        has_all_awards=last in ("unique", "no other"),
+        prices=prices,
+    )
+
+
+def check_ties(
+    ties: Sequence[Allocation], last: str | None, groups: Sequence[Group], asked: Asked
+) -> None:
+    """Unclear if these ties with the last line after them can't follow from what the input asks for."""
+    least, most = {
+        None: (asked.ties, asked.ties),
+        "unique": (asked.ties, 0),
+        "no other": (max(asked.ties, 1), MOST_TIES),
+        "and more": (MOST_TIES, MOST_TIES),
+    }[last]
+    if (last is not None) != asked.has_unique or not least <= len(ties) <= most:
+        lines = f"{len(ties)} ties and {last!r}" if last else f"{len(ties)} ties"
+        raise unclear(f"it ends with {lines}, and the input has {asked.ties}")
+    if any(tie.total != groups[0].total for tie in ties):
+        raise unclear("a tie hasn't the total of group 1")
 
 
 def prices_of(found: re.Match[str], winners: Sequence[Winner]) -> Prices:

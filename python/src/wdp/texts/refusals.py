@@ -6,7 +6,7 @@ LONGEST = 500  # signs of a text that a message shows
 
 # a refusal with a kind: a part, its number if there are several, the kind, and the place
 WITH_KIND = re.compile(
-    r"wdp: (?P<part>rules|groups|program|unique|tie|prices|cover|rule|(?:form|solution|certificate) (?P<number>[0-9]{1,9})): "
+    r"wdp: (?P<part>rules|groups|program|unique|tie|prices|cover|rule|(?:form|solution|certificate|tie) (?P<number>[0-9]{1,9})): "
     r"(?:(?P<kind_number>[0-9]{1,2}) )?(?P<kind>[A-Z][A-Za-z]+)"
     r"(?: (?!at )(?P<winner>[A-Za-z][A-Za-z0-9]{0,15}))?"
     r"(?: at (?:record (?P<record>[0-9]{1,18})|line (?P<line>[0-9]{1,18})|(?:row|column) (?P<name>[A-Za-z0-9_]+)))?"
@@ -15,11 +15,11 @@ WITH_KIND = re.compile(
 
 # a refusal in words: of a part, perhaps with a number, or else of what is written
 IN_WORDS = re.compile(
-    r"wdp: (?:(?P<part>input|groups|tie|desk): )?"
+    r"wdp: (?:(?P<part>input|groups|tie(?: [0-9]{1,9})?|desk): )?"
     r"(?:read failed|too large|bytes before the first part|wrong answer|write failed after [0-9]{1,18} bytes"
     r"|(?:no group|group|part) (?P<number>[0-9]{1,9})(?: is not empty| not known)?(?:: %weights is of version 1, .*)?"
-    r"|wrong number of (?:rules|groups|solutions|certificates|unique and tie|prices|covers|price rules)"
-    r"|total below that of group 1|same winners as group 1)"
+    r"|wrong number of (?:rules|groups|solutions|certificates|unique and tie|ties|prices|covers|price rules)"
+    r"|total below that of group 1|same winners as (?:group 1|tie [0-9]{1,9}))"
 )
 
 
@@ -44,7 +44,7 @@ class Refused(ValueError):
     Each piece of the program's refusal is an attribute, as in docs/REFERENCE.md, or None if the line doesn't say it:
 
     - `part`: input, rules, form, groups, program, solution, certificate, unique, tie, prices, cover, rule, output or desk
-    - `number`: that of the form, solution, certificate, part of the input or group, from 1
+    - `number`: that of the form, solution, certificate, tie, part of the input or group, from 1
     - `kind_number` and `kind`: 13 and RepeatedPackage
     - `record` of rules or a form, or `line` of another text, from 1, 0 if the text has none; `at`: one of these, or the name of
       the row or column that is broken
@@ -70,7 +70,8 @@ class Refused(ValueError):
         whole = {name: int(value) for name, value in said.items() if value and value.isdecimal()}
         self.part, self.number = part, number
         if found:
-            self.part, self.number = (said["part"] or "output").split()[0], whole.get("number")
+            self.part, *counted = (said["part"] or "output").split()
+            self.number = int(counted[0]) if counted else whole.get("number")
         self.kind: str | None = said.get("kind")
         self.kind_number: int | None = whole.get("kind_number")
         self.record: int | None = whole.get("record")
