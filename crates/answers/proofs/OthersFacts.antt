@@ -156,6 +156,7 @@ module _ (auction : Auction) (within : IsBook auction.sale.lots auction.sale.boo
         others_differ first a first_rises rises e,
         other-than 1 before a rising rises (no-fault tie.SameAsTie (same_tie 1 before a) none),
       )
+
       by : (fine : Bool) → nat_le (total sale.lots sale.book first) (total sale.lots sale.book a) ≡ fine
           → (if fine then same_winners first before a else Some tie.LowerTotal) ≡ None → Good before a
       by false e none = cc

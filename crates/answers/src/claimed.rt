@@ -58,11 +58,7 @@ fn tie_number(auction: &Auction<'_>, number: usize) -> Option<usize>
 }
 
 // A fault of the text of a tie, with the name of what it breaks.
-fn tie_fault(
-    alloc: Global,
-    program: &Program,
-    fault: SolutionFault,
-) -> Result<TieFault, AllocError>
+fn tie_fault(alloc: Global, program: &Program, fault: SolutionFault) -> Result<TieFault, AllocError>
     ensures { IfOk result (λ f. f ≡ claimed.tie_fault program.now fault) }
 {
     match fault {

@@ -1,9 +1,9 @@
 //! The words of a refusal.
 
-ghost use Rattle.std.specs.Prelude.{◌≡◌, ◌++◌, codes, decimal};
+ghost use Rattle.std.specs.Prelude.{◌≡◌, ◌++◌, codes, decimal, option_map};
 ghost use Rattle.auction_input.specs.Message.{message_text};
 ghost use Rattle.auction_terms.specs.Wording.{wording_text};
-ghost use Rattle.auction_input.specs.Line.{refusal_text, tie_fault_text};
+ghost use Rattle.auction_input.specs.Line.{refusal_text, tie_fault_text, tie_words};
 ghost use Rattle.auction_input.specs.Places.{with_number};
 
 use crate::form_texts::AnotherForm;
@@ -35,6 +35,17 @@ impl<'r> Message<'r> {
         Message {
             part: Wording::Words(""),
             fault: words,
+            name: b"",
+        }
+    }
+
+    /// Words on a part, and on a fault in it.
+    fn without_name(part: Wording, fault: Wording) -> Message<'r>
+        ensures { message_text result ≡ wording_text part ++ wording_text fault }
+    {
+        Message {
+            part,
+            fault,
             name: b"",
         }
     }
@@ -110,16 +121,22 @@ fn in_count(kind: PartKind) -> Message<'static>
     }))
 }
 
+// The words on a tie, with another number if it has one.
+fn tie_part(tie: Option<usize>, number: usize) -> Wording
+    ensures { wording_text result ≡ tie_words (option_map (λ n. number) tie) }
+{
+    match tie {
+        Some(_) => Wording::Between("tie ", number as u64, ": "),
+        None => Wording::Words("tie: "),
+    }
+}
+
 // What is reported of a tie, after words on which one it is.
 fn in_tie(part: Wording, fault: &TieFault) -> Message<'_>
     ensures { message_text result ≡ wording_text part ++ tie_fault_text fault.now }
 {
     match fault {
-        TieFault::Solution(fault) => Message {
-            part,
-            fault: fault.wording(),
-            name: b"",
-        },
+        TieFault::Solution(fault) => Message::without_name(part, fault.wording()),
         TieFault::BoundBroken { column } => Message {
             part,
             fault: Wording::Words("7 BoundBroken at column "),
@@ -130,21 +147,15 @@ fn in_tie(part: Wording, fault: &TieFault) -> Message<'_>
             fault: Wording::Words("8 RowBroken at row "),
             name: row.as_slice(),
         },
-        TieFault::LowerTotal => Message {
-            part,
-            fault: Wording::Words("total below that of group 1"),
-            name: b"",
-        },
-        TieFault::SameAsFirst => Message {
-            part,
-            fault: Wording::Words("same winners as group 1"),
-            name: b"",
-        },
-        TieFault::SameAsTie { tie } => Message {
-            part,
-            fault: Wording::Number("same winners as tie ", *tie as u64),
-            name: b"",
-        },
+        TieFault::LowerTotal => {
+            Message::without_name(part, Wording::Words("total below that of group 1"))
+        }
+        TieFault::SameAsFirst => {
+            Message::without_name(part, Wording::Words("same winners as group 1"))
+        }
+        TieFault::SameAsTie { tie } => {
+            Message::without_name(part, Wording::Number("same winners as tie ", *tie as u64))
+        }
     }
 }
 
@@ -276,11 +287,7 @@ impl Refusal {
                 fault.wording(),
             ),
             Refusal::Unique(fault) => Message::in_part("unique: ", fault.wording()),
-            Refusal::Tie { tie: None, fault } => in_tie(Wording::Words("tie: "), fault),
-            Refusal::Tie {
-                tie: Some(_),
-                fault,
-            } => { in_tie(Wording::Between("tie ", number as u64, ": "), fault) }
+            Refusal::Tie { tie, fault } => in_tie(tie_part(*tie, number), fault),
             Refusal::Prices(fault) => Message::in_part("prices: ", fault.wording()),
             Refusal::MissingPrice { bidder } => Message {
                 part: Wording::Words("prices: "),

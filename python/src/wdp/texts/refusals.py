@@ -18,7 +18,7 @@ IN_WORDS = re.compile(
     r"wdp: (?:(?P<part>input|groups|tie(?: [0-9]{1,9})?|desk): )?"
     r"(?:read failed|too large|bytes before the first part|wrong answer|write failed after [0-9]{1,18} bytes"
     r"|(?:no group|group|part) (?P<number>[0-9]{1,9})(?: is not empty| not known)?(?:: %weights is of version 1, .*)?"
-    r"|wrong number of (?:rules|groups|solutions|certificates|unique and tie|ties|prices|covers|price rules)"
+    r"|wrong number of (?:rules|groups|solutions|certificates|uniques|ties|prices|covers|price rules)"
     r"|total below that of group 1|same winners as (?:group 1|tie [0-9]{1,9}))"
 )
 
