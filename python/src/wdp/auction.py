@@ -200,8 +200,7 @@ class Run(Folder):
             self.find_ties(program)
 
     def find_ties(self, program: bytes) -> None:
-        """All solutions that tie with that of group 1, and the certificate that there are no others. What a run found that was cut is
-        taken over."""
+        """All solutions that tie with that of group 1, and the certificate that there are no others."""
         from wdp.certify.search import LimitReached
         from wdp.certify.ties import find_ties
 
@@ -212,9 +211,8 @@ class Run(Folder):
             found = find_ties(
                 problem,
                 self.read(of_group("solution", 1)),
-                [self.read(name) for name in self.kept("ties")],
                 seconds=self.seconds,
-                keep=partial(self.keep, "ties"),
+                keep=self.keep_ties,
                 at_once=steps.ended_at_once,
             )
         except LimitReached:
@@ -223,6 +221,11 @@ class Run(Folder):
             raise NotSolved(f"{known} found; {limit}", GIVEN_UP) from None
         unique = b"" if found.unique is None else part("unique", found.unique)
         self.leave(TIES, part("tie", *found.points) + unique)
+
+    def keep_ties(self, points: Sequence[bytes]) -> None:
+        """Keeps what ties; a search that goes further begins with the same."""
+        for number, point in enumerate(points, 1):
+            self.leave(f"ties/{number}.txt", point)
 
     def ties(self) -> bytes:
         """The parts of an audit that list what ties with the first award, as far as it is known."""

@@ -10,7 +10,7 @@ import numpy as np
 from wdp.certify import Certified, Only, Say
 from wdp.certify.layout import Array, Bound, Layout, Node
 from wdp.certify.relaxation import nearest, root_prices
-from wdp.certify.search import Beaten, LimitReached, OnlySearch, Search
+from wdp.certify.search import Beaten, LimitReached, OnlySearch, Search, TieSearch
 from wdp.solve import nothing_of
 from wdp.texts.zero_one import ZeroOne, program_text, read_program, read_solution, solution_text
 
@@ -145,6 +145,23 @@ class Problem:
         gain = before - search.least
         best = solution_text(search.ones, self.program) if gain else solution
         return Certified(best, certificate, gain, search.found_rows)
+
+    def tie_search(
+        self,
+        solution: bytes,
+        most: int,
+        seconds: float | None = None,
+        say: Say = silence,
+    ) -> TieSearch:
+        """A search for all points that are as good as an optimal solution, up to so many."""
+        return TieSearch(
+            self.layout,
+            self.ones(solution),
+            most,
+            seconds=seconds,
+            say=say,
+            known_rows=self.known_rows,
+        )
 
     def only(
         self,

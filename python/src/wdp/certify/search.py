@@ -418,6 +418,84 @@ class OnlySearch(Search):
         raise Beaten(gain - 1)
 
 
+class Enough(Exception):
+    """A search has found as many points as it may."""
+
+
+class TieSearch(OnlySearch):
+    """A search for all points beside one that are as good, up to so many: it goes on at each, without a row that excludes it. Its tree
+    leaves these points out, so that it is no certificate."""
+
+    def __init__(
+        self,
+        layout: Layout,
+        ones: set[int],
+        most: int,
+        seconds: float | None,
+        say: Say,
+        known_rows: str = "",
+    ) -> None:
+        super().__init__(layout, [ones], seconds=seconds, say=say, known_rows=known_rows)
+        self.most = most
+        self.ties: list[set[int]] = []
+
+    def run(self) -> None:
+        """Finds all of them. Raises LimitReached."""
+        with contextlib.suppress(Enough):
+            self.certificate()
+
+    def try_point(self, places: set[int]) -> bool:
+        ones = places | self.layout.fixed_ones
+        is_known = ones in self.points or ones in self.ties
+        objective = self.program.objective(ones)
+        if is_known or objective >= self.least or self.program.fault_of(ones):
+            return False
+        if objective < self.least - 1:
+            raise Beaten(self.least - 1 - objective)
+        self.ties.append(ones)
+        self.say(f"{len(self.ties)} other points are as good, {self.elapsed():.1f} s")
+        if len(self.ties) == self.most:
+            raise Enough
+        return False
+
+    def part(self, task: Visit, reached: float | None) -> None:
+        """Splits off a point that was found, if there is one below the node, so that one side has it alone."""
+        node = task.node
+        for ones in self.ties:
+            if is_below(self.layout, node, ones):
+                split = split_towards(self.layout, node, ones)
+                if split is not None:
+                    self.split(task, split)
+                return
+        super().part(task, reached)
+
+    def settle(self, node: Node) -> None:
+        """Shows a node with one point, unless that is as good."""
+        places = np.flatnonzero(node.allowed)
+        self.try_point(set(places.tolist()))
+        if set(places.tolist()) | self.layout.fixed_ones not in self.ties:
+            super().settle(node)
+
+
+def is_below(layout: Layout, node: Node, ones: set[int]) -> bool:
+    """Whether a point is among those that a node leaves."""
+    free = [place for place in ones if layout.is_open[place]]
+    won = {int(layout.block_of[place]) for place in free}
+    return bool(node.allowed[free].all()) and won.issuperset(node.forced)
+
+
+def split_towards(layout: Layout, node: Node, ones: set[int]) -> Split | None:
+    """The split at the first block in which a node leaves more than this point has; None if the node leaves the point alone."""
+    for block, members in enumerate(layout.members):
+        left = members[node.allowed[members]]
+        own = left[[place in ones for place in left.tolist()]]
+        if len(own) and (len(left) > 1 or block not in node.forced):
+            return Split(own, 1.0)
+        if len(left) and not len(own):
+            return Split(left, 0.0)
+    return None
+
+
 def others(layout: Layout, ones: set[int]) -> SplitRow:
     """The row that all points but this one meet: of the open columns at 1 one is 0, or another is 1. It is the second side of a
     split that is open above the root of the certificate."""

@@ -1,4 +1,4 @@
-"""All optimal points of a program: each that is found is excluded, until a certificate shows that there are no more."""
+"""All optimal points of a program, and the certificate that there are no others."""
 import math
 from collections.abc import Callable, Sequence
 from contextlib import nullcontext
@@ -7,8 +7,10 @@ from time import monotonic
 
 from wdp.certify import Say
 from wdp.certify.problem import Problem, silence
+from wdp.certify.search import LimitReached
 from wdp.certify.settling import AtOnce
 from wdp.texts.answers import MOST_TIES
+from wdp.texts.zero_one import solution_text
 
 
 @dataclass(frozen=True)
@@ -20,33 +22,41 @@ class Ties:
     unique: bytes | None
 
 
-def forget(point: bytes) -> None:
-    """Keeps no point."""
+def forget(points: Sequence[bytes]) -> None:
+    """Keeps no points."""
 
 
 def find_ties(
     problem: Problem,
     solution: bytes,
-    known: Sequence[bytes] = (),
     *,
     seconds: float | None = None,
     say: Say = silence,
-    keep: Callable[[bytes], None] = forget,
+    keep: Callable[[Sequence[bytes]], None] = forget,
     at_once: AtOnce = nullcontext,
 ) -> Ties:
-    """All points that are as good as an optimal solution, first those that are known. `keep` gets each that is found. The search may
-    take so many seconds in all; it raises LimitReached at their end, and what `Problem.only` does. Within `at_once` nothing is begun
-    that would have to be put away."""
-    points = list(known)
+    """All points that are as good as an optimal solution. `keep` gets those that a search found, which is the same each time. It may
+    take so many seconds in all; LimitReached is raised at their end. Within `at_once` nothing is begun that would have to be put away.
+    """
     end = monotonic() + (seconds or math.inf)
-    while True:
-        left = max(end - monotonic(), 1e-9)
+    with at_once():
+        search = problem.tie_search(solution, MOST_TIES + 1, seconds, say)
+
+    def found() -> list[bytes]:
+        return [solution_text(ones, problem.program) for ones in search.ties[:MOST_TIES]]
+
+    try:
         with at_once():
-            found = problem.only(solution, points, seconds=left, say=say)
-        if found.claim == "unique":
-            return Ties(tuple(points), found.text)
-        assert not found.gain, "another point is better than an optimal one"
-        if len(points) == MOST_TIES:
-            return Ties(tuple(points), None)
-        keep(found.text)
-        points.append(found.text)
+            search.run()
+    except LimitReached:
+        keep(found())
+        raise
+    points = found()
+    keep(points)
+    if len(search.ties) > MOST_TIES:
+        return Ties(tuple(points), None)
+    with at_once():
+        left = max(end - monotonic(), 1e-9)
+        only = problem.only(solution, points, seconds=left, say=say)
+    assert only.claim == "unique", "the search for ties has missed one"
+    return Ties(tuple(points), only.text)
