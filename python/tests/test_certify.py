@@ -98,6 +98,47 @@ def assert_all_ties(program, best):
     assert Checker(program).only_verdict([best[0], *points], found.unique) == (None, [])
 
 
+def alike(count, lots):
+    """So many bidders who offer the same for one of so many lots."""
+    return auction([lots], [[(30, (1,))]] * count)
+
+
+# how many awards there are, by so many bidders and lots, up to the limit of an audit
+ALIKE = [(1, 1, 1), (3, 1, 3), (4, 2, 6), (8, 3, 56), (65, 1, 65)]
+
+
+@pytest.mark.parametrize("count, lots, awards", ALIKE)
+def test_all_ties_of_bidders_who_are_alike(count, lots, awards):
+    program = alike(count, lots)
+    best = [set(places) for places in itertools.combinations(range(count), lots)]
+    assert len(best) == awards
+    assert_all_ties(program, best)
+
+
+@pytest.mark.parametrize("count, lots", [(66, 1), (12, 2), (30, 15)])
+def test_more_ties_than_an_audit_lists(count, lots):
+    program = alike(count, lots)
+    first = solution_text(range(lots), program)
+    found = find_ties(Problem(Layout(program)), first)
+    assert found.unique is None
+    assert len({first, *found.points}) == 1 + MOST_TIES
+    for text in found.points:
+        ones = read_solution(text, program, "a tie")
+        assert program.objective(ones) == -30 * lots
+
+
+def test_ties_that_are_found_before_a_limit():
+    """The search is the same each time, so that one that ends later begins with these."""
+    kept = []
+    program = alike(12, 2)
+    first = solution_text(range(2), program)
+    with pytest.raises(LimitReached):
+        find_ties(Problem(Layout(program)), first, seconds=1e-9, keep=kept.extend)
+    found = find_ties(Problem(Layout(program)), first, keep=kept.extend)
+    again = find_ties(Problem(Layout(program)), first)
+    assert tuple(kept) == found.points == again.points
+
+
 COSTS = {
     "any": (1, 200, lambda draw, cost: cost),
     "tied": (2, 200, lambda draw, cost: draw.choice([-2, -1, -1, 0])),

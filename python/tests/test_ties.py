@@ -218,6 +218,22 @@ def test_awards_that_a_run_found_are_kept(three):
         assert three.has("ties/2.txt")
 
 
+def test_more_awards_than_an_audit_lists(tmp_path, wdp):
+    """66 bidders offer the same for one lot."""
+    names = [f"N{number}" for number in range(66)]
+    lines = ["%rules", "rules,1,1,,", "category,A,1,5,1", *(f"bidder,{name},9,1," for name in names)]
+    for name in names:
+        lines += ["%form", f"{name},A", "10,1"]
+    data = "".join(f"{line}\n" for line in [*lines, "%groups", "-"]).encode()
+    auction = Auction(tmp_path / "many", wdp, data)
+    said = auction.said("--ties", "--no-prices")
+    assert "at least these 65 awards reach the total of group 1: don't draw from these alone" in said
+    assert "the search for ties ended at the limit of an audit, 64 beside the first" in said
+    assert (published(auction)["proof"], len(published(auction)["awards"])) == ("some", 65)
+    assert auction.read("audit.txt").count(b"%tie\n") == 64
+    assert b"%unique" not in auction.read("audit.txt")
+
+
 def test_awards_of_a_search_that_did_not_end_may_not_be_all(three):
     (three.where / "ties.txt").unlink()
     (three.where / "ties/2.txt").unlink()
