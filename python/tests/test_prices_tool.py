@@ -3,6 +3,7 @@
 AUCTIONS in the environment is how many random auctions are priced, by default 1,000.
 """
 import functools
+import itertools
 import json
 import math
 import os
@@ -111,23 +112,45 @@ def gaps_of(costs):
     }
 
 
-@pytest.mark.parametrize("first", range(0, 200, BLOCK))
+def with_one_award(most):
+    """The first of the random auctions in which nobody else can win with the greatest total."""
+    only = (number for number in itertools.count() if has_one_award(drawn(number)[0]))
+    return list(itertools.islice(only, most))
+
+
+def has_one_award(auction):
+    totals = [
+        tied_auctions.total(auction, allocation)
+        for allocation in priced_auctions.feasible(auction)
+    ]
+    return totals.count(max(totals)) == 1
+
+
+WITH_ONE_AWARD = with_one_award(200)
+
+
+def assert_the_same_in_another_order(wdp, number):
+    auction, _ = drawn(number)
+    other, order = priced_auctions.permuted(auction, random.Random(number))
+    found = priced(wdp, auction, [()], ties=True).report
+    again = priced(wdp, other, [()], ties=True).report
+    names = {BIDDERS[at]: BIDDERS[place] for at, place in enumerate(order)}
+    assert is_only(found)
+    assert is_only(again)
+    bids = {names[won.bidder]: won.bid for won in again[0].winners}
+    assert bids == {won.bidder: won.bid for won in found[0].winners}
+    exact = {names[name]: price for name, price in again.prices.exact.items()}
+    assert exact == found.prices.exact
+    assert again.prices.is_by_rule
+    assert found.prices.is_by_rule
+
+
+@pytest.mark.parametrize("first", range(0, len(WITH_ONE_AWARD), BLOCK))
 def test_the_order_of_the_rules_changes_nothing(wdp, no_solver, first):
-    """Where nobody else can win, each winner pays the same whatever the bidders' order."""
-    tried = 0
-    for number in range(first, first + BLOCK):
-        auction, _ = drawn(number)
-        found = priced(wdp, auction, [()], ties=True)
-        if not is_only(found.report):
-            continue
-        other, order = priced_auctions.permuted(auction, random.Random(number))
-        again = priced(wdp, other, [()], ties=True)
-        names = {BIDDERS[at]: BIDDERS[place] for at, place in enumerate(order)}
-        exact = {names[name]: price for name, price in again.report.prices.exact.items()}
-        assert exact == found.report.prices.exact
-        assert is_only(again.report)
-        tried += 1
-    assert tried >= BLOCK // 3
+    """Where nobody else can win, the same bidders win, and each pays the same, whatever the bidders' order."""
+    for number in WITH_ONE_AWARD[first : first + BLOCK]:
+        with row(f"auction {number}"):
+            assert_the_same_in_another_order(wdp, number)
 
 
 def auction_of(forms, supply, values=(), reserves=(), pools=()):

@@ -584,7 +584,7 @@ class Run(Folder):
         if name == "prices":
             return self.priced() if self.is_priced else 0
         if name == "report":
-            # (what a step was killed before it had all of it, as `unique.txt`, is made first)
+            # (what a step was killed before it had all of it, as `ties.txt`, is made first)
             return self.through()
         if name.isdigit() and int(name) in {**self.names(), **self.added()}:
             return in_processes({f"group {name}": partial(self.settle, int(name))})
