@@ -193,6 +193,25 @@ def test_an_award_that_is_made_the_first(three):
         assert audits.numbers_in(audit) == [number, *sorted({1, 2, 3} - {number})]
 
 
+def test_prices_are_found_without_a_search_for_ties(three):
+    """Only the winners and what they pay are printed."""
+    for name in ("ties.txt", "ties/1.txt", "ties/2.txt"):
+        (three.where / name).unlink()
+    seen = run("prices", three.where, "--quiet", env=three.surroundings())
+    assert seen.status == 0
+    assert [line.split()[0] for line in seen.out.splitlines()][0::3] == ["Winner", "All"]
+    assert not three.has("ties.txt")
+
+
+def test_prices_of_an_audit_with_ties(three):
+    audit = three.where / "audit.txt"
+    output_path = three.where / "priced.txt"
+    seen = run("prices", audit, "--output", output_path, "--quiet", env=three.surroundings())
+    assert seen.status == 0
+    assert "Award" not in seen.out
+    assert output_path.read_bytes() == audit.read_bytes()
+
+
 def test_a_drawn_award_is_published_with_its_prices(three):
     three.said("--award", 3)
     files = [three.where / "input.txt", three.where / "report.txt"]

@@ -644,7 +644,7 @@ def add_shared_words(parser: argparse.ArgumentParser) -> None:
     add("--quiet", action="store_true", help=quiet)
     parser.set_defaults(
         finds_ties=False,
-        award=None,
+        award_number=None,
         is_priced=True,
         is_certified=True,
         title=None,
@@ -667,7 +667,7 @@ def add_words(parser: argparse.ArgumentParser) -> None:
     award = (
         f"--ties, and make award N of those the first, with prices of its own, in DIR/{AWARDS}/N"
     )
-    add("--award", type=number, metavar="N", help=award)
+    add("--award", dest="award_number", type=number, metavar="N", help=award)
     without = partial(add, action="store_false")
     without("--no-prices", dest="is_priced", help="leave out what the winners pay")
     says = f"report what the solver says, without certificates and prices: DIR/{UNCERTIFIED}"
@@ -696,7 +696,7 @@ def run_of(given: argparse.Namespace, folder: Path | None, shows: Callable[[str]
         jobs=given.jobs,
         quiet=given.quiet,
         is_certified=given.is_certified,
-        finds_ties=given.finds_ties or given.award is not None,
+        finds_ties=given.finds_ties or given.award_number is not None,
         is_priced=given.is_certified and given.is_priced,
         page=page,
         shows=shows,
@@ -704,9 +704,9 @@ def run_of(given: argparse.Namespace, folder: Path | None, shows: Callable[[str]
 
 
 def run(given: argparse.Namespace) -> int:
-    if (given.finds_ties or given.award) and not given.is_certified:
+    if (given.finds_ties or given.award_number) and not given.is_certified:
         raise WrongWords("--ties needs certificates, and --no-certify makes none")
-    if given.award and (given.step or not given.folder):
+    if given.award_number and (given.step or not given.folder):
         raise WrongWords("--award goes with DIR, and not with --step")
     own = run_of(given, given.folder, (lambda line: None) if given.quiet else say)
     if not given.folder:
@@ -717,7 +717,7 @@ def run(given: argparse.Namespace) -> int:
     data = files.read(given.input, MOST_OF_INPUT) if given.input else None
     if data is not None:
         given.folder.mkdir(parents=True, exist_ok=True)
-    return own.in_place(data, given.step, given.award or 1)
+    return own.in_place(data, given.step, given.award_number or 1)
 
 
 def run_prices(given: argparse.Namespace) -> int:

@@ -196,9 +196,10 @@ class Results(Figures):
         if self["proof"] == "none":
             return "Whether others reach the same total isn't shown."
         if self["proof"] == "some":
+            alone = "" if self["drawn"] else ": don't draw from these alone"
             return (
                 f"Proved: at least these {count} awards reach the same total, and none reaches more. "
-                "That there are no others isn't shown: don't draw from these alone."
+                f"That there are no others isn't shown{alone}."
             )
         if count == 1:
             return (
