@@ -2,7 +2,7 @@
 (What else is refused is shown by cases.)
 
 - What the search among all other points comes to is claimed: `unique` is printed if the list has one allocation of the greatest
-  total, and else `tie` and another of the list.
+  total, and else `tie` and another of the list, or all others, and `no other`, if these have bids without a column.
 - Of damaged certificates the report is printed if the checker finds the bound shown, and else the number, the kind and the line of its
   first fault. If the checker says that a sum could leave 128 bits at a line, `wdp` may stop there.
 """
@@ -90,11 +90,17 @@ def claimed(wdp, number):
     if first.best == [first.won]:
         expect(only, "unique\n")
         return "only" if first.won else "only nobody"
-    # a bid without a column may still do as well in a winner's place
-    rival = tied.rivals(auction, first.won)[0]
-    assert rival in first.best
-    expect(only, "tie\n" + tied.winners_text(auction, rival))
+    # bids without a column may still do as well in winners' places
+    following = sorted(set(first.best) - {first.won}, key=lambda award: order(first.won, award))
+    ties = [f"tie\n{tied.winners_text(auction, award)}" for award in following]
+    expect(only, "".join(ties) + "no other\n")
     return "tie by a bid without a column"
+
+
+def order(won, award):
+    """What awards of the same winners are ordered by: each winner's own bid comes first, and then the others by number."""
+    pairs = zip(won, award, strict=True)
+    return [0 if winner == own else winner[1] for own, winner in pairs]
 
 
 @pytest.mark.parametrize("first", range(0, 1_000, COUNT))
