@@ -72,18 +72,6 @@ def cost_of(auction, won, group):
     return total(auction, greatest(auction, group)[0]) - (total(auction, won) - own)
 
 
-def rivals(auction, allocation):
-    """With another bid in a winner's place, what is feasible and has the same total: winner by winner, and by the bid's number."""
-    others = [
-        allocation[:at] + ((bidder, bid),) + allocation[at + 1 :]
-        for at, (bidder, own) in enumerate(allocation)
-        for bid in range(1, len(auction.forms[bidder - 1]) + 1)
-        if bid != own
-    ]
-    known = total(auction, allocation)
-    return [each for each in others if is_feasible(auction, each) and total(auction, each) == known]
-
-
 def names_of(bidders):
     return "+".join(BIDDERS[bidder - 1] for bidder in sorted(bidders)) or "-"
 
