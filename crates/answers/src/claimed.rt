@@ -163,6 +163,23 @@ struct Ties {
     awards: Vec<Allocation>,
 }
 
+impl Ties {
+    ghost use Rattle.std.specs.Prelude.{◌≡◌, ◌++◌, ◌∷◌, [], OnOk};
+
+    // Adds a tie.
+    fn add(&mut self, tie: Tie) -> Result<(), AllocError>
+        ensures points { OnOk result (self.new.points.items
+            ≡ self.old.points.items ++ tie.point ∷ []) }
+        ensures awards { OnOk result (self.new.awards.items
+            ≡ self.old.awards.items ++ tie.award ∷ []) }
+    {
+        let Tie { point, award } = tie;
+        self.points.push(point)?;
+        self.awards.push(award)?;
+        Ok(())
+    }
+}
+
 // Reads all ties of an auction.
 fn read_ties(
     alloc: Global,
@@ -181,14 +198,15 @@ fn read_ties(
     ensures refuses { IfErr result (Refuses (parsed_ties (held auction.now) first.now []
         (held auction.now).ties)) }
 {
-    let mut points = Vec::new(alloc);
-    let mut awards = Vec::new(alloc);
+    let mut ties = Ties {
+        points: Vec::new(alloc),
+        awards: Vec::new(alloc),
+    };
     for text in auction.ties.as_slice() {
-        let Tie { point, award } = read_tie(alloc, auction, program, first, &awards, text)?;
-        points.push(point)?;
-        awards.push(award)?;
+        let tie = read_tie(alloc, auction, program, first, &ties.awards, text)?;
+        ties.add(tie)?;
     }
-    Ok(Ties { points, awards })
+    Ok(ties)
 }
 
 // Checks that the one text shows that no point but group 1's and those of the ties is as good.
@@ -215,30 +233,6 @@ fn check_unique(
     }
 }
 
-// All that there are, where these and the first one are all of kept bids.
-fn all_others(
-    alloc: Global,
-    book: &ClosedBook,
-    first: &Allocation,
-    mut ties: Vec<Allocation>,
-) -> Result<OtherAwards, AllocError>
-    requires feasible { IsFeasible (lots_in book.now.rules) (book_of book.now) (λ b. false)
-        first.now }
-    requires ties_feasible { All (IsFeasible (lots_in book.now.rules) (book_of book.now)
-        (λ b. false)) ties.items }
-    requires kept { All (λ c. is_kept_choice (lots_in book.now.rules) (book_of book.now)
-        (λ b. false) c ≡ true) first.now }
-    requires ties_kept { All (All (λ c. is_kept_choice (lots_in book.now.rules)
-        (book_of book.now) (λ b. false) c ≡ true)) ties.items }
-    ensures { IfOk result (λ others. others ≡ others_of (lots_in book.now.rules)
-        (book_of book.now) (first.now ∷ ties.items)) }
-{
-    let mut listed = Vec::new(alloc);
-    listed.push(Allocation::new(first.choices().to_vec(alloc)?))?;
-    listed.append(&mut ties)?;
-    others_of(alloc, book, listed)
-}
-
 // What comes of ties, and of a text that is to show that there is no other award.
 fn claimed_others(
     alloc: Global,
@@ -260,7 +254,7 @@ fn claimed_others(
         return Ok(OtherAwards::new(awards, Further::Unknown));
     }
     check_unique(alloc, auction, &program, &points)?;
-    Ok(all_others(alloc, &auction.book, first, awards)?)
+    Ok(others_of(alloc, &auction.book, first, awards)?)
 }
 
 /// What comes of the claims of an auction, by the auction's compiler, where its solutions win these allocations.

@@ -50,7 +50,7 @@ impl OtherAwards {
     }
 }
 
-ghost use Rattle.std.specs.Prelude.{◌≡◌, ◌<◌, ◌++◌, All, IfOk, codes, false, flat_map, if◌then◌else◌, length, nat_le, true};
+ghost use Rattle.std.specs.Prelude.{◌≡◌, ◌++◌, ◌∷◌, All, IfOk, codes, false, flat_map, if◌then◌else◌, length, nat_le, true};
 ghost use Rattle.byte_sinks.specs.Adds.{Adds};
 ghost use Rattle.auction_terms.specs.Allocations.{IsFeasible};
 ghost use Rattle.auction_terms.specs.Keeping.{is_kept_choice};
@@ -78,22 +78,38 @@ fn further_than(awards: &[Allocation], printed: usize) -> Further
     Further::More
 }
 
-/// What is known of other awards, where these are all awards of kept bids, first the one with nobody left out: the others, and those that
-/// follow from all of them, as many as `MOST_TIES`.
+/// The first award, and after it the others.
+fn with_first(
+    alloc: Global,
+    first: &Allocation,
+    ties: Vec<Allocation>,
+) -> Result<Vec<Allocation>, AllocError>
+    ensures { IfOk result (λ listed. listed.items ≡ first.now ∷ ties.items) }
+{
+    let mut listed = Vec::new(alloc);
+    let mut later = ties;
+    listed.push(Allocation::new(first.choices().to_vec(alloc)?))?;
+    listed.append(&mut later)?;
+    Ok(listed)
+}
+
+/// What is known of other awards, where the first one, with nobody left out, and these ties are all awards of kept bids: the ties, and those
+/// that follow from any of them, as many as `MOST_TIES`.
 pub fn others_of(
     alloc: Global,
     book: &ClosedBook,
-    listed: Vec<Allocation>,
+    first: &Allocation,
+    ties: Vec<Allocation>,
 ) -> Result<OtherAwards, AllocError>
-    requires some { 0 < length listed.items }
     requires feasible { All (IsFeasible (lots_in book.now.rules) (book_of book.now) (λ b. false))
-        listed.items }
+        (first.now ∷ ties.items) }
     requires kept { All (All (λ c. is_kept_choice (lots_in book.now.rules) (book_of book.now)
-        (λ b. false) c ≡ true)) listed.items }
+        (λ b. false) c ≡ true)) (first.now ∷ ties.items) }
     ensures { IfOk result (λ others. others
-        ≡ others_of (lots_in book.now.rules) (book_of book.now) listed.items) }
+        ≡ others_of (lots_in book.now.rules) (book_of book.now) (first.now ∷ ties.items)) }
 {
     let printed = usize::from(MOST_TIES) + 1;
+    let listed = with_first(alloc, first, ties)?;
     let mut awards = with_following(alloc, book, listed, MOST_TIES + 2)?;
     let further = further_than(&awards, printed);
     awards.truncate(printed);

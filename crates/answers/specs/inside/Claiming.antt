@@ -1,5 +1,5 @@
 -- What the code holds of an auction while it judges what is claimed of other awards.
-use Rattle.std.specs.Prelude.{◌≡◌, ◌≤◌, ◌×◌, ◌⊎◌, ℕ, Bool, List, [], ◌∷◌, None, Some, Ok, length, slice_index_or, true}
+use Rattle.std.specs.Prelude.{◌≡◌, ◌≤◌, ◌⊎◌, ℕ, Bool, List, [], ◌∷◌, None, Some, Ok, length, slice_index_or, true}
 use Rattle.auction_input.specs.Auction.{Auction}
 use Rattle.auction_input.specs.declared.auction.Auction as declared
 use Rattle.auction_input.specs.declared.refusal.Refusal.TheVariants as refusal

@@ -12,8 +12,8 @@ use Rattle.answers.proofs.claimed.read_ties.Given as goal
 abbrev pub invariant-loop-text : goal.invariant-loop-text
 invariant-loop-text l = record {
   parsed : parsed_ties (held l.auction) l.first [] (held l.auction).ties
-      ≡ onto l.points.items (parsed_ties (held l.auction) l.first l.awards.items (bytes_of (drop l.text-index l.auction.ties.items)));
-  points : All (IsPoint l.program) l.points.items;
-  awards : l.awards.items ≡ map (allocation_of l.program) l.points.items;
-  count : length l.awards.items ≡ l.text-index;
+      ≡ onto l.ties.points.items (parsed_ties (held l.auction) l.first l.ties.awards.items (bytes_of (drop l.text-index l.auction.ties.items)));
+  points : All (IsPoint l.program) l.ties.points.items;
+  awards : l.ties.awards.items ≡ map (allocation_of l.program) l.ties.points.items;
+  count : length l.ties.awards.items ≡ l.text-index;
 }

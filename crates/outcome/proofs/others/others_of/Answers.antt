@@ -1,4 +1,4 @@
-use Rattle.std.proofs.Common.{◌≡◌, ◌∙◌, ◌+◌, ℕ, Bool, suc, List, ap, ap₂, drop, length, nat_le, refl, sym, take}
+use Rattle.std.proofs.Common.{◌≡◌, ◌∙◌, ◌∷◌, ◌+◌, ℕ, Bool, suc, List, ap, ap₂, drop, length, nat_le, refl, sym, take}
 use Rattle.std.specs.Prelude.{if◌then◌else◌}
 use Rattle.auction_terms.specs.Terms.{lots_in}
 use Rattle.auction_terms.specs.declared.choices.Choice.{Choice}
@@ -12,8 +12,8 @@ use Rattle.outcome.proofs.others.others_of.Goals as goal
 
 pub returns : goal.returns
 returns c =
-    let all = with_following (lots_in c.args.book.now.rules) (book_of c.args.book.now) c.args.listed.items in
-    let found : c.in_ok-awards.awards.items ≡ take (suc (suc MOST_TIES)) all = c.in_ok-awards.ensures in
+    let all = with_following (lots_in c.args.book.now.rules) (book_of c.args.book.now) (c.args.first.now ∷ c.args.ties.items) in
+    let found : c.in_ok-awards.awards.items ≡ take (suc (suc MOST_TIES)) all = rw c.in_ok-listed.ensures at c.in_ok-awards.ensures in
     let cut : c.truncate.new.self.items ≡ take (suc MOST_TIES) c.in_ok-awards.awards.items = rw c.from-printed.ensures at c.truncate.ensures.items in
     let others : c.remove.new.self.items ≡ drop 1 c.truncate.new.self.items = c.remove.ensures.items in
     let awards : c.remove.new.self.items ≡ drop 1 (take (suc MOST_TIES) all) =
