@@ -21,7 +21,7 @@ from trials.judging import done, row, seen
 
 import wdp as package
 from wdp import certify, solve
-from wdp.texts.parts import parts_of
+from wdp.texts.parts import parse_parts
 from wdp.texts.zero_one import read_program
 
 AUCTIONS, BLOCK = 200, 10  # so many are priced, and so many in one test
@@ -44,8 +44,8 @@ class Trial:
         audit = asked.prices(asked.certify(), "highs").audit
         self.wdp = wdp
         self.auction = auction
-        self.rest = b"".join(it.head + it.text for it in parts_of(audit) if it.kind not in KINDS)
-        self.parts = {it.kind: it.text for it in parts_of(audit) if it.kind in KINDS}
+        self.rest = b"".join(it.head + it.text for it in parse_parts(audit) if it.kind not in KINDS)
+        self.parts = {it.kind: it.text for it in parse_parts(audit) if it.kind in KINDS}
         self.program = b"* " + output(wdp, "compile", text.encode()).split(b"* program ")[1]
         self.first = read_program(self.program)
         self.printed = output(wdp, "verify", self.rest)
@@ -65,7 +65,7 @@ class Trial:
             for bidder, amount, price in zip(costs.winners, costs.amounts, prices)
         }
         problem = certify.read_problem(self.program).raised(surplus, parts)
-        first = next(it.text for it in parts_of(self.rest) if it.kind == "solution")
+        first = next(it.text for it in parse_parts(self.rest) if it.kind == "solution")
         return problem.certified(first).certificate
 
     def try_with(self, **others: bytes | None) -> bool:

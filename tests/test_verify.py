@@ -18,7 +18,7 @@ from oracle import Checker
 from trials.judging import KINDS, done, refused, row, seen
 from wdp.certify.layout import Layout
 from wdp.certify.search import Beaten, OnlySearch, Search
-from wdp.texts.zero_one import read_program, read_solution, solution_text
+from wdp.texts.zero_one import read_program, read_solution, format_solution
 
 # so many auctions are tried in one test
 COUNT = 25
@@ -55,7 +55,7 @@ class Group:
 
 def answered(auction, text, groups, answers):
     """The input with what answers its groups, and the report on it."""
-    text += b"".join(b"%solution\n" + solution_text(it.ones, it.program) for it in answers)
+    text += b"".join(b"%solution\n" + format_solution(it.ones, it.program) for it in answers)
     text += b"".join(b"%certificate\n" + it.certificate for it in answers)
     return text, tied.report_text(auction, groups, [it.won for it in answers])
 
@@ -81,7 +81,7 @@ def claimed(wdp, number):
     except Beaten as beaten:
         other = next(it for it in first.kept if point_of(first.program, it) == search.ones)
         assert beaten.gain == 0 and other != first.won
-        claim = b"%tie\n" + solution_text(search.ones, first.program)
+        claim = b"%tie\n" + format_solution(search.ones, first.program)
         expect(claim, "tie\n" + tied.winners_text(auction, other))
         return "tie"
     assert first.kept == [first.won]

@@ -8,7 +8,7 @@ import re
 from collections import namedtuple
 from fractions import Fraction
 
-from wdp.texts.tables import lines
+from wdp.texts.tables import split_lines
 from wdp.texts.zero_one import AT_LEAST, AT_MOST, FIELD
 
 WIDEST = 2**126
@@ -54,7 +54,7 @@ class Checker:
     def read(self, text, least, splits):
         """Reads a text as a certificate for one bound, below splits that are open."""
         number, is_whole, large = 0, False, []
-        for number, line in enumerate(lines(text.decode("latin-1")), 1):
+        for number, line in enumerate(split_lines(text.decode("latin-1")), 1):
             words = [] if line[:1] == "#" else FIELD.findall(line)
             try:
                 if words and is_whole:

@@ -9,8 +9,8 @@ from fractions import Fraction
 from oracle import Checker
 
 from wdp.texts import accepted
-from wdp.texts.parts import parts_of
-from wdp.texts.tables import lines
+from wdp.texts.parts import parse_parts
+from wdp.texts.tables import split_lines
 from wdp.texts.zero_one import FIELD, ZeroOne, read_solution
 
 NUMBER = re.compile("[0-9]{1,18}")
@@ -34,7 +34,7 @@ def hold(is_so, why):
 
 def lines_of(text):
     """The fields of each line that has any and is no comment."""
-    texts = (line for line in lines(text.decode("latin-1")) if line[:1] != "#")
+    texts = (line for line in split_lines(text.decode("latin-1")) if line[:1] != "#")
     return list(filter(None, map(FIELD.findall, texts)))
 
 
@@ -68,7 +68,7 @@ class Audit:
 
     def __init__(self, data, program, report):
         """`program` is that of group 1, and `report` what is proved of the groups."""
-        found = list(parts_of(data))
+        found = list(parse_parts(data))
         self.parts = {part.kind: part.text for part in found if part.kind in KINDS}
         self.program, self.report = program, report
         text = b"".join(part.head + part.text for part in found if part.kind in accepted.KINDS)

@@ -260,5 +260,5 @@ def test_refusals_can_be_sent_to_another_process():
         again = pickle.loads(pickle.dumps(refused))
         assert (type(again), str(again)) == (type(refused), str(refused))
         assert vars(again) == vars(refused)
-    kinds = (wdp.WrongWords, wdp.NotFound, wdp.Unclear, wdp.NotSolved, wdp.Missing)
+    kinds = (wdp.WrongArgument, wdp.NotFound, wdp.Unclear, wdp.NotSolved, wdp.Missing)
     assert all(issubclass(kind, wdp.Refused) and issubclass(kind, ValueError) for kind in kinds)

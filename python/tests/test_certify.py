@@ -21,7 +21,7 @@ from wdp.certify.search import Beaten, LimitReached, OnlySearch, Search
 from wdp.certify.ties import MOST_TIES, find_ties
 from wdp.texts.refusals import NotSolved, Refused
 from wdp.texts.zero_one import AT_LEAST, AT_MOST, EQUAL, Column, Row, ZeroOne
-from wdp.texts.zero_one import read_program, read_solution, solution_text
+from wdp.texts.zero_one import read_program, read_solution, format_solution
 
 
 def auction(supply, bids):
@@ -91,7 +91,7 @@ def only(program, ones):
 
 def assert_all_ties(program, best):
     """The search from the first one of the best points finds each other one once, and shows that there are no more."""
-    found = find_ties(Problem(Layout(program)), solution_text(best[0], program))
+    found = find_ties(Problem(Layout(program)), format_solution(best[0], program))
     points = [read_solution(text, program, "a tie") for text in found.points]
     assert len(points) == len(best) - 1
     assert all(ones in points for ones in best[1:])
@@ -118,7 +118,7 @@ def test_all_ties_of_bidders_who_are_alike(count, lots, awards):
 @pytest.mark.parametrize("count, lots", [(66, 1), (12, 2), (30, 15)])
 def test_more_ties_than_an_audit_lists(count, lots):
     program = alike(count, lots)
-    first = solution_text(range(lots), program)
+    first = format_solution(range(lots), program)
     found = find_ties(Problem(Layout(program)), first)
     assert found.unique is None
     assert len({first, *found.points}) == 1 + MOST_TIES
@@ -131,7 +131,7 @@ def test_ties_that_are_found_before_a_limit():
     """The search is the same each time, so that one that ends later begins with these."""
     kept = []
     program = alike(12, 2)
-    first = solution_text(range(2), program)
+    first = format_solution(range(2), program)
     with pytest.raises(LimitReached):
         find_ties(Problem(Layout(program)), first, seconds=1e-9, keep=kept.extend)
     found = find_ties(Problem(Layout(program)), first, keep=kept.extend)

@@ -30,7 +30,7 @@ def test_version_and_help():
     assert (status, said, *asked) == (0, "", *[(0, whole, "")] * 3)
     assert run() == (2, "", whole) and cli.COMMANDS
     for name in cli.COMMANDS:
-        assert f"\n    {name} " in whole and name in cli.tree().format_help()
+        assert f"\n    {name} " in whole and name in cli.build_parser().format_help()
         status, text, said = run("help", name)
         assert (status, said) == (0, "") and text.startswith(f"usage: wdp-office {name} ")
         assert run(name, "--help") == (0, text, "")
@@ -85,7 +85,7 @@ def test_pip_installs_it_without_a_network(tmp_path):
     made = start([sys.executable, *words, tmp_path / "to", tmp_path / "python"], env=how)
     assert ended(made).status == 0
     assert files_below(tmp_path / "to" / "wdp") == files_below(SOURCE)
-    text = "import wdp, wdp.program; print(wdp.__version__, wdp.program.tree_of_package())\n"
+    text = "import wdp, wdp.program; print(wdp.__version__, wdp.program._find_tree())\n"
     text += "wdp.Auction.from_text('').check('ENDATA')"
     how = {"cwd": tmp_path, "env": {**os.environ, "PYTHONPATH": str(tmp_path / "to")}}
     done = subprocess.run([sys.executable, "-B", "-c", text], capture_output=True, text=True, **how)

@@ -13,12 +13,12 @@ from commands import EVIL, EXAMPLES, ROOT, content, rows, run, script, stopped
 from damage import ACCEPTED, damaged_input
 
 from wdp import files
-from wdp.office.judge import explained, finding
-from wdp.program import found_program
+from wdp.office.judge import explain, parse_finding
+from wdp.program import find_program
 from wdp.texts import accepted
 from wdp.texts.accepted import Bid, Category, Pool
 from wdp.texts.refusals import Refused
-from wdp.texts.tables import Records, written
+from wdp.texts.tables import Records, format_record
 
 DAMAGES = int(os.environ.get("DAMAGES", "60"))
 AFTER = "the forms and groups are read once the parts and the rules are right"
@@ -183,10 +183,10 @@ def test_an_older_program_and_odd_names(tmp_path):
     # one without details, and one that counts
     for said in ("input: wrong number of rules", "rules: 1 TooLarge; echo and 12 more"):
         program = script(tmp_path / "wdp", f"echo {said}; exit 1")
-        found = explained(str(program), b"x" * 1_000_000)
+        found = explain(str(program), b"x" * 1_000_000)
         assert [each.refusal for each in found.findings] == [said.split(";")[0]]
         assert found.more == 12 * ("12" in said)
-    odd = finding("groups: 3 UnknownBidder at line 2, name 1: ', name 9: x' is no bidder's name")
+    odd = parse_finding("groups: 3 UnknownBidder at line 2, name 1: ', name 9: x' is no bidder's name")
     assert (odd.field, odd.words) == (1, "', name 9: x' is no bidder's name")
 
 
@@ -195,7 +195,7 @@ def test_an_accepted_input_is_read_however_it_is_written():
     data = ACCEPTED[2].replace(b"\n50,2,1", b'\r\n\n0050,"2",1\r')
     data = data.replace(b"Low,2,", b'Low,02,"of\nMay"').replace(b"Alpha+Gamma", b"Gamma+Alpha\r")
     data = data.replace(b"%form\nAlpha", b'%form\nBeta,A,B\n99,1,0\n%form\n\xef\xbb\xbf"Alpha"')
-    found = explained(found_program(), data, True)
+    found = explain(find_program(), data, True)
     assert not found.findings and ("Beta", "form 1 is replaced by form 3") in found.left_out
     auction = accepted.read(data, "input")
     assert auction.rules == accepted.read(ACCEPTED[2], "input").rules
@@ -219,6 +219,6 @@ def test_records_and_what_is_written_is_read_back():
     for _ in range(2_000):
         fields = ["".join(draw.choices('ab,;"%\r\n\t \ufeff', k=size)) for size in (0, 1, 2, 4)]
         row = draw.sample(["x", *fields], draw.randrange(1, 6))
-        assert [each.values for each in Records(written(row))] == [row]
+        assert [each.values for each in Records(format_record(row))] == [row]
     # neither a head of a part, nor a mark that is dropped
-    assert written(["%form", "\ufeffFox"]) == '"%form","\ufeffFox"\n'
+    assert format_record(["%form", "\ufeffFox"]) == '"%form","\ufeffFox"\n'

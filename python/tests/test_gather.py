@@ -15,8 +15,8 @@ from commands import BIDDERS, BY_HAND, content, rows, run, small_files, stopped
 
 import wdp
 from wdp.files import Unreadable
-from wdp.office.sheets import table_of
-from wdp.office.versions import last_of, time_of
+from wdp.office.sheets import parse_table
+from wdp.office.versions import find_last, format_time
 
 DIGITS = "; write digits alone"
 
@@ -74,7 +74,7 @@ def test_no_change_of_a_table_goes_without_a_word():
     for _ in range(20_000):
         data = "".join(draw.choices(PIECES, k=draw.randint(1, 12))).encode()
         with contextlib.suppress(Unreadable):
-            file = table_of("a.csv", data, 100).trim(draw.randint(1, 3))
+            file = parse_table("a.csv", data, 100).trim(draw.randint(1, 3))
             if not file.faults and file.text != data:
                 assert file.changes, data
                 changed += 1
@@ -83,8 +83,8 @@ def test_no_change_of_a_table_goes_without_a_word():
 
 def test_times_have_no_last_year():
     # (no file system here has such times; 400 years have 146,097 days)
-    assert time_of(21 * 146_097 * 86_400 * 10**9) == "10370-01-01 00:00:00.000000000"
-    assert time_of(10**40) == f"{10**31} s after 1970-01-01.000000000"
+    assert format_time(21 * 146_097 * 86_400 * 10**9) == "10370-01-01 00:00:00.000000000"
+    assert format_time(10**40) == f"{10**31} s after 1970-01-01.000000000"
 
 
 def test_both_files_are_written_or_neither_and_a_link_stays_one(office):
@@ -211,7 +211,7 @@ PAIRS = rows(content("fixtures", "office", "versions.txt"))
 @pytest.mark.parametrize("bidder, one, other, wanted", PAIRS, ids=[" ".join(it[1:3]) for it in PAIRS])
 def test_which_of_two_files_is_the_last_one_by_their_names(bidder, one, other, wanted):
     try:
-        found = str(1 + last_of([one, other], bidder, "name").place)
+        found = str(1 + find_last([one, other], bidder, "name").place)
     except wdp.Refused:
         found = "?"
     assert found == wanted and len(PAIRS) >= 200

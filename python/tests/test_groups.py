@@ -13,7 +13,7 @@ from tied_auctions import input_text, random_auction, subsets
 
 from wdp import groups, solve, steps
 from wdp.certify.problem import Problem
-from wdp.texts.certificates import has_bid_of, without_bidders
+from wdp.texts.certificates import has_bid, remove_bidders
 from wdp.texts.zero_one import read_program, read_solution
 
 
@@ -31,11 +31,11 @@ def test_what_is_taken_over_shows_the_larger_group(wdp, seed):
     taken = 0
     for small, (_, shown) in found.items():
         for large, (program, own) in found.items():
-            if small < large and not has_bid_of(shown.solution, large - small):
+            if small < large and not has_bid(shown.solution, large - small):
                 taken += 1
                 least = program.objective(read_solution(shown.solution, program, "taken"))
                 assert least == program.objective(read_solution(own.solution, program, "own"))
-                certificate = without_bidders(shown.certificate, large - small)
+                certificate = remove_bidders(shown.certificate, large - small)
                 assert Checker(program).verdict(least, certificate) == (None, [])
     assert taken or not any(auction.forms)
 
@@ -43,18 +43,18 @@ def test_what_is_taken_over_shows_the_larger_group(wdp, seed):
 def test_names_that_begin_alike():
     certificate = b"split 0 X1_1 1 X11_1 1 X1_12 1\nbound 1 -2 B1 3 B11 4 C1 5\nbound 0 1 B1 2\n"
     less = b"split 0 X11_1 1\nbound 1 -2 B11 4 C1 5\nbound 0 1\n"
-    assert without_bidders(certificate, {1, 2}) == less
-    assert without_bidders(certificate, set()) == certificate
-    assert has_bid_of(b"X2_1 1\nX11_4 1\n", {11})
-    assert not has_bid_of(b"X11_4 1\n", {1, 4})
+    assert remove_bidders(certificate, {1, 2}) == less
+    assert remove_bidders(certificate, set()) == certificate
+    assert has_bid(b"X2_1 1\nX11_4 1\n", {11})
+    assert not has_bid(b"X11_4 1\n", {1, 4})
 
 
 def test_the_order_of_groups():
     names = "- A B A+B A+B+C C A+C".split()
-    sets = {number: groups.names_of(line) for number, line in enumerate(names, 1)}
-    assert groups.smaller(sets, 5) == [1, 2, 3, 6, 4, 7]
-    assert groups.smaller(sets, 7) == [1, 2, 6]
-    assert groups.smaller(sets, 1) == []
+    sets = {number: groups.parse_names(line) for number, line in enumerate(names, 1)}
+    assert groups.find_smaller(sets, 5) == [1, 2, 3, 6, 4, 7]
+    assert groups.find_smaller(sets, 7) == [1, 2, 6]
+    assert groups.find_smaller(sets, 1) == []
 
 
 @pytest.mark.parametrize("jobs", [1, 2, 7])

@@ -69,7 +69,7 @@ def test_what_is_on_standard_error(program):
 def test_no_program_outlives_its_answer(program, monkeypatch, mark, tmp_path):
     late = program("exec sleep 7000", time_limit=0.2)
     fails(late.compile, wdp.Unclear, "gave no answer in 0.2 s, and was ended$")
-    monkeypatch.setattr("wdp.program.MOST_OF_MESSAGES", 1_000_000)
+    monkeypatch.setattr("wdp.program._MOST_OF_MESSAGES", 1_000_000)
     large = "prints more than an answer to this can have, [0-9]+ bytes$"
     fails(partial(program("yes").report, [""]), wdp.Unclear, large)
     large = "prints more than 1000000 bytes on standard error$"
@@ -125,7 +125,7 @@ def answered(monkeypatch):
     def taken(call, answers, text=ONE):
         auction, found = wdp.Auction.from_text(text), []
         for answer in answers:
-            monkeypatch.setattr("wdp.api.answer", lambda *_: answer.encode())
+            monkeypatch.setattr("wdp.api.ask", lambda *_: answer.encode())
             try:
                 call(auction)
                 found.append(answer)
@@ -215,7 +215,7 @@ def test_which_program_is_found(tmp_path, monkeypatch):
     monkeypatch.setenv("WDP", "")
     assert wdp.Auction.from_text(ONE).report(["X1_1 1\nX2_1 1\nX3_1 1\n"])[0].total == 62
     monkeypatch.setenv("PATH", f"{tmp_path}:{os.environ['PATH']}")
-    monkeypatch.setattr("wdp.program.tree_of_package", lambda: None)
+    monkeypatch.setattr("wdp.program._find_tree", lambda: None)
     assert total() == 3
     monkeypatch.setenv("PATH", str(tmp_path / "none"))
     fails(total, wdp.NotFound, "^the program isn't found: wdp; make install")

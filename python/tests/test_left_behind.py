@@ -9,7 +9,7 @@ import time
 import pytest
 from commands import COMMAND, ROOT, Auction, ended, environment, output, run, running
 from commands import solver, start, stopped, wait_for
-from wdp.files import Unreadable, up_to
+from wdp.files import Unreadable, read_rest
 
 MPS = ROOT / "fixtures/solvers/three.mps"
 REPORT = (ROOT / "examples/worked.report.txt").read_bytes()
@@ -93,7 +93,7 @@ def test_a_file_that_gives_nothing_is_refused(tmp_path):
     # open for writing too, so that a read finds neither bytes nor an end
     with open(os.open(path, os.O_RDWR | os.O_NONBLOCK), "rb") as file:
         with pytest.raises(Unreadable, match="no file that can be read to its end"):
-            up_to(file, str(path), 10)
+            read_rest(file, str(path), 10)
 
 
 def test_files_of_the_kernel_or_that_are_no_text(tmp_path, wdp, office):

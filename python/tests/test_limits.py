@@ -126,30 +126,30 @@ def test_a_small_program_goes_whole_to_the_solver():
 def test_memory_that_is_left(tmp_path):
     meminfo = tmp_path / "meminfo"
     meminfo.write_text("MemTotal: 8000 kB\nMemFree: 1 kB\nMemAvailable: 5000 kB\n")
-    assert memory.free(meminfo, tmp_path) == 5000 * 1024
+    assert memory.measure_free(meminfo, tmp_path) == 5000 * 1024
     numbers = {"memory.max": "3000000\n", "memory.current": "1000000\n"}
     numbers["memory.stat"] = "anon 5\ninactive_file 500\nactive_file 7\n"
     for name, text in numbers.items():
         (tmp_path / name).write_text(text)
-    assert memory.free(meminfo, tmp_path) == 2_000_500
+    assert memory.measure_free(meminfo, tmp_path) == 2_000_500
     (tmp_path / "memory.max").write_text("max\n")
-    assert memory.free(meminfo, tmp_path) == 5000 * 1024
-    assert memory.free(tmp_path / "none", tmp_path) is None
-    assert memory.free() is not None
+    assert memory.measure_free(meminfo, tmp_path) == 5000 * 1024
+    assert memory.measure_free(tmp_path / "none", tmp_path) is None
+    assert memory.measure_free() is not None
 
 
 def test_jobs_that_memory_has_room_for():
-    one = memory.of_step(25_000)
-    assert one < memory.of_step(100_000)
+    one = memory.estimate_step(25_000)
+    assert one < memory.estimate_step(100_000)
     rows = [(4, 100 * one, 4), (4, 2 * one, 2), (4, 2 * one - 1, 1), (4, 0, 1), (3, None, 3)]
     for jobs, left, fit in rows:
-        assert memory.jobs_that_fit(jobs, 25_000, left) == fit
+        assert memory.limit_jobs(jobs, 25_000, left) == fit
 
 
 def test_a_run_with_little_memory(auction, monkeypatch, tmp_path):
     little = tmp_path / "little.py"
     little.write_text(
-        "import sys\nfrom wdp import memory\nmemory.free = lambda: 10 ** 6\n"
+        "import sys\nfrom wdp import memory\nmemory.measure_free = lambda: 10 ** 6\n"
         "from wdp import cli\nsys.exit(cli.main())\n"
     )
     monkeypatch.setattr("commands.COMMAND", little)
@@ -177,7 +177,7 @@ def test_times_in_words():
         (599, "599 s"),
     ]
     for seconds, text in [*rows, (600, "10 min"), (7290, "122 min")]:
-        assert progress.in_words(seconds) == text
+        assert progress.format_seconds(seconds) == text
     times = progress.Times({"programs": 1.0, "groups": 12.0})
     times.take("group 2", 3.0)
     times.take("group 3", 2.0)

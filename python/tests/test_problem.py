@@ -10,7 +10,7 @@ from wdp.certify.problem import MOST_OF_BLOCK, Problem
 from wdp.certify.relaxation import prices_for, root_prices
 from wdp.solve import nothing
 from wdp.texts.refusals import Unclear
-from wdp.texts.zero_one import AT_MOST, Column, OwnReader, Row, ZeroOne, program_text, read_program
+from wdp.texts.zero_one import AT_MOST, Column, FastReader, Row, ZeroOne, format_program, read_program
 
 SMALL = content("fixtures", "solvers", "three.mps").encode()
 NAMES = ["worked", "worked_pool", "spectrum_cap", "twelve_bands"]
@@ -45,7 +45,7 @@ def wide_program(seed, bidders=6, bids=200):
 @pytest.mark.parametrize("name", NAMES)
 def test_own_texts_are_read_by_columns(wdp, name):
     for _, text in programs_of(wdp, (EXAMPLES / f"{name}.txt").read_bytes()):
-        own = OwnReader(text).program()
+        own = FastReader(text).program()
         by_lines = read_program(b"* a comment\n" + text)
         assert own.rows == by_lines.rows
         assert own.columns == by_lines.columns
@@ -67,7 +67,7 @@ def test_texts_that_are_nearly_own_are_read_by_lines(old, new):
     text = SMALL.replace(old.encode(), new.encode(), 1)
     assert text != SMALL
     with pytest.raises((KeyError, ValueError)):
-        OwnReader(text).program()
+        FastReader(text).program()
     assert [column.cost for column in read_program(text).columns] == [-30, -50, -20, -12]
 
 
@@ -84,7 +84,7 @@ def test_a_group_is_group_1_without_some_bidders(wdp, name):
     assert others
     for left_out, text in others:
         derived = whole.without(left_out)
-        assert derived.text() == program_text(read_program(text))
+        assert derived.text() == format_program(read_program(text))
         read = Problem.read(text)
         assert derived.prices == read.prices
         assert derived.promising() == read.promising()
@@ -132,7 +132,7 @@ def test_a_solver_gets_the_promising_columns(seed):
 
 def test_programs_without_columns_or_rows():
     nobody = ZeroOne([Row("B1", AT_MOST, 1), Row("C1", AT_MOST, 2)], [])
-    assert program_text(nobody) == b"NAME wdp\nROWS\n N OBJ\nCOLUMNS\nRHS\nENDATA\n"
+    assert format_program(nobody) == b"NAME wdp\nROWS\n N OBJ\nCOLUMNS\nRHS\nENDATA\n"
     problem = Problem(Layout(ZeroOne([], [Column("K", -80, [], 1, 1), Column("X1_1", -3)])))
     assert problem.promising() == problem.text()
     assert problem.certified(b"K 1\n").solution == b"K 1\nX1_1 1\n"

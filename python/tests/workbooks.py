@@ -24,7 +24,7 @@ import openpyxl  # noqa: E402
 from openpyxl.utils import get_column_letter  # noqa: E402
 
 from wdp.files import Unreadable  # noqa: E402
-from wdp.office.workbooks import workbook_of  # noqa: E402
+from wdp.office.workbooks import read_workbook  # noqa: E402
 
 COUNT = 25  # workbooks of a kind
 BIDDERS = ["Ant", "Bee", "Fox"]
@@ -389,7 +389,7 @@ def made(name):
 def outcome(data, sheet=None):
     """What is read of a workbook, and what is said of it: of its rows, or of why they aren't read."""
     try:
-        file = workbook_of("it", data, 4_002, sheet, BIDDERS)
+        file = read_workbook("it", data, 4_002, sheet, BIDDERS)
     except Unreadable as error:
         return str(error).removeprefix("it: ").removeprefix("it:")
     if file.faults:
@@ -419,7 +419,7 @@ def shown_by_libreoffice(folder, name):
 def taken(path):
     """What is read of a workbook, or why it is refused."""
     try:
-        file = workbook_of("it", path.read_bytes(), 4_002, None, BIDDERS)
+        file = read_workbook("it", path.read_bytes(), 4_002, None, BIDDERS)
     except Unreadable as error:
         return None, str(error)
     odd = [value for row in file.rows[1:] for value in row.values if not DIGITS.fullmatch(value)]

@@ -8,12 +8,12 @@ from wdp.api import Auction
 from wdp.office.judge import Explained, Finding
 from wdp.results import Allocation, Certified, Counts, Group, Matrix, Prices, Program, Report
 from wdp.results import Solutions, Winner
-from wdp.texts.refusals import Missing, NotFound, NotSolved, Refused, Unclear, WrongWords
+from wdp.texts.refusals import Missing, NotFound, NotSolved, Refused, Unclear, WrongArgument
 
 __version__ = "2.0.0"
 __all__ = ["Allocation", "Auction", "Certified", "Counts", "Explained", "Finding", "Group"]
 __all__ += ["Matrix", "Missing", "NotFound", "NotSolved", "Prices", "Program", "Refused"]
-__all__ += ["Report", "Solutions", "Unclear", "Winner", "WrongWords"]
+__all__ += ["Report", "Solutions", "Unclear", "Winner", "WrongArgument"]
 # (a traceback names them as they are imported)
-for _refusal in (Missing, NotFound, NotSolved, Refused, Unclear, WrongWords):
+for _refusal in (Missing, NotFound, NotSolved, Refused, Unclear, WrongArgument):
     _refusal.__module__ = __name__

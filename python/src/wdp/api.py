@@ -10,17 +10,17 @@ from typing import Any
 
 from wdp import certify, files, solve
 from wdp import prices as pricing
-from wdp.office.judge import Explained, explained
-from wdp.office.reading import form_file, groups_text, rules_file
-from wdp.office.sheets import MOST_OF_A_FILE, File, lines_of
-from wdp.program import Limits, Path, answer, found_program
+from wdp.office.judge import Explained, explain
+from wdp.office.reading import read_form_file, format_groups, read_rules_file
+from wdp.office.sheets import MOST_OF_A_FILE, File, parse_lines
+from wdp.program import Limits, StrPath, ask, find_program
 from wdp.results import Allocation, Certified, Counts, Program, Report, Solutions, joined
 from wdp.texts import answers, records
-from wdp.texts.accepted import Category, Rules
-from wdp.texts.parts import names_in, with_groups
+from wdp.texts.accepted import Category, AcceptedRules
+from wdp.texts.parts import list_names, add_groups
 from wdp.texts.records import Text
-from wdp.texts.refusals import NotFound, NotSolved, Refused, WrongWords
-from wdp.texts.tables import encoded
+from wdp.texts.refusals import NotFound, NotSolved, Refused, WrongArgument
+from wdp.texts.tables import encode
 
 UNENDED = "the last line has no end, as in a file that was cut off; say allow_unended=True if it is complete"
 
@@ -49,7 +49,7 @@ class Auction:
     `program` is the path of the proved program, `time_limit` how many seconds each call of it may take; by default there is
     no limit.
 
-    Raises WrongWords if this can't be written as an input, and NotFound if there is no program. Every call raises Refused if
+    Raises WrongArgument if this can't be written as an input, and NotFound if there is no program. Every call raises Refused if
     the program refuses, and Unclear if its answer isn't one of docs/REFERENCE.md.
 
     >>> auction = Auction(rules=[("rules", 1, 1), ("category", "A", 2, 10, 1), ("bidder", "Alpha", 9, 2), ("bidder", "Beta", 9, 1)],
@@ -69,40 +69,40 @@ class Auction:
         groups: Any = None,
         missing_as_zero: bool = False,
         last_wins: bool = False,
-        program: Path | None = None,
+        program: StrPath | None = None,
         time_limit: float | None = None,
     ) -> None:
-        rules = records.rules_text(rules)
-        self._forms = records.forms_of(forms, rules, missing_as_zero)
-        parts = [records.part("rules", rules)]
-        parts += [records.part("form", form.text, n) for n, form in enumerate(self._forms, 1)]
-        parts.append(records.part("groups", records.groups_text(groups)))
+        rules = records.format_rules(rules)
+        self._forms = records.make_forms(forms, rules, missing_as_zero)
+        parts = [records.make_part("rules", rules)]
+        parts += [records.make_part("form", form.text, n) for n, form in enumerate(self._forms, 1)]
+        parts.append(records.make_part("groups", records.format_groups(groups)))
         if not last_wins:
             records.check_bidders(self._forms)
         self._given = b"".join(parts)
-        self._program = found_program(program)
+        self._program = find_program(program)
         self._time_limit = seconds_of(time_limit)
 
     @classmethod
     def from_text(
-        cls, input_text: Text, *, program: Path | None = None, time_limit: float | None = None
+        cls, input_text: Text, *, program: StrPath | None = None, time_limit: float | None = None
     ) -> Auction:
         """The auction of an input with its parts, as the program reads it. Raises what Auction(..) does."""
         auction = cls(rules="", program=program, time_limit=time_limit)
-        auction._given = records.ended(records.encoded(input_text, "input"))
+        auction._given = records.end_last_line(records.encode_text(input_text, "input"))
         return auction
 
     @classmethod
     def from_files(
         cls,
-        rules: Path,
-        forms: Path | Iterable[Path],
-        groups: Path | None = None,
+        rules: StrPath,
+        forms: StrPath | Iterable[StrPath],
+        groups: StrPath | None = None,
         *,
         allow_unended: bool = False,
         last_wins: bool = False,
         sheet: str | None = None,
-        program: Path | None = None,
+        program: StrPath | None = None,
         time_limit: float | None = None,
     ) -> Auction:
         """The auction of a file of rules, a file for each form, and a file of groups; nobody is left out without one. Files are read
@@ -110,10 +110,10 @@ class Auction:
         Auction(..) does, NotFound if a file isn't there, and Refused if it can't be read, or if its last line has no end, as in
         a file that was cut off: `allow_unended` says that such files are complete."""
         paths = [forms] if isinstance(forms, (str, bytes, os.PathLike)) else listed(forms, "forms")
-        read_rules = partial(rules_file, sheet=sheet)
+        read_rules = partial(read_rules_file, sheet=sheet)
         file = content(rules, read_rules, "rules", allow_unended=allow_unended)
         known = names_of(file)
-        read_form = partial(form_file, rules=known, sheet=sheet)
+        read_form = partial(read_form_file, rules=known, sheet=sheet)
         texts = [
             content(path, read_form, "form", number, allow_unended=allow_unended).text
             for number, path in enumerate(paths, 1)
@@ -121,7 +121,7 @@ class Auction:
         lines = None
         if groups is not None:
             listing = content(groups, read_groups, "groups", allow_unended=allow_unended)
-            lines = encoded(groups_text(listing.rows))
+            lines = encode(format_groups(listing.rows))
         return cls(
             rules=file.text,
             forms=texts,
@@ -142,22 +142,26 @@ class Auction:
         rule: Text | None = None,
     ) -> bytes:
         """The input followed by these parts, as the program reads it: with certificates it is an audit, which `wdp verify`
-        judges anywhere. Raises WrongWords or Refused if a text would be more than its part."""
+        judges anywhere. Raises WrongArgument or Refused if a text would be more than its part."""
         shown = listed(certificates, "certificates")
-        parts = [records.part("solution", x, n) for n, x in enumerate(solution_texts(solutions), 1)]
-        parts += [records.part("certificate", text, n) for n, text in enumerate(shown, 1)]
+        parts = [
+            records.make_part("solution", x, n) for n, x in enumerate(solution_texts(solutions), 1)
+        ]
+        parts += [records.make_part("certificate", text, n) for n, text in enumerate(shown, 1)]
         tied = [
-            records.solution_text(solution, f"tie {number}")
+            records.format_solution(solution, f"tie {number}")
             for number, solution in enumerate(listed(ties, "ties"), 1)
         ]
-        parts += [records.part("tie", text, number) for number, text in enumerate(tied, 1)]
+        parts += [records.make_part("tie", text, number) for number, text in enumerate(tied, 1)]
         others = dict(unique=unique, prices=prices, cover=cover, rule=rule)
-        parts += [records.part(head, text) for head, text in others.items() if text is not None]
+        parts += [
+            records.make_part(head, text) for head, text in others.items() if text is not None
+        ]
         return self._given + b"".join(parts)
 
     def _answer(self, words: list[str], given: bytes, most: int = answers.MOST_OF_GROUP) -> bytes:
         try:
-            return answer(self._program, words, given, Limits(most, self._time_limit))
+            return ask(self._program, words, given, Limits(most, self._time_limit))
         except Refused as refused:
             self._place(refused)
             raise
@@ -171,12 +175,12 @@ class Auction:
         # (the first record is the form's header, and fields are counted from 1)
         refused.row = dict(enumerate(form.rows, 2)).get(refused.record or 0)
         if form.columns:
-            found = explained(self._program, self._given).findings
+            found = explain(self._program, self._given).findings
             fields = (each.field or 0 for each in found if each.refused.text == refused.text)
             refused.column = dict(enumerate(form.columns, 1)).get(next(fields, 0))
 
     def _report(self, command: str, given: bytes, workers: int) -> Report:
-        words = [command, f"--workers={records.whole(workers, 'workers')}"]
+        words = [command, f"--workers={records.format_whole(workers, 'workers')}"]
         asked = answers.Asked(given)
         output = self._answer(words, given, asked.most_of_report)
         return answers.read_report(output, asked, command == "verify")
@@ -184,12 +188,12 @@ class Auction:
     def explain(self, bids: bool = False) -> Explained:
         """Everything that is wrong with the input: each finding has the refusal, the field and the cause. With `bids`, if
         nothing is wrong, the bids that are in no program, each with the bidder's name and why."""
-        return explained(self._program, self._given, bids)
+        return explain(self._program, self._given, bids)
 
     def compile(self, workers: int = 1) -> list[Program]:
         """The program of each group, in the order of the groups, written by 1 to 64 `workers`. Raises Refused if the rules, a form
-        or a group has a fault, and WrongWords for other numbers of workers."""
-        words = ["compile", f"--workers={records.whole(workers, 'workers')}"]
+        or a group has a fault, and WrongArgument for other numbers of workers."""
+        words = ["compile", f"--workers={records.format_whole(workers, 'workers')}"]
         asked = answers.Asked(self._given)
         output = self._answer(words, self._given, asked.most_of_programs)
         return answers.read_programs(output, asked)
@@ -200,7 +204,7 @@ class Auction:
         """A point of each program: from `cbc`, from `highs` as scipy has it, or from a command as docs/OFFICE.md describes;
         by default from cbc if it is installed. That it is the best one is the solver's word. `time_limit` is in seconds, for
         each program; a solver that runs as a program gets them rounded up. Raises NotFound if the solver isn't there,
-        NotSolved if it gives no point, and WrongWords if it isn't known."""
+        NotSolved if it gives no point, and WrongArgument if it isn't known."""
         name, seconds = checked_solver(solver), seconds_of(time_limit)
         points = (point_of(program, name, seconds) for program in self.compile(workers))
         return Solutions(tuple(points), name)
@@ -221,7 +225,7 @@ class Auction:
         if solutions is None:
             begun = [solve.nothing(program) for program in programs]
         else:
-            begun = [records.encoded(text, "solution") for text in solution_texts(solutions)]
+            begun = [records.encode_text(text, "solution") for text in solution_texts(solutions)]
             self.report(begun)
         found = [certify.certified(mps, text, seconds) for mps, text in zip(programs, begun)]
         claim = Claim()
@@ -256,7 +260,7 @@ class Auction:
         if not isinstance(certified, Certified):
             found_type = type(certified).__name__
             why = f"what Auction.certify gives is asked for, and this is of type {found_type}"
-            raise WrongWords(f"certified: {why}")
+            raise WrongArgument(f"certified: {why}")
         name, seconds = checked_solver(solver), seconds_of(time_limit)
         given = zip(certified.solutions, certified.certificates)
         found = [Found(text.encode(), shown.encode(), 0) for text, shown in given]
@@ -266,7 +270,7 @@ class Auction:
         def with_more(more: list[str]) -> Auction:
             """The auction with groups after those that are listed, each of which is solved and certified."""
             listed.extend(more)
-            text = with_groups(self._given, listed[len(programs) :])
+            text = add_groups(self._given, listed[len(programs) :])
             grown = Auction.from_text(text, program=self._program, time_limit=self._time_limit)
             for program in grown.compile()[len(found) :] if more else ():
                 begin = point_of(program, name, seconds).encode()
@@ -319,8 +323,8 @@ class Auction:
 
     def map(self, solution: Any, group: int = 1) -> Allocation:
         """Winners and total in pounds of a solution of one group, by the group's number from 1. Raises Refused if it isn't a
-        solution or there is no such group, and WrongWords for numbers that no group has."""
-        words = ["map", f"--group={records.whole(group, 'group')}"]
+        solution or there is no such group, and WrongArgument for numbers that no group has."""
+        words = ["map", f"--group={records.format_whole(group, 'group')}"]
         output = self._answer(words, self.input([solution]))
         return answers.read_map(output, answers.Asked(self._given))
 
@@ -328,7 +332,7 @@ class Auction:
         """How many rows, columns and entries a 0-1 program in MPS has, whoever wrote it. Raises Refused if the text isn't of
         the profile that docs/REFERENCE.md describes."""
         text = mps_text.text if isinstance(mps_text, Program) else mps_text
-        return answers.read_counts(self._answer(["check"], records.encoded(text, "program")))
+        return answers.read_counts(self._answer(["check"], records.encode_text(text, "program")))
 
 
 def claim_of(program: bytes, solution: bytes, seconds: float | None) -> Claim:
@@ -342,9 +346,9 @@ def claim_of(program: bytes, solution: bytes, seconds: float | None) -> Claim:
 
 
 def checked_solver(solver: str | None) -> str:
-    """A solver's name or command; WrongWords if it is neither."""
+    """A solver's name or command; WrongArgument if it is neither."""
     if solver is not None and not (isinstance(solver, str) and solver and solver.isprintable()):
-        raise WrongWords("a solver is cbc, highs, or a command with {mps} in it, on one line")
+        raise WrongArgument("a solver is cbc, highs, or a command with {mps} in it, on one line")
     return solve.checked_solver(solver)
 
 
@@ -360,39 +364,39 @@ def point_of(program: Program, solver: str, seconds: float | None) -> str:
 def solution_texts(solutions: Iterable[Any]) -> list[Text]:
     """Solutions as texts, those that are dicts written."""
     given = enumerate(listed(solutions, "solutions"), 1)
-    return [records.solution_text(each, f"solution {number}") for number, each in given]
+    return [records.format_solution(each, f"solution {number}") for number, each in given]
 
 
 def listed(given: Iterable[Any], what: str) -> list[Any]:
-    """A list of texts; WrongWords if it is one text or no list."""
+    """A list of texts; WrongArgument if it is one text or no list."""
     if not records.is_list(given):
-        raise WrongWords(f"{what}: a list is asked for")
+        raise WrongArgument(f"{what}: a list is asked for")
     return list(given)
 
 
 def seconds_of(time_limit: float | None) -> float | None:
-    """A time limit in seconds, or None; WrongWords if it is no number above 0."""
+    """A time limit in seconds, or None; WrongArgument if it is no number above 0."""
     if time_limit is None:
         return None
     if isinstance(time_limit, bool) or not isinstance(time_limit, Real) or not 0 < time_limit < 1e8:
-        shown = records.shown(time_limit)
-        raise WrongWords(f"time_limit: {shown} is no number of seconds above 0")
+        shown = records.show_value(time_limit)
+        raise WrongArgument(f"time_limit: {shown} is no number of seconds above 0")
     return float(time_limit)
 
 
-def names_of(file: File) -> Rules:
+def names_of(file: File) -> AcceptedRules:
     """The names in a file of rules, of which nothing else is known."""
-    categories = [Category(name, 0, 0, 0) for name in names_in(file.rows, "category")]
-    return Rules(1, categories, names_in(file.rows, "bidder"))
+    categories = [Category(name, 0, 0, 0) for name in list_names(file.rows, "category")]
+    return AcceptedRules(1, categories, list_names(file.rows, "bidder"))
 
 
 def read_groups(path: str) -> File:
     """The lines of a file of groups."""
-    return lines_of(path, files.read(path, MOST_OF_A_FILE, regular=True))
+    return parse_lines(path, files.read(path, MOST_OF_A_FILE, regular=True))
 
 
 def content(
-    path: Path,
+    path: StrPath,
     read: Callable[[str], File],
     head: str,
     number: int | None = None,
@@ -402,7 +406,9 @@ def content(
     """A file that becomes a part of the input, with the part's number if there are several. Raises Refused at its first fault."""
     name = head if number is None else f"{head} {number}"
     if not isinstance(path, (str, bytes, os.PathLike)):
-        raise WrongWords(f"{name}: a path is asked for, and this is of type {type(path).__name__}")
+        raise WrongArgument(
+            f"{name}: a path is asked for, and this is of type {type(path).__name__}"
+        )
     try:
         file = read(os.fsdecode(path))
     except files.Unreadable as error:

@@ -18,20 +18,20 @@ from pathlib import Path
 from typing import TYPE_CHECKING
 
 from wdp import audits, certify, files, groups, memory, prices, solve, steps
-from wdp.cli import reported
+from wdp.cli import run_reporting
 from wdp.folder import INPUT, Folder
-from wdp.office.choices import checked
-from wdp.office.faults import counted
-from wdp.office.judge import explained
-from wdp.program import Limits, answer, found_program
+from wdp.office.choices import make_type
+from wdp.office.faults import format_count
+from wdp.office.judge import explain
+from wdp.program import Limits, ask, find_program
 from wdp.publish import command as publishing
 from wdp.publish.results import Results
 from wdp.steps import Step, Watch
 from wdp.texts import accepted, answers, certificates
 from wdp.texts.answers import MOST_TIES
-from wdp.texts.parts import MOST_OF_INPUT, groups_in, names_in, parts_of, with_groups
-from wdp.texts.refusals import NotSolved, Refused, WrongWords, need
-from wdp.texts.zero_one import read_program, read_solution, solution_text
+from wdp.texts.parts import MOST_OF_INPUT, list_groups, list_names, parse_parts, add_groups
+from wdp.texts.refusals import NotSolved, Refused, WrongArgument, need
+from wdp.texts.zero_one import read_program, read_solution, format_solution
 from wdp.progress import Progress, Times, is_at_terminal
 
 if TYPE_CHECKING:
@@ -87,7 +87,7 @@ def run_steps(
     after: Mapping[str, Collection[str]] | None = None,
 ) -> dict[str, int]:
     """Does steps by their names, each in a process of its own and `after` some others, and says why one failed; their statuses."""
-    named = {name: partial(reported, say, name, step) for name, step in work.items()}
+    named = {name: partial(run_reporting, say, name, step) for name, step in work.items()}
     ended = steps.run(named, jobs, watch, after)
     for name, status in ended.items():
         if status < 0:
@@ -133,7 +133,7 @@ class Run(Folder):
         if not self.is_priced or not self.has(first):
             return {}
         if self.has(PRICES):
-            added = groups_in(self.read(PRICES))
+            added = list_groups(self.read(PRICES))
         else:
             added = prices.alone_in(self.read(INPUT), self.read(first), [*names.values()])
         return dict(enumerate(added, len(names) + 1))
@@ -143,17 +143,17 @@ class Run(Folder):
         number = len(self.names()) + len(added) if self.has(NAMES) else 0
         if number and all(self.has(of_group("program", k)) for k in range(1, number + 1)):
             return
-        text = with_groups(self.read(INPUT), added)
+        text = add_groups(self.read(INPUT), added)
         limits, names = Limits(answers.Asked(text).most_of_programs), list[str]()
         with tempfile.TemporaryFile(dir=self.where) as printed:
             words = ["compile", f"--workers={min(self.jobs, 64)}"]
             try:
-                answer(self.program, words, text, limits, printed)
+                ask(self.program, words, text, limits, printed)
             except Refused as refused:
                 path = "-" if self.page is None else shlex.quote(str(self.path(INPUT)))
                 hint = f"wdp-office explain {path} prints what is wrong"
                 raise Refused(f"{refused}; {hint}") from None
-            if groups_in(text)[:1] != ["-"]:
+            if list_groups(text)[:1] != ["-"]:
                 raise Refused("group 1 is not empty: the first line of %groups has to be `-`")
             printed.seek(0)
             for is_head, lines in groupby(printed, lambda line: line.startswith(b"* program ")):
@@ -204,7 +204,7 @@ class Run(Folder):
         from wdp.certify.search import LimitReached
         from wdp.certify.ties import find_ties
 
-        with steps.ended_at_once():
+        with steps.end_at_once():
             problem = self.problem_of(1, program)
             problem.known_rows = self.known_rows()
         try:
@@ -213,10 +213,10 @@ class Run(Folder):
                 self.read(of_group("solution", 1)),
                 seconds=self.seconds,
                 keep=self.keep_ties,
-                at_once=steps.ended_at_once,
+                at_once=steps.end_at_once,
             )
         except LimitReached:
-            known = counted(1 + len(list(self.kept("ties"))), "award")
+            known = format_count(1 + len(list(self.kept("ties"))), "award")
             limit = f"the search for ties ended at its limit of {self.seconds} s"
             raise NotSolved(f"{known} found; {limit}", GIVEN_UP) from None
         unique = b"" if found.unique is None else part("unique", found.unique)
@@ -237,27 +237,27 @@ class Run(Folder):
         """What shows a group that leaves out fewer, if its solution has no bid of the others: then no other is better here, and
         the same lines show that."""
         sets = self.sets()
-        for number in groups.smaller(sets, group):
+        for number in groups.find_smaller(sets, group):
             solution, certificate = of_group("solution", number), of_group("certificate", number)
             if not self.has(solution) or not self.has(certificate):
                 continue
             more = self.numbers_of(sets[group] - sets[number])
             point = self.read(solution)
-            if not certificates.has_bid_of(point, more):
-                text = certificates.without_bidders(self.read(certificate), more)
+            if not certificates.has_bid(point, more):
+                text = certificates.remove_bidders(self.read(certificate), more)
                 return certify.Certified(point, text, 0)
         return None
 
     def sets(self) -> dict[int, groups.Names]:
         """The names that each group leaves out, those that prices need too."""
         lines = {**self.names(), **self.added()}
-        return {number: groups.names_of(line) for number, line in lines.items()}
+        return {number: groups.parse_names(line) for number, line in lines.items()}
 
     def numbers_of(self, names: groups.Names) -> set[int]:
         """The numbers of bidders in the rules."""
-        parts = parts_of(self.read(INPUT))
+        parts = parse_parts(self.read(INPUT))
         rules = next(part.rows() for part in parts if part.kind == "rules")
-        return {at for at, name in enumerate(names_in(rules, "bidder"), 1) if name in names}
+        return {at for at, name in enumerate(list_names(rules, "bidder"), 1) if name in names}
 
     def problem_of(self, group: int, program: bytes) -> "Problem":
         """The problem of a group, of which nothing is read if that of group 1 is there, with what that one's search found."""
@@ -287,16 +287,16 @@ class Run(Folder):
                 say(f"group {group}: {failed}; the search begins from nothing")
                 return None
 
-        with steps.ended_at_once():
+        with steps.end_at_once():
             problem = self.problem_of(group, program)
         best, tree = f"unfinished/{group}.best.txt", f"unfinished/{group}.txt"
         try:
             if self.has(best) and self.has(tree):
-                with steps.ended_at_once():
+                with steps.end_at_once():
                     earlier = self.read(tree).decode("ascii")
                     found = problem.certified(self.read(best), self.seconds, earlier=earlier)
             else:
-                found = settle(problem, ask, self.seconds, steps.ended_at_once)
+                found = settle(problem, ask, self.seconds, steps.end_at_once)
         except LimitReached as reached:
             # (the tree shows as much of a better solution, but of a worse one it may show too little)
             self.leave(best, reached.solution)
@@ -330,12 +330,12 @@ class Run(Folder):
         for name in kept:
             award.learn(self.read(name))
         if kept and not self.quiet:
-            say(f"prices: {counted(len(kept), 'group')} found by an earlier run")
+            say(f"prices: {format_count(len(kept), 'group')} found by an earlier run")
         search = prices.Search(
             award,
             solver=self.solver,
             seconds=self.seconds,
-            at_once=steps.ended_at_once,
+            at_once=steps.end_at_once,
             log=self.log_of("prices"),
             say=lambda text: None if self.quiet else say(f"prices: {text}"),
             keep=partial(self.keep, "prices"),
@@ -389,7 +389,7 @@ class Run(Folder):
         for kind in ("solution", "certificate"):
             audit += part(kind, *(self.read(of_group(kind, k)) for k in [*groups, *added]))
         audit += self.read(PRICES).rpartition(b"%groups\n")[0] if is_priced else b""
-        return audit + self.ties() + with_groups(data, added.values())
+        return audit + self.ties() + add_groups(data, added.values())
 
     def publish(self, data: bytes, report: bytes, audit: bytes | None) -> None:
         """Has the program judge what was found, and makes the tables and the page."""
@@ -431,13 +431,13 @@ class Run(Folder):
         if self.is_certified and left:
             self.read_first()
         columns = self.columns_of_first()
-        jobs = memory.jobs_that_fit(self.jobs, columns, memory.free())
+        jobs = memory.limit_jobs(self.jobs, columns, memory.measure_free())
         if not self.quiet and (left or 1 in asked):
             self.tell_begin(len(asked), len(left), columns, jobs)
         after: dict[str, list[str]] = {}
         if self.is_certified and left:
             sets = self.sets()
-            before = {group: groups.smaller(sets, group) for group in left}
+            before = {group: groups.find_smaller(sets, group) for group in left}
             after = {label(group): [label(each) for each in before[group]] for group in left}
         work = {label(group): partial(self.settle, group) for group in left}
         watch = Progress(len(asked), len(left), self.times, say)
@@ -457,7 +457,7 @@ class Run(Folder):
         return 0
 
     def tell_begin(self, count: int, left: int, columns: int, jobs: int) -> None:
-        are_done = f"{counted(count, 'group')}, {count - left} done"
+        are_done = f"{format_count(count, 'group')}, {count - left} done"
         how = f"{jobs} at a time, by {self.solver.split()[0]}"
         size = f"; {'1 column' if columns == 1 else f'{columns:,} columns'} with nobody left out"
         say(f"{are_done}, {how}{size if left else ''}")
@@ -475,7 +475,7 @@ class Run(Folder):
 
     def read_first(self) -> None:
         """Reads group 1's program once for all steps, and the modules. A step says itself what is wrong with its own program."""
-        with steps.signals_wait():
+        with steps.hold_signals():
             import wdp.certify.settling  # noqa: F401
         with contextlib.suppress(Refused):
             self.first = self.first or certify.read_problem(self.read(of_group("program", 1)))
@@ -549,7 +549,7 @@ class Run(Folder):
         data = self.read(INPUT)
         audit = self.read(AUDIT)
         _, report = publishing.judged(self.program, "verify", audit)
-        audits.check_first(award, report.awards, explained(self.program, data, True).left_out)
+        audits.check_first(award, report.awards, explain(self.program, data, True).left_out)
         unpriced = self.audit(data, list(self.names()), with_prices=False)
         first = audits.with_first(unpriced, award)
         own = replace(self, where=self.path(AWARDS) / str(award), page=None)
@@ -588,7 +588,7 @@ class Run(Folder):
             return self.through()
         if name.isdigit() and int(name) in {**self.names(), **self.added()}:
             return in_processes({f"group {name}": partial(self.settle, int(name))})
-        raise WrongWords(f"there is no step {name}")
+        raise WrongArgument(f"there is no step {name}")
 
     def without_folder(self, take: Step, name: str | None, path: str | None = None) -> int:
         """The same in a temporary folder, of which nothing is left: the process that waits takes it away, and the one that works
@@ -615,7 +615,7 @@ class Run(Folder):
     def take_audit(self, audit: bytes) -> None:
         """Puts what an audit has into the folder, as if steps had left it, but for its prices, which are found anew."""
         audit = audits.without_prices(audit)
-        parts = list(parts_of(audit))
+        parts = list(parse_parts(audit))
         publishing.judged(self.program, "verify", audit)
         self.take_input(audits.joined(part for part in parts if part.kind in accepted.KINDS))
         self.compile()
@@ -623,7 +623,7 @@ class Run(Folder):
         for group, text in enumerate(solutions, 1):
             program = read_program(self.read(of_group("program", group)))
             ones = read_solution(text, program, "a solution")
-            solution = audits.mark_of(text) + solution_text(ones, program)
+            solution = audits.mark_of(text) + format_solution(ones, program)
             self.leave(of_group("solution", group), solution)
         shown = [part.text for part in parts if part.kind == "certificate"]
         for group, text in enumerate(shown, 1):
@@ -636,7 +636,7 @@ class Run(Folder):
 def add_shared_words(parser: argparse.ArgumentParser) -> None:
     """The words that `auction` and `prices` have in common, and what `prices` takes for the others."""
     solve.add_solver_words(parser)
-    jobs = checked("number of jobs, 1 to 1000,", int, lambda n: 1 <= n <= 1000)
+    jobs = make_type("number of jobs, 1 to 1000,", int, lambda n: 1 <= n <= 1000)
     add, processors = parser.add_argument, len(os.sched_getaffinity(0))
     how = "how many groups are done at a time; by default one per processor"
     add("--jobs", type=jobs, default=processors, metavar="N", help=how)
@@ -652,7 +652,7 @@ def add_shared_words(parser: argparse.ArgumentParser) -> None:
     )
 
 
-def add_words(parser: argparse.ArgumentParser) -> None:
+def add_arguments(parser: argparse.ArgumentParser) -> None:
     parser.epilog = EPILOG
     add = parser.add_argument
     streams = "the input comes from standard input, and the report goes to standard output"
@@ -663,7 +663,7 @@ def add_words(parser: argparse.ArgumentParser) -> None:
     add_shared_words(parser)
     ties = "find all who can win with the total of group 1, and prove that nobody else can"
     add("--ties", dest="finds_ties", action="store_true", help=ties)
-    number = checked("number of an award", int, lambda number: number >= 1)
+    number = make_type("number of an award", int, lambda number: number >= 1)
     award = (
         f"--ties, and make award N of those the first, with prices of its own, in DIR/{AWARDS}/N"
     )
@@ -683,7 +683,7 @@ def run_of(given: argparse.Namespace, folder: Path | None, shows: Callable[[str]
     """What the words ask for, in a folder or a temporary one; Refused before the work begins if something is missing."""
     global tool
     tool = given.command
-    program, solver = found_program(given.program), solve.checked_solver(given.solver)
+    program, solver = find_program(given.program), solve.checked_solver(given.solver)
     if given.is_certified:
         need("a certificate", *certify.LIBRARIES)
     where = folder or Path(tempfile.gettempdir(), "auction." + secrets.token_hex(8))
@@ -705,13 +705,13 @@ def run_of(given: argparse.Namespace, folder: Path | None, shows: Callable[[str]
 
 def run(given: argparse.Namespace) -> int:
     if (given.finds_ties or given.award_number) and not given.is_certified:
-        raise WrongWords("--ties needs certificates, and --no-certify makes none")
+        raise WrongArgument("--ties needs certificates, and --no-certify makes none")
     if given.award_number and (given.step or not given.folder):
-        raise WrongWords("--award goes with DIR, and not with --step")
+        raise WrongArgument("--award goes with DIR, and not with --step")
     own = run_of(given, given.folder, (lambda line: None) if given.quiet else say)
     if not given.folder:
         if given.step or given.input not in (None, "-") or given.title or given.currency:
-            raise WrongWords("--input FILE, --title, --currency and --step go with DIR")
+            raise WrongArgument("--input FILE, --title, --currency and --step go with DIR")
         take: Callable[[], None] = lambda: own.take_input(files.read("-", MOST_OF_INPUT))
         return own.without_folder(take, REPORT if own.is_certified else UNCERTIFIED)
     data = files.read(given.input, MOST_OF_INPUT) if given.input else None
@@ -725,7 +725,7 @@ def run_prices(given: argparse.Namespace) -> int:
     own = run_of(given, folder, lambda line: files.put(f"{line}\n".encode()))
     if folder:
         if given.output:
-            raise WrongWords("--output goes with an audit; a folder keeps its own")
+            raise WrongArgument("--output goes with an audit; a folder keeps its own")
         return own.in_place()
     audit = files.read(str(given.award), publishing.MOST_OF_AN_AUDIT)
     return own.without_folder(partial(own.take_audit, audit), given.output and AUDIT, given.output)

@@ -8,8 +8,8 @@ from collections.abc import Iterable, Sequence
 from dataclasses import dataclass
 
 from wdp.results import Allocation, Winner
-from wdp.texts.parts import Part, parts_of
-from wdp.texts.refusals import Refused, WrongWords
+from wdp.texts.parts import Part, parse_parts
+from wdp.texts.refusals import Refused, WrongArgument
 
 # kinds of parts; `weights` is of an earlier version
 OF_PRICES = ("prices", "cover", "rule", "weights")
@@ -32,7 +32,7 @@ def joined(parts: Iterable[Part]) -> bytes:
 
 def without_prices(audit: bytes) -> bytes:
     """The audit without its prices and what shows them, as this version has them or an earlier one."""
-    return joined(part for part in parts_of(audit) if part.kind not in OF_PRICES)
+    return joined(part for part in parse_parts(audit) if part.kind not in OF_PRICES)
 
 
 def mark_of(solution: bytes) -> bytes:
@@ -59,13 +59,13 @@ def awards_in(parts: Sequence[Part]) -> list[Listed]:
 
 def numbers_in(audit: bytes) -> list[int]:
     """The numbers of the awards that an audit lists, in its order."""
-    return [award.number for award in awards_in(list(parts_of(audit)))]
+    return [award.number for award in awards_in(list(parse_parts(audit)))]
 
 
 def with_first(audit: bytes, number: int) -> bytes:
     """The audit with the award of this number first and the others after it by their numbers. It has no prices: those of another award
     aren't its own."""
-    parts = list(parts_of(without_prices(audit)))
+    parts = list(parse_parts(without_prices(audit)))
     awards = awards_in(parts)
     ordered = sorted(awards, key=lambda award: (award.number != number, award.number))
     texts = [part.text for part in parts]
@@ -104,10 +104,10 @@ def left_out_bid(award: Allocation, left_out: Iterable[tuple[str, str]]) -> Winn
 def check_first(
     number: int, awards: Sequence[Allocation], left_out: Iterable[tuple[str, str]]
 ) -> None:
-    """WrongWords if there is no award of this number, and Refused if no audit can have it first."""
+    """WrongArgument if there is no award of this number, and Refused if no audit can have it first."""
     if number > len(awards):
         listed = "there is 1 award" if len(awards) == 1 else f"there are {len(awards)} awards"
-        raise WrongWords(f"there is no award {number}: {listed}")
+        raise WrongArgument(f"there is no award {number}: {listed}")
     if won := left_out_bid(awards[number - 1], left_out):
         why = f"bid {won.bid} of {won.bidder} is in no program"
         raise Refused(f"award {number} can't be the first of an audit: {why}")

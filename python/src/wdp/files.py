@@ -10,9 +10,9 @@ from collections.abc import Iterable, Iterator, Mapping
 from pathlib import Path
 from typing import BinaryIO
 
-from wdp.texts.refusals import Refused, escaped
+from wdp.texts.refusals import Refused, escape
 
-KINDS = {
+_KINDS = {
     stat.S_IFDIR: "a folder",
     stat.S_IFIFO: "a pipe",
     stat.S_IFSOCK: "a socket",
@@ -31,7 +31,7 @@ class Unreadable(Refused):
 
 
 @contextlib.contextmanager
-def at(path: str) -> Iterator[None]:
+def map_errors(path: str) -> Iterator[None]:
     """What the system refuses within is Unreadable, with the path."""
     try:
         yield
@@ -45,11 +45,11 @@ def read(path: str, most: int, regular: bool = False) -> bytes:
     """The bytes of a file, at most that many; `-` is standard input.
 
     With `regular` nothing but a regular file is read, else pipes are too. Raises Unreadable."""
-    with at(path):
+    with map_errors(path):
         if path == "-" and not regular:
             if sys.stdin is None:
                 raise Unreadable(path, "standard input is closed")
-            return up_to(sys.stdin.buffer, path, most)
+            return read_rest(sys.stdin.buffer, path, most)
         # a pipe is opened without waiting for a writer
         flags = os.O_RDONLY | (os.O_NONBLOCK | os.O_NOCTTY if regular else 0)
         if regular:
@@ -57,15 +57,15 @@ def read(path: str, most: int, regular: bool = False) -> bytes:
         with open(os.open(path, flags), "rb") as file:
             if regular:
                 check_kind(path, os.fstat(file.fileno()))
-            return up_to(file, path, most)
+            return read_rest(file, path, most)
 
 
 def check_kind(path: str, status: os.stat_result) -> None:
-    if kind := KINDS.get(stat.S_IFMT(status.st_mode)):
+    if kind := _KINDS.get(stat.S_IFMT(status.st_mode)):
         raise Unreadable(path, f"it is {kind}")
 
 
-def up_to(file: BinaryIO, path: str, most: int) -> bytes:
+def read_rest(file: BinaryIO, path: str, most: int) -> bytes:
     """The rest of a file. One that has too much by its size isn't read."""
     before = os.fstat(file.fileno())
     data: bytes | None = file.read(most + 1) if before.st_size <= most else b""
@@ -84,13 +84,13 @@ def write_all(texts: Mapping[str, bytes]) -> None:
     written: dict[str, str] = {}
     try:
         for path, text in texts.items():
-            with at(path):
+            with map_errors(path):
                 if os.path.exists(path) and not os.path.isfile(path):
                     raise Unreadable(path, "it isn't a file")
-                written[path] = hidden_beside(path)
+                written[path] = _make_hidden_path(path)
                 Path(written[path]).write_bytes(text)
         for path, temporary in written.items():
-            with at(path):
+            with map_errors(path):
                 os.replace(temporary, os.path.realpath(path))
     finally:
         for temporary in written.values():
@@ -116,19 +116,23 @@ def temporary_folder(prefix: str) -> Iterator[Path]:
         remove(where)
 
 
-def hidden_beside(path: str) -> str:
+def _make_hidden_path(path: str) -> str:
     """A name that nobody has yet, in the folder of what a path leads to."""
     return os.path.join(os.path.dirname(os.path.realpath(path)), WRITING + secrets.token_hex(8))
 
 
 def write_folder(folder: str, texts: Mapping[str, bytes], ours: Iterable[str] = ()) -> None:
     """Writes a folder with these files, all or none, in the place of one that has no others than `ours`, by default these."""
-    with at(folder):
+    with map_errors(folder):
         there = os.listdir(folder) if os.path.lexists(folder) else []
         others = sorted(set(there).difference(ours or texts))
         if others:
             raise Unreadable(folder, f"it has other files, as {others[0]}; name a new folder")
-        place, made, old = os.path.realpath(folder), hidden_beside(folder), hidden_beside(folder)
+        place, made, old = (
+            os.path.realpath(folder),
+            _make_hidden_path(folder),
+            _make_hidden_path(folder),
+        )
         os.makedirs(os.path.dirname(place), exist_ok=True)
         os.mkdir(made)
         try:
@@ -151,7 +155,7 @@ def put(data: bytes, path: str | None = None) -> None:
         return write_all({path: data})
     if sys.stdout is None:
         raise Unreadable("standard output", "it is closed")
-    with at("standard output"):
+    with map_errors("standard output"):
         try:
             # with PYTHONUNBUFFERED a write may take a part, and say so by its answer alone
             rest = memoryview(data)
@@ -188,4 +192,4 @@ def open_standard_streams() -> None:
 
 
 def say(tool: str, text: str) -> None:
-    tell(escaped(f"{tool}: {text}") + "\n")
+    tell(escape(f"{tool}: {text}") + "\n")

@@ -12,8 +12,8 @@ from wdp import files
 from wdp.texts.refusals import Refused
 
 INPUT = "input.txt"
-MOST = 2 * 1024 * 1024 * 1024  # bytes of a file that a step left
-WAITS = 3  # seconds for a run that is just ending
+_MOST_OF_FILE = 2 * 1024 * 1024 * 1024  # bytes of a file that a step left
+_PATIENCE = 3  # seconds for a run that is just ending
 
 
 @dataclass
@@ -37,16 +37,16 @@ class Folder:
     def read(self, name: str) -> bytes:
         """The bytes that a step left; Refused if they are others, or it isn't a file."""
         path = str(self.path(name))
-        data = files.read(path, MOST, regular=True)
-        if self.sum_of(name) != sum_line(name, data):
+        data = files.read(path, _MOST_OF_FILE, regular=True)
+        if self.sum_of(name) != _format_sum(name, data):
             again = "take another folder" if name == INPUT else "delete it to have it made again"
             raise Refused(f"{path} isn't what was left there: put that back, or {again}")
         return data
 
     def leave(self, name: str, data: bytes) -> None:
         """Writes what a step leaves. Its sum comes first: a step that is ended between them is done again."""
-        for path, text in ((self.sum_path(name), sum_line(name, data)), (self.path(name), data)):
-            with files.at(str(path.parent)):
+        for path, text in ((self.sum_path(name), _format_sum(name, data)), (self.path(name), data)):
+            with files.map_errors(str(path.parent)):
                 path.parent.mkdir(parents=True, exist_ok=True)
             files.write_all({str(path): text})
 
@@ -58,7 +58,7 @@ class Folder:
         others = set(sums) - {self.sum_path(INPUT)}
         another = Refused(f"{path} is another input; take another folder")
         if data is None or path.exists():
-            there = files.read(str(path), MOST, regular=True)
+            there = files.read(str(path), _MOST_OF_FILE, regular=True)
             if data not in (None, there) and (others or not self.has(INPUT)):
                 raise another
             data = there if data is None else data
@@ -67,7 +67,7 @@ class Folder:
         elif others and not self.sum_path(INPUT).exists():
             why = f"it says which input {self.where} belongs to"
             raise Refused(f"{self.sum_path(INPUT)} isn't there; {why}")
-        elif others and self.sum_of(INPUT) != sum_line(INPUT, data):
+        elif others and self.sum_of(INPUT) != _format_sum(INPUT, data):
             raise another
         else:
             self.leave(INPUT, data)
@@ -76,8 +76,8 @@ class Folder:
     def locked(self, alone: bool) -> Iterator[None]:
         """One run at a time has the folder, or any number of steps of Snakemake, until the last of its processes ends."""
         kind = fcntl.LOCK_EX if alone else fcntl.LOCK_SH
-        last, path = time.monotonic() + WAITS, str(self.path(".lock"))
-        with files.at(path):
+        last, path = time.monotonic() + _PATIENCE, str(self.path(".lock"))
+        with files.map_errors(path):
             number = os.open(path, os.O_RDWR | os.O_CREAT | os.O_NONBLOCK, 0o666)
         with open(number, "rb") as lock:
             files.check_kind(path, os.fstat(number))
@@ -107,5 +107,5 @@ class Folder:
             files.remove(where)
 
 
-def sum_line(name: str, data: bytes) -> bytes:
+def _format_sum(name: str, data: bytes) -> bytes:
     return f"{hashlib.sha256(data).hexdigest()}  {name}\n".encode()

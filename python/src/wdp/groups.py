@@ -4,19 +4,19 @@ from collections.abc import Mapping
 Names = frozenset[str]
 
 
-def names_of(line: str) -> Names:
+def parse_names(line: str) -> Names:
     """The names that a line of groups joins; `-` joins none.
 
-    >>> sorted(names_of("Beta+Alpha")), sorted(names_of("-"))
+    >>> sorted(parse_names("Beta+Alpha")), sorted(parse_names("-"))
     (['Alpha', 'Beta'], [])
     """
     return frozenset() if line == "-" else frozenset(line.split("+"))
 
 
-def smaller(groups: Mapping[int, Names], group: int) -> list[int]:
+def find_smaller(groups: Mapping[int, Names], group: int) -> list[int]:
     """The groups that leave out fewer of the same bidders, the smallest first, and of the same size in their order.
 
-    >>> smaller({1: names_of("-"), 2: names_of("A+B"), 3: names_of("B"), 4: names_of("C")}, 2)
+    >>> find_smaller({1: parse_names("-"), 2: parse_names("A+B"), 3: parse_names("B"), 4: parse_names("C")}, 2)
     [1, 3]
     """
     own = groups[group]

@@ -17,10 +17,10 @@ from wdp.results import Matrix  # noqa: E402
 from wdp.solve import MOST_OF_PROGRAM, NO_POINT, TIME_OUT  # noqa: E402
 from wdp.texts.refusals import NotSolved  # noqa: E402
 from wdp.texts.zero_one import AT_LEAST, AT_MOST, ZeroOne  # noqa: E402
-from wdp.texts.zero_one import read_program, solution_text  # noqa: E402
+from wdp.texts.zero_one import read_program, format_solution  # noqa: E402
 
 
-def solved(program: ZeroOne, seconds: float) -> set[int]:
+def solve(program: ZeroOne, seconds: float) -> set[int]:
     """The columns at 1 of the best point that is found."""
     import numpy as np
     from scipy.optimize import Bounds, LinearConstraint, milp
@@ -47,11 +47,11 @@ def solved(program: ZeroOne, seconds: float) -> set[int]:
 def main(mps: str, out: str, seconds: str = "inf") -> int:
     program = read_program(files.read(mps, MOST_OF_PROGRAM))
     try:
-        ones = solved(program, math.inf if seconds == "inf" else float(seconds))
+        ones = solve(program, math.inf if seconds == "inf" else float(seconds))
     except NotSolved as failed:
         files.tell(f"{failed.text}\n")
         return failed.status
-    files.write_all({out: solution_text(ones, program)})
+    files.write_all({out: format_solution(ones, program)})
     return 0
 
 

@@ -1,29 +1,29 @@
 """How many steps the memory of this machine has room for at once."""
 from pathlib import Path
 
-MEGABYTE = 1_000_000
+_MEGABYTE = 1_000_000
 # of a step that certifies: Python with its libraries, and each column of the program; a solver's own is smaller
-OF_STEP, OF_COLUMN = 110 * MEGABYTE, 2_500
-MEMINFO = Path("/proc/meminfo")
-CONTROL_GROUP = Path("/sys/fs/cgroup")
+_BYTES_OF_STEP, _BYTES_OF_COLUMN = 110 * _MEGABYTE, 2_500
+_MEMINFO = Path("/proc/meminfo")
+_CONTROL_GROUP = Path("/sys/fs/cgroup")
 
 
-def of_step(columns: int) -> int:
+def estimate_step(columns: int) -> int:
     """The bytes that a step for a program with so many columns takes at most."""
-    return OF_STEP + OF_COLUMN * columns
+    return _BYTES_OF_STEP + _BYTES_OF_COLUMN * columns
 
 
-def free(meminfo: Path = MEMINFO, control_group: Path = CONTROL_GROUP) -> int | None:
+def measure_free(meminfo: Path = _MEMINFO, control_group: Path = _CONTROL_GROUP) -> int | None:
     """The bytes that this machine has left, and the control group of this process; None where neither is known."""
     known = [
         left
-        for left in (free_of_machine(meminfo), free_of_group(control_group))
+        for left in (_measure_machine(meminfo), _measure_control_group(control_group))
         if left is not None
     ]
     return min(known, default=None)
 
 
-def free_of_machine(meminfo: Path) -> int | None:
+def _measure_machine(meminfo: Path) -> int | None:
     try:
         lines = meminfo.read_text().splitlines()
         return next(
@@ -33,7 +33,7 @@ def free_of_machine(meminfo: Path) -> int | None:
         return None
 
 
-def free_of_group(control_group: Path) -> int | None:
+def _measure_control_group(control_group: Path) -> int | None:
     """What a limit of a control group leaves, apart from files that it has in memory."""
     try:
         limit = int((control_group / "memory.max").read_text())
@@ -46,10 +46,10 @@ def free_of_group(control_group: Path) -> int | None:
         return None
 
 
-def jobs_that_fit(jobs: int, columns: int, left: int | None) -> int:
+def limit_jobs(jobs: int, columns: int, left: int | None) -> int:
     """How many of these jobs there is room for, and one in any case.
 
-    >>> jobs_that_fit(4, 100_000, 1_000_000_000), jobs_that_fit(4, 100_000, 0), jobs_that_fit(4, 100_000, None)
+    >>> limit_jobs(4, 100_000, 1_000_000_000), limit_jobs(4, 100_000, 0), limit_jobs(4, 100_000, None)
     (2, 1, 4)
     """
-    return jobs if left is None else max(1, min(jobs, left // of_step(columns)))
+    return jobs if left is None else max(1, min(jobs, left // estimate_step(columns)))

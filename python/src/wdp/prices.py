@@ -21,7 +21,7 @@ from typing import TYPE_CHECKING
 
 from wdp import certify, solve
 from wdp.certify import Say
-from wdp.office.faults import figure
+from wdp.office.faults import format_number
 from wdp.rule import Group, Rule, WholeRule, paid, prices_above
 from wdp.texts import accepted
 from wdp.texts.refusals import NotSolved, Refused
@@ -292,7 +292,7 @@ class Search:
         if self.award.covers(prices):
             return False
         cost = self.award.costs[group]
-        covered = figure(paid(group, prices))
+        covered = format_number(paid(group, prices))
         self.say(f"{self.award.line(group)} costs {cost:,} at least, and {covered} was covered")
         self.keep(solution)
         return True
@@ -331,7 +331,7 @@ def alone_in(data: bytes, solution: bytes, listed: Sequence[str]) -> list[str]:
     return added if len(listed) + len(added) <= MOST_GROUPS else []
 
 
-def add_words(parser: argparse.ArgumentParser) -> None:
+def add_arguments(parser: argparse.ArgumentParser) -> None:
     from wdp import auction
 
     award = "the folder of an auction, or an audit, as `auction` and `results` leave it"

@@ -10,44 +10,46 @@ import time
 from collections.abc import Sequence
 from typing import IO, Any, NamedTuple
 
-from wdp.texts.refusals import NotFound, Refused, Unclear, WrongWords
+from wdp.texts.refusals import NotFound, Refused, Unclear, WrongArgument
 
-Path = str | os.PathLike[str]
+StrPath = str | os.PathLike[str]
 
-PACKAGE = os.path.dirname(os.path.realpath(__file__))
-INSTALL = "make install in the tree of wdp installs it, or name it by program= or $WDP"
-END_OF_MESSAGES = 65_536  # bytes at the end of standard error that are read: a refusal is one line
-MOST_OF_MESSAGES = 256 * 1024 * 1024  # bytes of standard error, after which a program is ended
-LOOK_EVERY = 0.25  # seconds, at how much a program has printed
-PATIENCE = 15  # seconds for a program that is to end
-REFUSALS = {1: Refused, 2: WrongWords, 3: NotFound}  # by the program's status
+_PACKAGE = os.path.dirname(os.path.realpath(__file__))
+_INSTALL = "make install in the tree of wdp installs it, or name it by program= or $WDP"
+_END_OF_MESSAGES = 65_536  # bytes at the end of standard error that are read: a refusal is one line
+_MOST_OF_MESSAGES = 256 * 1024 * 1024  # bytes of standard error, after which a program is ended
+_LOOK_EVERY = 0.25  # seconds, at how much a program has printed
+_PATIENCE = 15  # seconds for a program that is to end
+_REFUSALS = {1: Refused, 2: WrongArgument, 3: NotFound}  # by the program's status
 
 
-def tree_of_package() -> str | None:
+def _find_tree() -> str | None:
     """The tree that this package is in, or None if it is installed elsewhere."""
-    root = os.path.dirname(os.path.dirname(os.path.dirname(PACKAGE)))
+    root = os.path.dirname(os.path.dirname(os.path.dirname(_PACKAGE)))
     is_tree = all(os.path.isfile(os.path.join(root, name)) for name in ("crates.txt", "wdp"))
     return root if is_tree else None
 
 
-def found_program(program: Path | None = None) -> str:
+def find_program(program: StrPath | None = None) -> str:
     """The path of the program: the one that is given, else $WDP, else ./wdp of the package's tree, else the one that was
     installed with the package, else `wdp` on the PATH. Raises NotFound if the one that is named isn't there; no other one is
-    then taken, and WrongWords if it is no path."""
-    tree, prefix = tree_of_package(), PACKAGE.rpartition(os.sep + "lib" + os.sep)[0]
+    then taken, and WrongArgument if it is no path."""
+    tree, prefix = _find_tree(), _PACKAGE.rpartition(os.sep + "lib" + os.sep)[0]
     beside = os.path.join(tree, "wdp") if tree else os.path.join(prefix, "bin", "wdp")
     usual = os.environ.get("WDP") or (beside if os.path.isfile(beside) else "wdp")
     try:
         asked = usual if program is None else os.fsdecode(program)
     except TypeError:
-        raise WrongWords(f"program: a path is asked for, not a {type(program).__name__}") from None
+        raise WrongArgument(
+            f"program: a path is asked for, not a {type(program).__name__}"
+        ) from None
     found = shutil.which(asked)
     if found is None:
-        raise NotFound(f"the program isn't found: {asked}; {INSTALL}")
+        raise NotFound(f"the program isn't found: {asked}; {_INSTALL}")
     return os.path.abspath(found)
 
 
-class Ran(NamedTuple):
+class ProcessResult(NamedTuple):
     """How a program ended: its status, below 0 for a signal, None if its time was over; its output; the end of its messages."""
 
     status: int | None
@@ -68,14 +70,14 @@ class Limits(NamedTuple):
     ending: int = signal.SIGKILL
 
 
-def ran(
+def run_process(
     words: Sequence[str],
     given: bytes,
     limits: Limits,
     output: IO[bytes] | None = None,
     messages: IO[bytes] | None = None,
-    folder: Path | None = None,
-) -> Ran:
+    folder: StrPath | None = None,
+) -> ProcessResult:
     """Runs a program to its end on `given`, in a folder. What it prints goes to the files that are named. Its three streams are
     files: none can fill, as a pipe can, and nothing that the program left running is waited for. Raises NotFound if it can't be
     started, and Unclear if it prints too much or a file can't be written."""
@@ -85,9 +87,9 @@ def ran(
             source.write(given)
             source.seek(0)
             streams = {"stdin": source, "stdout": output or printed, "stderr": messages or said}
-            status = status_of(words, limits, streams, folder)
-            text = end_of(messages or said, END_OF_MESSAGES).decode("utf-8", "backslashreplace")
-            return Ran(status, end_of(printed, limits.most), text)
+            status = _wait_for(words, limits, streams, folder)
+            text = _read_end(messages or said, _END_OF_MESSAGES).decode("utf-8", "backslashreplace")
+            return ProcessResult(status, _read_end(printed, limits.most), text)
     except Refused:
         raise
     except OSError as error:
@@ -95,12 +97,12 @@ def ran(
         raise Unclear(f"{words[0]} {why}") from None
 
 
-def status_of(
-    words: Sequence[str], limits: Limits, streams: dict[str, IO[bytes]], folder: Path | None
+def _wait_for(
+    words: Sequence[str], limits: Limits, streams: dict[str, IO[bytes]], folder: StrPath | None
 ) -> int | None:
     """Starts a program and waits for its end. Gives its status, None if its time is over; Unclear if it prints too much."""
     most_of_answer = limits.most, f"an answer to this can have, {limits.most} bytes"
-    most_of_messages = MOST_OF_MESSAGES, f"{MOST_OF_MESSAGES} bytes on standard error"
+    most_of_messages = _MOST_OF_MESSAGES, f"{_MOST_OF_MESSAGES} bytes on standard error"
     mosts = {"stdout": most_of_answer, "stderr": most_of_messages}
     if signal.getsignal(signal.SIGCHLD) == signal.SIG_IGN:
         raise Unclear("this process ignores SIGCHLD, so that nobody knows how a program ends")
@@ -114,7 +116,7 @@ def status_of(
         last = math.inf if limits.seconds is None else time.monotonic() + limits.seconds
         while True:
             with contextlib.suppress(subprocess.TimeoutExpired):
-                started.wait(max(min(LOOK_EVERY, last - time.monotonic()), 0))
+                started.wait(max(min(_LOOK_EVERY, last - time.monotonic()), 0))
             for name, (most, what) in mosts.items():
                 if os.fstat(streams[name].fileno()).st_size > most:
                     raise Unclear(f"{words[0]} prints more than {what}")
@@ -126,34 +128,34 @@ def status_of(
             if started.returncode is None:
                 os.killpg(started.pid, number)
                 with contextlib.suppress(subprocess.TimeoutExpired):
-                    started.wait(PATIENCE)
+                    started.wait(_PATIENCE)
 
 
-def end_of(file: IO[bytes], most: int) -> bytes:
+def _read_end(file: IO[bytes], most: int) -> bytes:
     file.seek(max(file.seek(0, os.SEEK_END) - most, 0))
     return file.read(most)
 
 
-def answer(
+def ask(
     program: str, words: list[str], given: bytes, limits: Limits, output: IO[bytes] | None = None
 ) -> bytes:
     """What the program prints, if it ends with status 0; else a Refused that says why."""
-    ended = ran([program, *words], given, limits, output)
+    ended = run_process([program, *words], given, limits, output)
     status, line = ended.status, ended.last_line
     if status is None:
         raise Unclear(f"{program} gave no answer in {limits.seconds:g} s, and was ended")
     if status < 0:
-        raise Unclear(f"{program} was ended by signal {signal_named(-status)}")
+        raise Unclear(f"{program} was ended by signal {format_signal(-status)}")
     if status == 2:  # (a blank line ends what is wrong with the words)
         line = " ".join(ended.messages.strip().split("\n\n")[0].split())
-    if line and status in REFUSALS:
-        raise REFUSALS[status](line)
+    if line and status in _REFUSALS:
+        raise _REFUSALS[status](line)
     if status:
         said = f": {line}" if line else " and said nothing"
         raise Unclear(f"{program} ended with status {status}{said}")
     return ended.output
 
 
-def signal_named(number: int) -> str:
+def format_signal(number: int) -> str:
     names = {each.value: f" ({each.name})" for each in signal.Signals}
     return f"{number}{names.get(number, '')}"

@@ -7,9 +7,9 @@ from contextlib import contextmanager
 from dataclasses import dataclass, field
 
 from wdp import files
-from wdp.office.faults import counted
+from wdp.office.faults import format_count
 
-PRINTED_EVERY = {True: 0.5, False: 30.0}  # seconds, at a terminal and elsewhere
+_PRINT_EVERY = {True: 0.5, False: 30.0}  # seconds, at a terminal and elsewhere
 
 Say = Callable[[str], None]
 
@@ -18,10 +18,10 @@ def is_at_terminal() -> bool:
     return bool(sys.stderr and sys.stderr.isatty())
 
 
-def in_words(seconds: float) -> str:
+def format_seconds(seconds: float) -> str:
     """A time as people read it.
 
-    >>> in_words(0.04), in_words(7.26), in_words(83), in_words(7290)
+    >>> format_seconds(0.04), format_seconds(7.26), format_seconds(83), format_seconds(7290)
     ('0 s', '7.3 s', '83 s', '122 min')
     """
     if seconds >= 600:
@@ -53,11 +53,13 @@ class Times:
             self.of_longest = seconds
 
     def text(self) -> str:
-        parts = [f"{kind} {in_words(seconds)}" for kind, seconds in self.seconds.items()]
+        parts = [f"{kind} {format_seconds(seconds)}" for kind, seconds in self.seconds.items()]
         longest = (
-            f"; the longest, {self.longest}: {in_words(self.of_longest)}" if self.longest else ""
+            f"; the longest, {self.longest}: {format_seconds(self.of_longest)}"
+            if self.longest
+            else ""
         )
-        return f"{in_words(sum(self.seconds.values()))}: {', '.join(parts)}{longest}"
+        return f"{format_seconds(sum(self.seconds.values()))}: {', '.join(parts)}{longest}"
 
 
 class Progress:
@@ -78,10 +80,10 @@ class Progress:
         for name in at_work:
             self.begun.setdefault(name, now)
         is_terminal = is_at_terminal()
-        if now - self.printed < PRINTED_EVERY[is_terminal]:
+        if now - self.printed < _PRINT_EVERY[is_terminal]:
             return
         self.printed = now
-        text = f"{self.count - self.left + ended} of {counted(self.count, 'group')} done"
+        text = f"{self.count - self.left + ended} of {format_count(self.count, 'group')} done"
         text += f"; at work: {', '.join(at_work[:8])}" if at_work else ""
         if is_terminal:
             files.tell("\r\x1b[K" + text[: shutil.get_terminal_size().columns - 1])

@@ -14,10 +14,10 @@ import sys
 from pathlib import Path
 
 from wdp import files, steps
-from wdp.office.choices import checked
-from wdp.program import Limits, answer, found_program, ran, signal_named
-from wdp.texts.refusals import NotFound, NotSolved, Refused, WrongWords, need
-from wdp.texts.zero_one import ZeroOne, read_program, read_solution, solution_text
+from wdp.office.choices import make_type
+from wdp.program import Limits, ask, find_program, run_process, format_signal
+from wdp.texts.refusals import NotFound, NotSolved, Refused, WrongArgument, need
+from wdp.texts.zero_one import ZeroOne, read_program, read_solution, format_solution
 
 FAILED, NO_POINT, TIME_OUT, KILLED = 1, 3, 4, 5  # the statuses of `wdp-office solve`
 MOST_OF_ANSWER = 32 * 1024 * 1024  # bytes of any file that a solver writes
@@ -31,7 +31,7 @@ LONGEST_GRACE = 25  # seconds by which a solver may overstep its limit
 
 
 def checked_solver(solver: str | None) -> str:
-    """A solver's name or command, by default the usual one's. Raises WrongWords if it is neither, NotFound if it isn't there."""
+    """A solver's name or command, by default the usual one's. Raises WrongArgument if it is neither, NotFound if it isn't there."""
     solver = solver or ("cbc" if shutil.which("cbc") else "highs")
     if solver != "highs" and not shutil.which(program := command_words(solver)[0]):
         hint = ": apt-get install -y coinor-cbc; or use --solver highs"
@@ -46,12 +46,12 @@ def command_words(solver: str) -> list[str]:
     try:
         words = shlex.split(CBC if solver == "cbc" else solver)
     except ValueError as error:
-        raise WrongWords(f"the solver's command: {error}") from None
+        raise WrongArgument(f"the solver's command: {error}") from None
     named = set(PLACE.findall(" ".join(words[1:])))
     if not named & {"mps", "free"} or not named <= {*FILES, "seconds"}:
         answer = "perhaps {out} for its answer and {seconds} for the time limit"
         known = f"cbc, highs, or a command with {{mps}} for the program, {answer}"
-        raise WrongWords(f"a solver is {known}, and not {solver}")
+        raise WrongArgument(f"a solver is {known}, and not {solver}")
     if os.sep in words[0]:
         words[0] = os.path.abspath(words[0])
     return words
@@ -85,7 +85,7 @@ def point_of(
         printed = log or folder / "printed.txt"
         answer = answer_of(text, solver, seconds, folder, printed)
     source = f"the answer of {name_of(solver)}"
-    return solution_text(read_solution(answer, program, source), program)
+    return format_solution(read_solution(answer, program, source), program)
 
 
 def name_of(solver: str) -> str:
@@ -102,7 +102,7 @@ def nothing_of(program: ZeroOne) -> bytes:
     ones = {place for place, column in enumerate(program.columns) if column.lower == 1}
     if broken := program.fault_of(ones):
         raise Refused(f"no point is known to begin with: {broken}")
-    return solution_text(ones, program)
+    return format_solution(ones, program)
 
 
 def answer_of(text: bytes, solver: str, limit: float | None, folder: Path, log: Path) -> bytes:
@@ -121,14 +121,14 @@ def answer_of(text: bytes, solver: str, limit: float | None, folder: Path, log: 
     late = seconds and seconds + min(LONGEST_GRACE, 5 + seconds // 10)
     limits = Limits(MOST_OF_ANSWER, late, signal.SIGTERM)
     with open(log, "wb+") as printed:
-        ended = ran(guarded, b"", limits, printed, printed, folder)
+        ended = run_process(guarded, b"", limits, printed, printed, folder)
     said = ended.last_line or "it printed nothing"
     if ended.status is None:
         raise NotSolved(f"{name} overstepped its limit of {seconds} s and was ended", TIME_OUT)
     if ended.status == -signal.SIGXFSZ:
         raise NotSolved(f"{name} wrote more than {MOST_OF_ANSWER >> 20} MiB", KILLED)
     if ended.status < 0:
-        raise NotSolved(f"{name} was killed by signal {signal_named(-ended.status)}", KILLED)
+        raise NotSolved(f"{name} was killed by signal {format_signal(-ended.status)}", KILLED)
     if ended.status in (NO_POINT, TIME_OUT) and solver == "highs":
         raise NotSolved(said, ended.status)
     if ended.status:
@@ -158,7 +158,7 @@ def of_cbc(answer: bytes) -> bytes:
     return "".join(f"{each[1]} {each[2]}\n" for each in found if each).encode()
 
 
-SECONDS = checked("number of seconds, 1 at least,", int, lambda n: 1 <= n < 10**8)
+SECONDS = make_type("number of seconds, 1 at least,", int, lambda n: 1 <= n < 10**8)
 
 
 def add_solver_words(parser: argparse.ArgumentParser) -> None:
@@ -173,7 +173,7 @@ def add_solver_words(parser: argparse.ArgumentParser) -> None:
     parser.add_argument("--time-limit", type=SECONDS, metavar="SECONDS", help=limit)
 
 
-def add_words(parser: argparse.ArgumentParser) -> None:
+def add_arguments(parser: argparse.ArgumentParser) -> None:
     add_solver_words(parser)
     log = "what the solver prints goes there while it runs"
     parser.add_argument("--log", type=Path, metavar="FILE", help=log)
@@ -183,9 +183,9 @@ def add_words(parser: argparse.ArgumentParser) -> None:
 
 def read_checked(path: str, program: str | None) -> bytes:
     """The text of a file, once `wdp check` has found no fault in it."""
-    text, found = files.read(path, MOST_OF_PROGRAM), found_program(program)
+    text, found = files.read(path, MOST_OF_PROGRAM), find_program(program)
     try:
-        answer(found, ["check"], text, Limits(MOST_OF_ANSWER))
+        ask(found, ["check"], text, Limits(MOST_OF_ANSWER))
     except Refused as refused:
         raise Refused(f"{path}: {refused.text}") from None
     return text

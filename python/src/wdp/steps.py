@@ -17,79 +17,79 @@ from collections.abc import Callable, Collection, Iterator, Mapping
 from contextlib import contextmanager, suppress
 from pathlib import Path
 
-PR_SET_PDEATHSIG, PR_SET_CHILD_SUBREAPER = 1, 36
-ENDINGS = {signal.SIGTERM, signal.SIGINT, signal.SIGHUP}
-LOOK_EVERY = 0.2  # seconds
-PATIENCE = 5  # seconds for a step to put away what it began
-LAST_PATIENCE = 10  # seconds for what was killed to end
-INTERRUPTED, NOT_STARTED = 130, 127
+_PR_SET_PDEATHSIG, _PR_SET_CHILD_SUBREAPER = 1, 36
+_ENDINGS = {signal.SIGTERM, signal.SIGINT, signal.SIGHUP}
+_LOOK_EVERY = 0.2  # seconds
+_PATIENCE = 5  # seconds for a step to put away what it began
+_LAST_PATIENCE = 10  # seconds for what was killed to end
+INTERRUPTED, _NOT_STARTED = 130, 127
 
 Step = Callable[[], int | None]
 Watch = Callable[[int, list[str]], None]
 
 
-def prctl(option: int, value: int) -> None:
+def _prctl(option: int, value: int) -> None:
     """Asks the kernel for a signal when the parent ends, or for the children of those that end."""
     ctypes.CDLL(None).prctl(option, value)
 
 
-def interrupt(number: int, frame: object) -> None:
+def _interrupt(number: int, frame: object) -> None:
     """Ends the work once: what comes after is over already."""
-    for each in ENDINGS:
+    for each in _ENDINGS:
         signal.signal(each, signal.SIG_IGN)
     raise KeyboardInterrupt
 
 
-def end_by(handler: Callable[[int, object], None] | signal.Handlers, of_parent: int) -> None:
+def _set_endings(handler: Callable[[int, object], None] | signal.Handlers, of_parent: int) -> None:
     """What the signals that end a process do in this one, and which one it gets when its parent ends."""
-    for number in ENDINGS:
+    for number in _ENDINGS:
         signal.signal(number, handler)
-    prctl(PR_SET_PDEATHSIG, of_parent)
+    _prctl(_PR_SET_PDEATHSIG, of_parent)
 
 
 @contextmanager
-def ended_at_once() -> Iterator[None]:
+def end_at_once() -> Iterator[None]:
     """Within this nothing is begun that would have to be put away: the process ends without a last word."""
-    end_by(signal.SIG_DFL, signal.SIGKILL)
+    _set_endings(signal.SIG_DFL, signal.SIGKILL)
     try:
         yield
     finally:
-        end_by(interrupt, signal.SIGTERM)
+        _set_endings(_interrupt, signal.SIGTERM)
 
 
 @contextmanager
-def signals_wait() -> Iterator[None]:
+def hold_signals() -> Iterator[None]:
     """Within this a signal waits: an import that it breaks off may fail with another error."""
-    before = signal.pthread_sigmask(signal.SIG_BLOCK, ENDINGS | {signal.SIGCHLD})
+    before = signal.pthread_sigmask(signal.SIG_BLOCK, _ENDINGS | {signal.SIGCHLD})
     try:
         yield
     finally:
         signal.pthread_sigmask(signal.SIG_SETMASK, before)
 
 
-def forked(step: Step) -> int:
+def _fork(step: Step) -> int:
     """Does a step in a process of its own, which ends whatever goes wrong; its number."""
     parent = os.getpid()
     process = os.fork()
     if not process:
         status = 1
         try:
-            status = status_of(step, parent)
+            status = _run_alone(step, parent)
         finally:
             os._exit(status)
     return process
 
 
-def status_of(step: Step, parent: int) -> int:
+def _run_alone(step: Step, parent: int) -> int:
     """What a step comes to in its process."""
     try:
         try:
-            end_by(interrupt, signal.SIGTERM)
-            prctl(PR_SET_CHILD_SUBREAPER, 1)
+            _set_endings(_interrupt, signal.SIGTERM)
+            _prctl(_PR_SET_CHILD_SUBREAPER, 1)
             signal.pthread_sigmask(signal.SIG_SETMASK, [])
             return (step() or 0) if os.getppid() == parent else 1
         finally:
-            end_all()
+            _end_all()
     except KeyboardInterrupt:
         return INTERRUPTED
     except BaseException:
@@ -119,35 +119,35 @@ def run(
     before = {name: set(names) & steps.keys() for name, names in (after or {}).items()}
     at_work: dict[int, str] = {}
     ended: dict[str, int] = {}
-    prctl(PR_SET_CHILD_SUBREAPER, 1)
+    _prctl(_PR_SET_CHILD_SUBREAPER, 1)
     heed_children()
-    with signals_wait():
+    with hold_signals():
         try:
             while waiting or at_work:
                 ready = [name for name in waiting if before.get(name, set()) <= ended.keys()]
                 for name in ready[: jobs - len(at_work)]:
                     del waiting[name]
-                    at_work[forked(steps[name])] = name
-                came = signal.sigtimedwait(ENDINGS | {signal.SIGCHLD}, LOOK_EVERY)
+                    at_work[_fork(steps[name])] = name
+                came = signal.sigtimedwait(_ENDINGS | {signal.SIGCHLD}, _LOOK_EVERY)
                 if came and came.si_signo != signal.SIGCHLD:
                     raise KeyboardInterrupt
-                for process, status in reaped().items():
+                for process, status in _reap().items():
                     if process in at_work:
                         ended[at_work.pop(process)] = status
                 if watch:
                     watch(len(ended), list(at_work.values()))
         finally:
-            left, last = set(at_work), time.monotonic() + PATIENCE
+            left, last = set(at_work), time.monotonic() + _PATIENCE
             for process in left:
                 os.kill(process, signal.SIGTERM)
             while left and time.monotonic() < last:
-                left -= set(reaped())
+                left -= set(_reap())
                 time.sleep(0.01)
-            end_all()
+            _end_all()
     return ended
 
 
-def reaped() -> dict[int, int]:
+def _reap() -> dict[int, int]:
     """The statuses of the processes that ended, by their numbers."""
     ended: dict[int, int] = {}
     with suppress(ChildProcessError):
@@ -156,41 +156,44 @@ def reaped() -> dict[int, int]:
     return ended
 
 
-def end_all() -> None:
+def _end_all() -> None:
     """Ends all that was started: whatever loses its parent becomes a child of this process."""
-    listed, last = Path(f"/proc/self/task/{os.getpid()}/children"), time.monotonic() + LAST_PATIENCE
+    listed, last = (
+        Path(f"/proc/self/task/{os.getpid()}/children"),
+        time.monotonic() + _LAST_PATIENCE,
+    )
     while left := listed.read_text().split():
         if time.monotonic() > last:
             raise TimeoutError(f"these processes can't be ended: {' '.join(left)}")
         for process in left:
             os.kill(int(process), signal.SIGKILL)
-        reaped()
+        _reap()
         time.sleep(0.002)
 
 
-def become(words: list[str]) -> int:
+def _become(words: list[str]) -> int:
     """Turns this process into a program, in a session of its own; its status if that can't be started."""
     try:
         os.setsid()
-        prctl(PR_SET_CHILD_SUBREAPER, 0)
-        end_by(signal.SIG_DFL, signal.SIGKILL)
+        _prctl(_PR_SET_CHILD_SUBREAPER, 0)
+        _set_endings(signal.SIG_DFL, signal.SIGKILL)
         for number in (signal.SIGPIPE, signal.SIGXFSZ):
             signal.signal(number, signal.SIG_DFL)
         os.execvp(words[0], words)
     except OSError as error:
         os.write(2, f"{words[0]} can't be started: {error.strerror}\n".encode(errors="replace"))
-    return NOT_STARTED
+    return _NOT_STARTED
 
 
 def main(parent: int, most: int, words: list[str]) -> int:
     signal.pthread_sigmask(signal.SIG_SETMASK, [])
-    prctl(PR_SET_PDEATHSIG, signal.SIGTERM)
+    _prctl(_PR_SET_PDEATHSIG, signal.SIGTERM)
     resource.setrlimit(resource.RLIMIT_FSIZE, (most, most))
     resource.setrlimit(resource.RLIMIT_CORE, (0, 0))
     if os.getppid() != parent:
         return INTERRUPTED
     try:
-        status = run({"": lambda: become(words)})[""]
+        status = run({"": lambda: _become(words)})[""]
     except KeyboardInterrupt:
         return INTERRUPTED
     if status < 0:
@@ -200,7 +203,7 @@ def main(parent: int, most: int, words: list[str]) -> int:
     return status
 
 
-def clear_after(parent: int) -> None:
+def _clear_after(parent: int) -> None:
     """Takes away the folder that a parent made for this, and can't take away any more."""
     folder = os.getcwd()
     if os.getppid() != parent and os.path.basename(folder).startswith("solve."):
@@ -211,5 +214,5 @@ def clear_after(parent: int) -> None:
 if __name__ == "__main__":
     asking = int(sys.argv[1])
     ended = main(asking, int(sys.argv[2]), sys.argv[3:])
-    clear_after(asking)
+    _clear_after(asking)
     sys.exit(ended)

@@ -64,7 +64,7 @@ def only(
     return read_problem(program).only(solution, seconds=seconds, say=say)
 
 
-def add_words(parser: argparse.ArgumentParser) -> None:
+def add_arguments(parser: argparse.ArgumentParser) -> None:
     parser.epilog = EPILOG
     add = parser.add_argument
     add("mps", metavar="PROGRAM.mps")

@@ -12,7 +12,7 @@ from wdp.certify.layout import Array, Bound, Layout, Node
 from wdp.certify.relaxation import nearest, root_prices
 from wdp.certify.search import Beaten, LimitReached, OnlySearch, Search, TieSearch
 from wdp.solve import nothing_of
-from wdp.texts.zero_one import ZeroOne, program_text, read_program, read_solution, solution_text
+from wdp.texts.zero_one import ZeroOne, format_program, read_program, read_solution, format_solution
 
 HOLDER = re.compile(r"X([0-9]+)_[0-9]+")  # the column of a bid, with the bidder's number
 MOST_OF_BLOCK = 80  # columns of each block that a solver gets at first
@@ -71,7 +71,7 @@ class Problem:
 
     def text(self) -> bytes:
         """The program in MPS."""
-        return program_text(self.program)
+        return format_program(self.program)
 
     def promising(self) -> bytes:
         """The program in MPS for a solver: of the columns that may well be 1, or all of it if they are half of it.
@@ -101,7 +101,7 @@ class Problem:
             return self.text()
         columns = self.program.columns
         places = np.flatnonzero(is_taken | ~self.layout.is_open)
-        return program_text(ZeroOne(self.program.rows, [columns[place] for place in places]))
+        return format_program(ZeroOne(self.program.rows, [columns[place] for place in places]))
 
     def ones(self, solution: bytes) -> set[int]:
         """The places of the columns at 1. Refused if the solution isn't a point."""
@@ -140,10 +140,10 @@ class Problem:
         try:
             certificate = search.certificate()
         except LimitReached as reached:
-            reached.solution = solution_text(search.ones, self.program)
+            reached.solution = format_solution(search.ones, self.program)
             raise
         gain = before - search.least
-        best = solution_text(search.ones, self.program) if gain else solution
+        best = format_solution(search.ones, self.program) if gain else solution
         return Certified(best, certificate, gain, search.found_rows)
 
     def tie_search(
@@ -178,4 +178,4 @@ class Problem:
         try:
             return Only("unique", search.certificate())
         except Beaten as beaten:
-            return Only("tie", solution_text(search.ones, self.program), beaten.gain)
+            return Only("tie", format_solution(search.ones, self.program), beaten.gain)

@@ -10,7 +10,7 @@ from wdp.certify.problem import Problem, silence
 from wdp.certify.search import LimitReached
 from wdp.certify.settling import AtOnce
 from wdp.texts.answers import MOST_TIES
-from wdp.texts.zero_one import solution_text
+from wdp.texts.zero_one import format_solution
 
 
 @dataclass(frozen=True)
@@ -43,7 +43,7 @@ def find_ties(
         search = problem.tie_search(solution, MOST_TIES + 1, seconds, say)
 
     def found() -> list[bytes]:
-        return [solution_text(ones, problem.program) for ones in search.ties[:MOST_TIES]]
+        return [format_solution(ones, problem.program) for ones in search.ties[:MOST_TIES]]
 
     try:
         with at_once():

@@ -9,37 +9,37 @@ Exit status: 0 nothing is wrong; 1 something is; 2 the options are wrong.
 import argparse
 from collections.abc import Sequence
 
-from wdp.texts.refusals import WrongWords
+from wdp.texts.refusals import WrongArgument
 from wdp.files import Unreadable, put, read
 from wdp.office import choices
-from wdp.office.faults import Fault, all_counted, counted, printed
-from wdp.office.judge import explained
-from wdp.office.places import faults_of_input
-from wdp.office.reading import Auction
-from wdp.program import found_program
+from wdp.office.faults import Fault, format_total, format_count, format_lines
+from wdp.office.judge import explain
+from wdp.office.places import make_faults_of_input
+from wdp.office.reading import AuctionFiles
+from wdp.program import find_program
 from wdp.texts import accepted
 from wdp.texts.parts import MOST_OF_INPUT
 
-THEN = "the forms and groups are read once the parts and the rules are right"
+_THEN = "the forms and groups are read once the parts and the rules are right"
 
 
-def add_words(parser: argparse.ArgumentParser) -> None:
+def add_arguments(parser: argparse.ArgumentParser) -> None:
     parser.add_argument("paths", metavar="INPUT | RULES FORMS_DIR [GROUPS]", nargs="+")
     parser.add_argument("--bids", action="store_true", help="print which bids are in no program")
-    choices.add_words(parser)
+    choices.add_arguments(parser)
 
 
-def left_out(counts: dict[str, int], bids: Sequence[tuple[str, str]]) -> list[str]:
+def _format_left_out(counts: dict[str, int], bids: Sequence[tuple[str, str]]) -> list[str]:
     """A line for each form, with its number of bids, and for each form that is replaced and bid that is in no program."""
     lines: list[str] = []
     for name, count in counts.items():
         whys = [why for bidder, why in bids if bidder == name]
         kept = count - sum(why.startswith("bid ") for why in whys)
-        lines += [f"{name}: {why}" for why in (f"{counted(count, 'bid')}, {kept} kept", *whys)]
+        lines += [f"{name}: {why}" for why in (f"{format_count(count, 'bid')}, {kept} kept", *whys)]
     return lines
 
 
-def of_input(given: argparse.Namespace, program: str) -> tuple[list[Fault], bool, list[str]]:
+def _explain_input(given: argparse.Namespace, program: str) -> tuple[list[Fault], bool, list[str]]:
     """The faults of one input, whether its rules are right, and a line for each form and bid if nothing is wrong."""
     path = given.paths[0]
     source = "input" if path == "-" else path
@@ -49,32 +49,32 @@ def of_input(given: argparse.Namespace, program: str) -> tuple[list[Fault], bool
         if "more than" not in error.why:
             raise
         return [Fault(source, error.why, "input: too large")], False, []
-    found = explained(program, data, given.bids)
-    faults = faults_of_input(found, data, source)
+    found = explain(program, data, given.bids)
+    faults = make_faults_of_input(found, data, source)
     if faults or not given.bids:
         return faults, bool(faults) and found.findings[0].refused.part in ("form", "groups"), []
     counts = {name: len(bids) for name, bids in accepted.read(data, source).bids.items()}
-    return [], True, left_out(counts, found.left_out)
+    return [], True, _format_left_out(counts, found.left_out)
 
 
-def of_files(given: argparse.Namespace, program: str) -> tuple[list[Fault], bool, list[str]]:
+def _explain_files(given: argparse.Namespace, program: str) -> tuple[list[Fault], bool, list[str]]:
     rules, folder, *groups = given.paths
-    auction = Auction(program, given)
+    auction = AuctionFiles(program, given)
     auction.read_all(rules, folder, groups)
     counts = {name: form.bids or 0 for name, form in auction.forms.items()}
-    return auction.faults, bool(auction.rules.bidders), left_out(counts, auction.left_out)
+    return auction.faults, bool(auction.rules.bidders), _format_left_out(counts, auction.left_out)
 
 
 def run(given: argparse.Namespace) -> int:
     is_one = len(given.paths) == 1
     if len(given.paths) > 3:
-        raise WrongWords("give INPUT, or RULES FORMS_DIR [GROUPS]")
-    if is_one and choices.is_any(given):
-        raise WrongWords("one input has no files to choose from")
-    read_faults = of_input if is_one else of_files
-    faults, has_rules, lines = read_faults(given, found_program(given.program))
+        raise WrongArgument("give INPUT, or RULES FORMS_DIR [GROUPS]")
+    if is_one and choices.has_any(given):
+        raise WrongArgument("one input has no files to choose from")
+    read_faults = _explain_input if is_one else _explain_files
+    faults, has_rules, lines = read_faults(given, find_program(given.program))
     if faults:
         lines = [f"{it} (wdp: {it.refusal})" if is_one and it.refusal else str(it) for it in faults]
-        lines += [*([] if has_rules else [THEN]), all_counted(faults)]
-    put(printed(lines if faults or given.bids else ["nothing is wrong"]).encode())
+        lines += [*([] if has_rules else [_THEN]), format_total(faults)]
+    put(format_lines(lines if faults or given.bids else ["nothing is wrong"]).encode())
     return 1 if faults else 0

@@ -10,20 +10,22 @@ import os
 from wdp.texts.refusals import Refused, need
 from wdp.files import tell, write_folder
 from wdp.office import choices
-from wdp.office.faults import counted, printed
-from wdp.office.reading import Auction
-from wdp.program import found_program
-from wdp.texts.tables import encoded, written
+from wdp.office.faults import format_count, format_lines
+from wdp.office.reading import AuctionFiles
+from wdp.program import find_program
+from wdp.texts.tables import encode, format_record
 
 
-def add_words(parser: argparse.ArgumentParser) -> None:
+def add_arguments(parser: argparse.ArgumentParser) -> None:
     parser.add_argument("rules", metavar="RULES", help="the file of the rules")
     made = "the folder for the forms, which must be empty or new"
-    parser.add_argument("--output", metavar="DIR", type=choices.path, required=True, help=made)
+    parser.add_argument(
+        "--output", metavar="DIR", type=choices.parse_path, required=True, help=made
+    )
     parser.add_argument("--workbooks", action="store_true", help="write .xlsx in place of CSV")
 
 
-def workbook(values: list[str]) -> bytes:
+def _make_workbook(values: list[str]) -> bytes:
     need("--workbooks", "openpyxl")
     import openpyxl
 
@@ -36,18 +38,18 @@ def workbook(values: list[str]) -> bytes:
 
 
 def run(given: argparse.Namespace) -> int:
-    auction = Auction(
-        found_program(given.program), argparse.Namespace(allow_unended=[], sheet=None)
+    auction = AuctionFiles(
+        find_program(given.program), argparse.Namespace(allow_unended=[], sheet=None)
     )
     if not auction.read_rules(given.rules):
-        raise Refused(printed(auction.faults).rstrip("\n"))
+        raise Refused(format_lines(auction.faults).rstrip("\n"))
     if os.path.isdir(given.output) and os.listdir(given.output):
         raise Refused(f"{given.output}: it has files; name a new folder")
     categories = [category.name for category in auction.rules.categories]
     rows = {name: [name, *categories] for name in auction.rules.bidders}
-    files = {f"{name}.csv": encoded(written(row)) for name, row in rows.items()}
+    files = {f"{name}.csv": encode(format_record(row)) for name, row in rows.items()}
     if given.workbooks:
-        files = {f"{name}.xlsx": workbook(row) for name, row in rows.items()}
+        files = {f"{name}.xlsx": _make_workbook(row) for name, row in rows.items()}
     write_folder(given.output, files)
-    tell(f"{counted(len(files), 'blank form')} in {given.output}\n")
+    tell(f"{format_count(len(files), 'blank form')} in {given.output}\n")
     return 0

@@ -10,14 +10,14 @@ BUILT_IN |= {
 }
 # what is shown as it is written there: a text in quotes, and a character after a backslash; then what leaves room, fills it, or
 # says a colour, a currency or a condition
-QUOTED = re.compile(r'"([^"]*)"|\\(.)', re.DOTALL)
-SILENT = re.compile(r"[_*].|\[[^\]]*\]", re.DOTALL)
-ELAPSED = re.compile(r"\[(?:h+|m+|s+)\]", re.IGNORECASE)
-CONDITION = re.compile(r"\[[<>=][^\]]*\]")
-OF_DATES = re.compile("[dmyhs]", re.IGNORECASE)
-SCALE = re.compile("[0#?],+(?![0#?,])|%")
-OF_NUMBERS = re.compile("[0#?@]|general|standard", re.IGNORECASE)
-DIGIT = re.compile("[0-9]")
+_QUOTED = re.compile(r'"([^"]*)"|\\(.)', re.DOTALL)
+_SILENT = re.compile(r"[_*].|\[[^\]]*\]", re.DOTALL)
+_ELAPSED = re.compile(r"\[(?:h+|m+|s+)\]", re.IGNORECASE)
+_CONDITION = re.compile(r"\[[<>=][^\]]*\]")
+_OF_DATES = re.compile("[dmyhs]", re.IGNORECASE)
+_SCALE = re.compile("[0#?],+(?![0#?,])|%")
+_OF_NUMBERS = re.compile("[0#?@]|general|standard", re.IGNORECASE)
+_DIGIT = re.compile("[0-9]")
 
 
 class NumberFormat:
@@ -35,23 +35,23 @@ class NumberFormat:
     @cached_property
     def sections(self) -> list[str]:
         """What the sections show of a number, as far as it depends on that."""
-        return SILENT.sub("", QUOTED.sub("", self.code)).split(";")
+        return _SILENT.sub("", _QUOTED.sub("", self.code)).split(";")
 
     @cached_property
     def is_date(self) -> bool:
-        is_elapsed = bool(ELAPSED.search(QUOTED.sub("", self.code)))
+        is_elapsed = bool(_ELAPSED.search(_QUOTED.sub("", self.code)))
         return is_elapsed or any(
-            OF_DATES.search(it) and not it.lower().startswith("standard") for it in self.sections
+            _OF_DATES.search(it) and not it.lower().startswith("standard") for it in self.sections
         )
 
     @cached_property
     def is_scaled(self) -> bool:
         """Whether it shows another number than the cell's: scaled, in percent, or with digits of its own."""
-        written = "".join(quote or sign for quote, sign in QUOTED.findall(self.code))
-        return bool(DIGIT.search(written)) or any(map(SCALE.search, self.sections))
+        written = "".join(quote or sign for quote, sign in _QUOTED.findall(self.code))
+        return bool(_DIGIT.search(written)) or any(map(_SCALE.search, self.sections))
 
     @cached_property
     def is_seen(self) -> bool:
         """Whether it shows a number that isn't 0 at all."""
-        shown = self.sections if CONDITION.search(self.code) else self.sections[:1]
-        return all(map(OF_NUMBERS.search, shown))
+        shown = self.sections if _CONDITION.search(self.code) else self.sections[:1]
+        return all(map(_OF_NUMBERS.search, shown))

@@ -3,22 +3,22 @@ import re
 from collections import defaultdict
 from dataclasses import dataclass, field
 
-from wdp.office.faults import quoted, readable
-from wdp.program import Limits, ran
+from wdp.office.faults import quote, decode_escapes
+from wdp.program import Limits, run_process
 from wdp.texts.refusals import Refused
 
 # bytes of what the program prints: ten thousand faults, or a line for each of a million bids
-MOST = 256 * 1024 * 1024
-LINE = re.compile(
+_MOST_OF_ANSWER = 256 * 1024 * 1024
+_LINE = re.compile(
     r"((?:rules|groups|form [0-9]{1,9}): [0-9]{1,2} [A-Za-z]+"
     r"(?: at (?:record|line) [0-9]{1,9})?(?:, earlier bid [0-9]{1,9})?"
     r"|form [0-9]{1,9}: CallLimit|input: [a-z0-9 ]+)"
     r"(?:, (?:field|name) ([0-9]{1,9}))?(?:: (.+))?"
 )
-MORE = re.compile(r"and ([0-9]{1,9}) more")
-REPLACED = "form [0-9]{1,9} is replaced by form [0-9]{1,9}"
-BID = re.compile(rf"([A-Za-z0-9]{{1,16}}): (bid [0-9]{{1,9}} .+|{REPLACED})")
-Key = tuple[str | None, int | None]  # the kind of a part, and of a form its number
+_MORE = re.compile(r"and ([0-9]{1,9}) more")
+_REPLACED = "form [0-9]{1,9} is replaced by form [0-9]{1,9}"
+_BID = re.compile(rf"([A-Za-z0-9]{{1,16}}): (bid [0-9]{{1,9}} .+|{_REPLACED})")
+PartKey = tuple[str | None, int | None]  # the kind of a part, and of a form its number
 
 
 @dataclass(frozen=True)
@@ -42,38 +42,40 @@ class Explained:
     more: int = 0
     left_out: list[tuple[str, str]] = field(default_factory=list)
 
-    def by_part(self) -> defaultdict[Key, list[Finding]]:
-        found: defaultdict[Key, list[Finding]] = defaultdict(list)
+    def by_part(self) -> defaultdict[PartKey, list[Finding]]:
+        found: defaultdict[PartKey, list[Finding]] = defaultdict(list)
         for each in self.findings:
             found[each.refused.part, each.refused.number].append(each)
         return found
 
 
-def pieces(pattern: re.Pattern[str], line: str) -> list[str]:
+def _split_line(pattern: re.Pattern[str], line: str) -> list[str]:
     """The pieces of a line, empty ones too."""
     match = pattern.fullmatch(line)
     if not match:
-        raise Refused(f"wdp explain printed a line that isn't understood: {quoted(line)}")
+        raise Refused(f"wdp explain printed a line that isn't understood: {quote(line)}")
     return list(match.groups(""))
 
 
-def finding(line: str) -> Finding:
-    refusal, at, words = pieces(LINE, line)
-    words = re.sub("^1 fields ", "1 field ", readable(words))
+def parse_finding(line: str) -> Finding:
+    refusal, at, words = _split_line(_LINE, line)
+    words = re.sub("^1 fields ", "1 field ", decode_escapes(words))
     return Finding(Refused("wdp: " + refusal), int(at) if at else None, words or None)
 
 
-def explained(program: str, text: bytes, with_bids: bool = False) -> Explained:
+def explain(program: str, text: bytes, with_bids: bool = False) -> Explained:
     """What `wdp explain` finds in an input; with bids, which of them are in no program."""
     words = ["explain", "--bids"] if with_bids else ["explain"]
-    done = ran([program, *words], text, Limits(MOST))
+    done = run_process([program, *words], text, Limits(_MOST_OF_ANSWER))
     lines = done.output.decode("ascii", "backslashreplace").splitlines()
     is_right = done.status == 0 and (with_bids or not lines) or done.status == 1 and lines
     if done.messages or not is_right:
         why = (done.messages.splitlines() or [f"it ended with status {done.status}"])[0]
         raise Refused(f"wdp explain: {why}")
     if done.status == 0:
-        return Explained(left_out=[(name, why) for name, why in (pieces(BID, x) for x in lines)])
-    last = MORE.fullmatch(lines[-1])
+        return Explained(
+            left_out=[(name, why) for name, why in (_split_line(_BID, x) for x in lines)]
+        )
+    last = _MORE.fullmatch(lines[-1])
     more, lines = (int(last[1]), lines[:-1]) if last else (0, lines)
-    return Explained([finding(line) for line in lines], more)
+    return Explained([parse_finding(line) for line in lines], more)

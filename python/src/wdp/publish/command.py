@@ -19,18 +19,18 @@ from itertools import islice
 from wdp import audits
 from wdp.files import put, read, tell, write_folder
 from wdp.office import choices
-from wdp.office.faults import quoted
-from wdp.office.judge import explained
+from wdp.office.faults import quote
+from wdp.office.judge import explain
 from wdp.office.sheets import read_pairs
-from wdp.program import Limits, answer, found_program
+from wdp.program import Limits, ask, find_program
 from wdp.publish.results import AUDIT, Results, figures_of, figures_of_awards
 from wdp.results import Allocation, Report
 from wdp.texts import accepted
-from wdp.texts.accepted import Accepted, Rules
+from wdp.texts.accepted import Accepted, AcceptedRules
 from wdp.texts.answers import GROUP, Asked, read_report
-from wdp.texts.parts import MOST_OF_INPUT, end_of_groups, groups_in, parts_of, with_groups
-from wdp.texts.refusals import Refused, Unclear, WrongWords
-from wdp.texts.tables import digest_of
+from wdp.texts.parts import MOST_OF_INPUT, find_end_of_groups, list_groups, parse_parts, add_groups
+from wdp.texts.refusals import Refused, Unclear, WrongArgument
+from wdp.texts.tables import compute_digest
 
 # bytes of an audit: the input, and solutions and certificates of each group
 MOST_OF_AN_AUDIT = 2**31
@@ -96,26 +96,31 @@ def line(name: str) -> Callable[[str], str]:
     """Reads a word as the title or currency of the page."""
     longest = LONGEST[name]
     what = f"text of 1 to {longest} printable characters in UTF-8"
-    return choices.checked(what, lambda word: word.strip(" "), lambda it: is_line(it, longest))
+    return choices.make_type(what, lambda word: word.strip(" "), lambda it: is_line(it, longest))
 
 
-def add_words(parser: argparse.ArgumentParser) -> None:
+def add_arguments(parser: argparse.ArgumentParser) -> None:
     add = parser.add_argument
     add("input", metavar="INPUT")
     add("report", metavar="REPORT")
-    add("--output", metavar="DIR", type=choices.path, help="a folder for these files and no others")
+    add(
+        "--output",
+        metavar="DIR",
+        type=choices.parse_path,
+        help="a folder for these files and no others",
+    )
     add("--text", action="store_true", help="print the tables, with aligned columns")
     add("--title", type=line("title"), default=TITLE, help="the page's heading")
     add("--currency", type=line("currency"), metavar="UNIT", help="of all amounts, such as GBP")
     names = "a file with a row `code,name` for each bidder or category that has another name"
-    add("--names", metavar="FILE", type=choices.path, help=names)
+    add("--names", metavar="FILE", type=choices.parse_path, help=names)
     add("--audit", metavar="FILE", help="what `wdp verify` reads, with INPUT at its end")
-    number = choices.checked("number of an award", int, lambda number: number >= 1)
+    number = choices.make_type("number of an award", int, lambda number: number >= 1)
     drawn = "publish this award of those that tie, since it was drawn"
     add("--drawn", type=number, metavar="N", help=drawn)
 
 
-def read_names(path: str, rules: Rules, regular: bool) -> dict[str, str]:
+def read_names(path: str, rules: AcceptedRules, regular: bool) -> dict[str, str]:
     """What an office calls bidders and categories, by their codes; Refused at the first row that isn't `code,name`."""
     codes = {*rules.bidders, *(category.name for category in rules.categories)}
     about = "a code and a name", codes, "bidder and no category"
@@ -126,11 +131,11 @@ def read_names(path: str, rules: Rules, regular: bool) -> dict[str, str]:
     for code, row in pairs.items():
         name, why = row.values[1].strip(), ""
         if not is_line(name, LONGEST_NAME):
-            why = f"{quoted(name)} isn't 1 to {LONGEST_NAME} printable characters"
+            why = f"{quote(name)} isn't 1 to {LONGEST_NAME} printable characters"
         elif name in codes - {code}:
-            why = f"{quoted(name)} is the code of another"
+            why = f"{quote(name)} is the code of another"
         elif name in names.values():
-            why = f"an earlier row has the name {quoted(name)}, too"
+            why = f"an earlier row has the name {quote(name)}, too"
         if why:
             raise Refused(f"{path}:{row.place()}: {why}")
         names[code] = name
@@ -160,7 +165,7 @@ def disproved(report: Report) -> str | None:
 def judged(program: str, command: str, text: bytes) -> tuple[bytes, Report]:
     """What the program prints of a text, as it is and as a report."""
     asked = Asked(text)
-    output = answer(program, [command], text, Limits(asked.most_of_report))
+    output = ask(program, [command], text, Limits(asked.most_of_report))
     return output, read_report(output, asked, command == "verify")
 
 
@@ -199,10 +204,10 @@ def of_audit(given: Given, audit: bytes, count: int) -> Published:
         raise Refused(f"{source}: what wdp verify prints of it isn't the report")
     awards = listed.report.awards
     if given.drawn is not None and len(awards) == 1:
-        raise WrongWords(f"--drawn: {source} shows no tie, so that nothing was drawn")
+        raise WrongArgument(f"--drawn: {source} shows no tie, so that nothing was drawn")
     if given.drawn in (None, own.numbers[0]):
         return Published(own, awards=awards, number=own.numbers[0])
-    left_out = explained(given.program, given.data, True).left_out
+    left_out = explain(given.program, given.data, True).left_out
     number = given.drawn or 1
     audits.check_first(number, awards, left_out)
     return Published(own.with_first(number), awards=awards, number=number)
@@ -218,8 +223,8 @@ def report_in(output: bytes, count: int) -> bytes:
 
 def with_added(given: Given, audit: bytes) -> bytes:
     """The input with the groups that the audit adds to it; Refused if it isn't an audit of this input."""
-    grown = with_groups(given.data, groups_in(audit)[len(groups_in(given.data)) :])
-    before = {part.kind for part in parts_of(audit.removesuffix(b"\n" + grown))}
+    grown = add_groups(given.data, list_groups(audit)[len(list_groups(given.data)) :])
+    before = {part.kind for part in parse_parts(audit.removesuffix(b"\n" + grown))}
     if not audit.endswith(b"\n" + grown) or before.intersection(accepted.KINDS):
         why = "it doesn't end with the input, after solutions and certificates"
         raise Refused(f"{given.sources[2]}: {why}")
@@ -229,8 +234,8 @@ def with_added(given: Given, audit: bytes) -> bytes:
 def results_from(given: Given) -> Results:
     """The figures of an input and its report, with the audit that is published with them."""
     if given.drawn is not None and given.audit is None:
-        raise WrongWords("--drawn needs --audit, which has the award that was drawn")
-    found, source = explained(given.program, given.data, True), given.sources[0]
+        raise WrongArgument("--drawn needs --audit, which has the award that was drawn")
+    found, source = explain(given.program, given.data, True), given.sources[0]
     if found.findings:
         hint = f"wdp-office explain {source} says where"
         raise Refused(f"{source}: {found.findings[0].refused.text}; {hint}")
@@ -260,18 +265,18 @@ def results_from(given: Given) -> Results:
         ),
         "left_out": [{"bidder": bidder, "why": why} for bidder, why in found.left_out],
         "names": names,
-        "input_sha256": digest_of(given.data),
-        "report_sha256": digest_of(report_in(printed, count)),
+        "input_sha256": compute_digest(given.data),
+        "report_sha256": compute_digest(report_in(printed, count)),
         "audit": audit
         and {
-            "sha256": digest_of(audit),
-            "input_sha256": digest_of(given.data),
-            "report_sha256": digest_of(printed),
+            "sha256": compute_digest(audit),
+            "input_sha256": compute_digest(given.data),
+            "report_sha256": compute_digest(printed),
             "input_bytes": len(given.data),
-            "bytes_before": end_of_groups(given.data),
+            "bytes_before": find_end_of_groups(given.data),
             "added_bytes": len(grown) - len(given.data),
         },
-        "wdp": answer(given.program, ["--version"], b"", Limits(1_000)).decode().strip(),
+        "wdp": ask(given.program, ["--version"], b"", Limits(1_000)).decode().strip(),
     }
     return Results(figures, audit)
 
@@ -285,13 +290,13 @@ def publish(results: Results, folder: str) -> int:
 
 def run(given: argparse.Namespace) -> int:
     if given.output is None and not given.text:
-        raise WrongWords("one of these words is needed: --output DIR, --text")
+        raise WrongArgument("one of these words is needed: --output DIR, --text")
     data, report = read(given.input, MOST_OF_INPUT), read(given.report, MOST_OF_INPUT)
     audit = read(given.audit, MOST_OF_AN_AUDIT) if given.audit else None
     sources = given.input, given.report, given.audit or ""
     results = results_from(
         Given(
-            program=found_program(given.program),
+            program=find_program(given.program),
             data=data,
             report=report,
             audit=audit,

@@ -6,12 +6,12 @@ from fractions import Fraction
 from pathlib import Path
 from typing import Any, NamedTuple, cast
 
-from wdp.office.faults import Cell, aligned, figure, printed
+from wdp.office.faults import CellValue, align_rows, format_number, format_lines
 from wdp.audits import left_out_bid
 from wdp.results import Allocation, Report
 from wdp.texts.accepted import Accepted
 from wdp.texts.refusals import need
-from wdp.texts.tables import field_text
+from wdp.texts.tables import format_field
 
 # what parts fields or heads a part, and the first signs by which spreadsheets know a formula
 SPECIAL = re.compile(r'[,"\r\n]|^[-%]')
@@ -114,11 +114,13 @@ class Table(NamedTuple):
 
     name: str
     headings: Sequence[str]
-    rows: Sequence[Sequence[Cell]]
-    sums: Sequence[Cell] = ()
+    rows: Sequence[Sequence[CellValue]]
+    sums: Sequence[CellValue] = ()
 
     def text(self) -> str:
-        return printed(aligned([self.headings, *self.rows, *([self.sums] if self.sums else [])]))
+        return format_lines(
+            align_rows([self.headings, *self.rows, *([self.sums] if self.sums else [])])
+        )
 
 
 def names_in(value: list[Any]) -> list[str]:
@@ -135,10 +137,10 @@ def cell_text(value: Any) -> str:
     if value is None:
         return ""
     if isinstance(value, Fraction):
-        return figure(value).replace(",", "")
+        return format_number(value).replace(",", "")
     if isinstance(value, str) and FORMULA.match(value) and value != NOBODY:
         value = f"'{value}"
-    return field_text(value, SPECIAL) if isinstance(value, str) else str(value)
+    return format_field(value, SPECIAL) if isinstance(value, str) else str(value)
 
 
 class Results(Figures):
@@ -155,7 +157,7 @@ class Results(Figures):
         return f"{name} ({self['names'][name]})" if name in self["names"] else name
 
     def money(self, amount: int | Fraction) -> str:
-        return f"{figure(amount)} {self['currency'] or ''}".rstrip()
+        return f"{format_number(amount)} {self['currency'] or ''}".rstrip()
 
     def lots_text(self, lots: Iterable[int]) -> str:
         """Lots in words: `2 of A, 1 of B`."""
@@ -232,7 +234,7 @@ class Results(Figures):
             "Which award holds is for the auction's rules to say, perhaps by a draw."
         )
 
-    def cell(self, key: str, of: Figures) -> Cell:
+    def cell(self, key: str, of: Figures) -> CellValue:
         """A figure as tables for people have it."""
         value: Any = of[key]
         if key in ("name", "bidder"):
@@ -247,9 +249,9 @@ class Results(Figures):
             return NONE_WON if of["bids"] else NO_BIDS
         if key == "exact_price" and value is not None:
             return Fraction(value)
-        return NOT_ASKED_FOR if key == "cost" and value is None else cast(Cell, value)
+        return NOT_ASKED_FOR if key == "cost" and value is None else cast(CellValue, value)
 
-    def sum_of(self, key: str, rows: Sequence[Figures]) -> Cell:
+    def sum_of(self, key: str, rows: Sequence[Figures]) -> CellValue:
         values = [self.cell_of(key, row) for row in rows if row[key]]
         return self.lots_text(map(sum, zip(*values))) if key == "lots" else sum(values)
 
@@ -341,7 +343,7 @@ class Results(Figures):
 
     def plain_text(self) -> str:
         """What is to be said in sentences, and the tables, aligned."""
-        said = printed(filter(None, [self["title"], *self.sentences().values()]))
+        said = format_lines(filter(None, [self["title"], *self.sentences().values()]))
         return "\n".join([said, *(table.text() for table in self.tables())])
 
     def cell_of(self, key: str, of: Figures) -> Any:
@@ -384,7 +386,7 @@ class Results(Figures):
         text = TEMPLATE.read_text("utf-8")
         page = Template(text, autoescape=True, undefined=StrictUndefined, **how)
         about = dict(said=self.sentences(), winners=self.winners(), tables=self.tables())
-        calls = dict(called=self.called, figure=figure)
+        calls = dict(called=self.called, figure=format_number)
         return page.render(self, **about, **calls, blanks=BLANKS).encode()
 
 

@@ -3,9 +3,9 @@ from collections.abc import Iterable
 from dataclasses import dataclass, field
 from typing import NamedTuple
 
-from wdp.texts.parts import groups_in, parts_of
+from wdp.texts.parts import list_groups, parse_parts
 from wdp.texts.refusals import Refused
-from wdp.texts.tables import Row
+from wdp.texts.tables import TableRow
 
 KINDS = ("rules", "form", "groups")
 
@@ -30,7 +30,7 @@ class Bid(NamedTuple):
 
 
 @dataclass
-class Rules:
+class AcceptedRules:
     """The rules; amounts are whole pounds, and bidders are numbered from 1 in their order."""
 
     step: int
@@ -46,13 +46,13 @@ class Rules:
 class Accepted(NamedTuple):
     """The rules, the bids of each bidder that has a form, by the last one, and the names that each group leaves out."""
 
-    rules: Rules
+    rules: AcceptedRules
     bids: dict[str, list[Bid]]
     groups: list[list[str]]
 
 
-def rules_of(rows: Iterable[Row]) -> Rules:
-    rules = Rules(1)
+def parse_rules(rows: Iterable[TableRow]) -> AcceptedRules:
+    rules = AcceptedRules(1)
     for kind, name, *values in (row.values for row in rows):
         if kind == "rules":
             rules.step = int(values[0])
@@ -68,22 +68,22 @@ def rules_of(rows: Iterable[Row]) -> Rules:
     return rules
 
 
-def form_of(rows: Iterable[Row]) -> tuple[str, list[Bid]]:
+def parse_form(rows: Iterable[TableRow]) -> tuple[str, list[Bid]]:
     head, *bids = (row.values for row in rows)
     return head[0], [Bid(int(amount), tuple(map(int, lots))) for amount, *lots in bids]
 
 
 def read(data: bytes, source: str) -> Accepted:
     """The auction of an input that the program accepted; Refused if it can't be one."""
-    parts = list(parts_of(data))
+    parts = list(parse_parts(data))
     for part in parts:
         if part.kind not in KINDS:
             raise Refused(f"{source}:{part.line}: a part %{part.kind} isn't of an auction's input")
     try:
-        rules = rules_of(next(part.rows() for part in parts if part.kind == "rules"))
-        forms = dict(form_of(part.rows()) for part in parts if part.kind == "form")
+        rules = parse_rules(next(part.rows() for part in parts if part.kind == "rules"))
+        forms = dict(parse_form(part.rows()) for part in parts if part.kind == "form")
         bids = {name: forms[name] for name in rules.bidders if name in forms}
-        named = [set(line.split("+")) for line in groups_in(data)]
+        named = [set(line.split("+")) for line in list_groups(data)]
         groups = [[name for name in rules.bidders if name in group] for group in named]
         return Accepted(rules, bids, groups)
     except (IndexError, StopIteration, TypeError, ValueError):

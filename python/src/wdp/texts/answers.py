@@ -6,10 +6,10 @@ from contextlib import suppress
 from fractions import Fraction
 from functools import cached_property
 
-from wdp.texts.refusals import Unclear, escaped
+from wdp.texts.refusals import Unclear, escape
 from wdp.results import Allocation, Counts, Group, Prices, Program, Report, Winner
-from wdp.texts.accepted import Bid, form_of
-from wdp.texts.parts import groups_in, names_in, parts_of
+from wdp.texts.accepted import Bid, parse_form
+from wdp.texts.parts import list_groups, list_names, parse_parts
 
 NAME = "[A-Za-z][A-Za-z0-9]{0,15}"
 HEAD = rf"([1-9][0-9]{{0,3}}) (-|{NAME}(?:\+{NAME})*)\n"
@@ -46,25 +46,25 @@ class Asked:
     """
 
     def __init__(self, given: bytes) -> None:
-        parts = list(parts_of(given))
+        parts = list(parse_parts(given))
         kinds = [part.kind for part in parts]
         self.is_priced = "prices" in kinds
         self.has_unique = "unique" in kinds
         self.ties = kinds.count("tie")
-        self.groups = [set(line.split("+")) - {"-"} for line in groups_in(given)]
+        self.groups = [set(line.split("+")) - {"-"} for line in list_groups(given)]
         count = len(self.groups) + 2
         ties = MOST_TIES if self.has_unique else self.ties
         self.most_of_report = (count + ties) * MOST_OF_GROUP
         self.most_of_programs = count * (MOST_OF_GROUP + MOST_OF_BYTE * len(given))
         rules = (row for part in parts if part.kind == "rules" for row in part.rows())
-        self._categories = names_in(rules, "category")
+        self._categories = list_names(rules, "category")
         self._forms = [part for part in parts if part.kind == "form"]
 
     @cached_property
     def _bids(self) -> dict[str, list[Bid]]:
         """The bids of each bidder's last form; none if no proved program takes these forms."""
         with suppress(ValueError):
-            return dict(form_of(form.rows()) for form in self._forms)
+            return dict(parse_form(form.rows()) for form in self._forms)
         return {}
 
     def winners(self, won: str) -> tuple[Winner, ...]:
@@ -93,7 +93,7 @@ def pieces(output: bytes, *forms: re.Pattern[str]) -> list[re.Match[str]]:
 
 
 def unclear(why: str) -> Unclear:
-    return Unclear("the program's answer isn't as docs/REFERENCE.md says: " + escaped(why))
+    return Unclear("the program's answer isn't as docs/REFERENCE.md says: " + escape(why))
 
 
 def names_of_head(number: str, names: str, wanted: int, asked: Asked) -> tuple[str, ...]:

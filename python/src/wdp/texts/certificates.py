@@ -3,12 +3,12 @@ import re
 from collections.abc import Collection
 
 
-def has_bid_of(solution: bytes, bidders: Collection[int]) -> bool:
+def has_bid(solution: bytes, bidders: Collection[int]) -> bool:
     """Whether one of these bidders wins in a solution, by their numbers in the rules."""
     return any(int(found) in bidders for found in re.findall(rb"(?m)^X([0-9]+)_", solution))
 
 
-def without_bidders(certificate: bytes, bidders: Collection[int]) -> bytes:
+def remove_bidders(certificate: bytes, bidders: Collection[int]) -> bytes:
     """A certificate without the columns and rows of these bidders, by their numbers in the rules.
 
     It shows as much of the program that lacks them: a leaf's value loses terms that are at most 0.

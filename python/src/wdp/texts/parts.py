@@ -4,7 +4,7 @@ from collections.abc import Iterable, Iterator
 from itertools import chain, pairwise
 from typing import NamedTuple
 
-from wdp.texts.tables import BYTE_ORDER_MARK, Records, Row, decoded, lines
+from wdp.texts.tables import BYTE_ORDER_MARK, Records, TableRow, decode, split_lines
 
 HEAD = re.compile(rb"^%([^\n]*?)\r?(?:\n|\Z)", re.MULTILINE)
 MOST_OF_INPUT = 128 * 1024 * 1024  # bytes that the program reads in all
@@ -20,46 +20,46 @@ class Part(NamedTuple):
     end: int
     line: int
 
-    def rows(self) -> Iterable[Row]:
+    def rows(self) -> Iterable[TableRow]:
         """The records of rules or a form, or the lines of groups, as the program counts them."""
-        text = decoded(self.text)
+        text = decode(self.text)
         if self.kind == "groups":
-            return group_rows(enumerate(lines(text), self.line + 1))
+            return make_group_rows(enumerate(split_lines(text), self.line + 1))
         return Records(text.removeprefix(BYTE_ORDER_MARK), line=self.line + 1)
 
 
-def parts_of(data: bytes) -> Iterator[Part]:
+def parse_parts(data: bytes) -> Iterator[Part]:
     line, counted = 1, 0
     for head, following in pairwise(chain(HEAD.finditer(data), [None])):
         assert head  # None is the last one
         line += len(LINE_END.findall(data, counted, head.start()))
         counted = head.start()
         end = following.start() if following else len(data)
-        yield Part(decoded(head[1]), head[0], data[head.end() : end], end, line)
+        yield Part(decode(head[1]), head[0], data[head.end() : end], end, line)
 
 
-def names_in(rules: Iterable[Row], kind: str) -> list[str]:
+def list_names(rules: Iterable[TableRow], kind: str) -> list[str]:
     """The names in the rules' records of a kind, as `category`, in order; nothing else is asked of the records."""
     return [row.values[1] for row in rules if row.values[0] == kind and len(row.values) > 1]
 
 
-def group_rows(numbered: Iterable[tuple[int, str]]) -> Iterator[Row]:
+def make_group_rows(numbered: Iterable[tuple[int, str]]) -> Iterator[TableRow]:
     """Lines of groups, each with its number, as rows of the names that they join."""
-    return (Row(line.split("+"), number) for number, line in numbered)
+    return (TableRow(line.split("+"), number) for number, line in numbered)
 
 
-def groups_in(data: bytes) -> list[str]:
-    texts = (decoded(part.text) for part in parts_of(data) if part.kind == "groups")
-    return [line for text in texts for line in lines(text)]
+def list_groups(data: bytes) -> list[str]:
+    texts = (decode(part.text) for part in parse_parts(data) if part.kind == "groups")
+    return [line for text in texts for line in split_lines(text)]
 
 
-def end_of_groups(data: bytes) -> int:
+def find_end_of_groups(data: bytes) -> int:
     """How many bytes of an input go before what is added to its groups."""
-    return next((part.end for part in parts_of(data) if part.kind == "groups"), len(data))
+    return next((part.end for part in parse_parts(data) if part.kind == "groups"), len(data))
 
 
-def with_groups(data: bytes, names: Iterable[str]) -> bytes:
+def add_groups(data: bytes, names: Iterable[str]) -> bytes:
     """An input with more groups, after its own."""
-    more, end = "".join(f"{name}\n" for name in names).encode(), end_of_groups(data)
+    more, end = "".join(f"{name}\n" for name in names).encode(), find_end_of_groups(data)
     gap = b"" if not more or data.endswith(b"\n", 0, end) else b"\n"
     return data[:end] + gap + more + data[end:]

@@ -2,10 +2,10 @@
 import importlib
 import re
 
-LONGEST = 500  # signs of a text that a message shows
+LONGEST_TEXT = 500  # signs of a text that a message shows
 
 # a refusal with a kind: a part, its number if there are several, the kind, and the place
-WITH_KIND = re.compile(
+_WITH_KIND = re.compile(
     r"wdp: (?P<part>rules|groups|program|unique|tie|prices|cover|rule|(?:form|solution|certificate|tie) (?P<number>[0-9]{1,9})): "
     r"(?:(?P<kind_number>[0-9]{1,2}) )?(?P<kind>[A-Z][A-Za-z]+)"
     r"(?: (?!at )(?P<winner>[A-Za-z][A-Za-z0-9]{0,15}))?"
@@ -14,7 +14,7 @@ WITH_KIND = re.compile(
 )
 
 # a refusal in words: of a part, perhaps with a number, or else of what is written
-IN_WORDS = re.compile(
+_IN_WORDS = re.compile(
     r"wdp: (?:(?P<part>input|groups|tie(?: [0-9]{1,9})?|desk): )?"
     r"(?:read failed|too large|bytes before the first part|wrong answer|write failed after [0-9]{1,18} bytes"
     r"|(?:no group|group|part) (?P<number>[0-9]{1,9})(?: is not empty| not known)?(?:: %weights is of version 1, .*)?"
@@ -23,17 +23,17 @@ IN_WORDS = re.compile(
 )
 
 
-def escaped(text: str) -> str:
+def escape(text: str) -> str:
     """The text as one line of at most 500 signs, in which what can't be printed is escaped."""
-    return one_line(shortened(text, LONGEST))
+    return escape_unprintable(shorten(text, LONGEST_TEXT))
 
 
-def shortened(text: str, most: int) -> str:
+def shorten(text: str, most: int) -> str:
     """The text, or its beginning and dots, with so many signs at most."""
     return text if len(text) <= most else text[: most - 3] + "..."
 
 
-def one_line(text: str) -> str:
+def escape_unprintable(text: str) -> str:
     """The text with each sign that isn't printable as its escape: it stays one line, and steers no terminal."""
     return "".join(x if x.isprintable() else x.encode("unicode_escape").decode() for x in text)
 
@@ -63,9 +63,9 @@ class Refused(ValueError):
     status: int = 1  # of the command that ends by it
 
     def __init__(self, text: str, part: str | None = None, number: int | None = None) -> None:
-        self.text: str = escaped(text)
+        self.text: str = escape(text)
         super().__init__(self.text)
-        found = WITH_KIND.fullmatch(self.text) or IN_WORDS.fullmatch(self.text)
+        found = _WITH_KIND.fullmatch(self.text) or _IN_WORDS.fullmatch(self.text)
         said = found.groupdict() if found else {}
         whole = {name: int(value) for name, value in said.items() if value and value.isdecimal()}
         self.part, self.number = part, number
@@ -83,7 +83,7 @@ class Refused(ValueError):
         self.column: str | None = None
 
 
-class WrongWords(Refused):
+class WrongArgument(Refused):
     """What is asked for can't be asked for so: the program's status 2, or records that this package can't write."""
 
     status = 2

@@ -12,11 +12,11 @@ from collections.abc import Iterator, Sequence
 LINE_END = re.compile(r"\r\n|\n|\r")
 BYTE_ORDER_MARK = "\ufeff"
 # what would be read as something else, as the head of a part, and a mark that is dropped
-NEEDS_QUOTES = re.compile(f'[,"\\r\\n]|^%|^{BYTE_ORDER_MARK}')
+_NEEDS_QUOTES = re.compile(f'[,"\\r\\n]|^%|^{BYTE_ORDER_MARK}')
 
 
 @dataclass
-class Row:
+class TableRow:
     """A record: its values, and the line in which it begins, or its number where a file has no lines. `places` are those of the
     values, if they can't be counted from the values before them."""
 
@@ -44,12 +44,12 @@ class Records:
         self.unclosed: str | None = None
         self.blank = self.unquoted = self.quoted = 0
 
-    def __iter__(self) -> Iterator[Row]:
+    def __iter__(self) -> Iterator[TableRow]:
         at = 0
         while at < len(self.text):
             found = LINE_END.search(self.text, at)
             stop, following = found.span() if found else (len(self.text), len(self.text))
-            row = Row(self.text[at:stop].split(self.delimiter), self.line)
+            row = TableRow(self.text[at:stop].split(self.delimiter), self.line)
             if '"' in self.text[at:stop]:
                 following = self.fill(row, at)
             if stop == at:
@@ -59,14 +59,14 @@ class Records:
                 yield row
             at, self.line = following, self.line + 1
 
-    def needs_quotes(self, line: str, row: Row) -> int:
+    def needs_quotes(self, line: str, row: TableRow) -> int:
         """How many fields of a line without quotes get some."""
         may_need = "," in line and self.delimiter != "," or "%" in line or BYTE_ORDER_MARK in line
         if '"' in line or not may_need:
             return 0
-        return sum(1 for value in row.values if NEEDS_QUOTES.search(value))
+        return sum(1 for value in row.values if _NEEDS_QUOTES.search(value))
 
-    def fill(self, row: Row, at: int) -> int:
+    def fill(self, row: TableRow, at: int) -> int:
         """Reads a record with quotes, and returns where the next line begins."""
         row.values, places, begin, is_last = [], [], at, False
         while not is_last:
@@ -75,7 +75,7 @@ class Records:
             places.append(f"{self.line}:{at - begin + 1}")
             quoted, close, more, plain = field.groups()
             row.values.append(plain if quoted is None else quoted.replace('""', '"') + more)
-            now = field_text(row.values[-1])
+            now = format_field(row.values[-1])
             self.unquoted += now != field[0] and not now.startswith('"')
             self.quoted += now != field[0] and now.startswith('"')
             if quoted is not None and not close:
@@ -89,33 +89,33 @@ class Records:
         return last.end() if last else at
 
 
-def written(values: Sequence[str]) -> str:
+def format_record(values: Sequence[str]) -> str:
     """The line of a record, with quotes if a field needs them. An empty line would be no record.
 
-    >>> written(["Alpha", "A, B"])
+    >>> format_record(["Alpha", "A, B"])
     'Alpha,"A, B"\\n'
     """
-    return (",".join(map(field_text, values)) or '""') + "\n"
+    return (",".join(map(format_field, values)) or '""') + "\n"
 
 
-def field_text(value: str, special: re.Pattern[str] = NEEDS_QUOTES) -> str:
+def format_field(value: str, special: re.Pattern[str] = _NEEDS_QUOTES) -> str:
     """A field as it is written: in quotes if something in it is special."""
     return '"' + value.replace('"', '""') + '"' if special.search(value) else value
 
 
-def lines(text: str) -> list[str]:
+def split_lines(text: str) -> list[str]:
     """The lines of a text; each is ended by LF, which the last one may lack; one CR before it is dropped."""
     parted = text.split("\n")
     return [line.removesuffix("\r") for line in (parted if parted[-1] else parted[:-1])]
 
 
-def digest_of(data: bytes) -> str:
+def compute_digest(data: bytes) -> str:
     return hashlib.sha256(data).hexdigest()
 
 
-def decoded(data: bytes) -> str:
+def decode(data: bytes) -> str:
     return data.decode("utf-8", "surrogateescape")
 
 
-def encoded(text: str) -> bytes:
+def encode(text: str) -> bytes:
     return text.encode("utf-8", "surrogateescape")

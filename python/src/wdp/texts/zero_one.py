@@ -8,17 +8,17 @@ from dataclasses import dataclass, field
 from fractions import Fraction
 from functools import cached_property
 
-from wdp.texts.refusals import Refused, Unclear, shortened
-from wdp.texts.tables import lines
+from wdp.texts.refusals import Refused, Unclear, shorten
+from wdp.texts.tables import split_lines
 
 AT_MOST, AT_LEAST, EQUAL = "L", "G", "E"
-MEETS = {AT_MOST: operator.le, AT_LEAST: operator.ge, EQUAL: operator.eq}
-OBJECTIVE, DROPPED = -1, -2  # places of rows without a right side
-NEAR = Fraction(1, 100000)
-LONGEST = 40  # signs of a word that a message shows
+_MEETS = {AT_MOST: operator.le, AT_LEAST: operator.ge, EQUAL: operator.eq}
+_OBJECTIVE, _DROPPED = -1, -2  # places of rows without a right side
+_NEAR = Fraction(1, 100000)
+_LONGEST_WORD = 40  # signs of a word that a message shows
 FIELD = re.compile(r"[^ \t]+")  # the longest run of signs that are neither space nor tab
 # a number: digits with an optional sign, point, and exponent that isn't far from 0
-NUMBER = re.compile(r"[+-]?(?=\.?[0-9])[0-9]{0,30}\.?[0-9]{0,30}(?:[eE][+-]?0?[0-9]{1,2})?")
+_NUMBER = re.compile(r"[+-]?(?=\.?[0-9])[0-9]{0,30}\.?[0-9]{0,30}(?:[eE][+-]?0?[0-9]{1,2})?")
 
 
 @dataclass
@@ -28,7 +28,7 @@ class Row:
     right_side: int = 0
 
     def is_met_by(self, total: int) -> bool:
-        return bool(MEETS[self.kind](total, self.right_side))
+        return bool(_MEETS[self.kind](total, self.right_side))
 
 
 @dataclass(slots=True)
@@ -79,10 +79,10 @@ class ZeroOne:
 def read_program(text: bytes) -> ZeroOne:
     """The program of a text, as docs/REFERENCE.md has it under 'Read programs'. Unclear if the text is cut off."""
     with suppress(KeyError, ValueError):
-        return OwnReader(text).program()
-    reader, section = Reader(), ""
+        return FastReader(text).program()
+    reader, section = _MpsReader(), ""
     with suppress(KeyError, ValueError):
-        for line in lines(text.decode("latin-1")):
+        for line in split_lines(text.decode("latin-1")):
             words = line.split()
             if not words or line.startswith("*"):
                 continue
@@ -94,7 +94,7 @@ def read_program(text: bytes) -> ZeroOne:
 
 
 @dataclass
-class Reader:
+class _MpsReader:
     """What the lines say so far."""
 
     rows: list[Row] = field(default_factory=list)
@@ -104,8 +104,8 @@ class Reader:
     def take(self, section: str, words: list[str]) -> None:
         match section, words:
             case "ROWS", ["N", name]:
-                is_first = OBJECTIVE not in self.row_places.values()
-                self.row_places[name] = OBJECTIVE if is_first else DROPPED
+                is_first = _OBJECTIVE not in self.row_places.values()
+                self.row_places[name] = _OBJECTIVE if is_first else _DROPPED
             case "ROWS", [kind, name]:
                 self.row_places[name] = len(self.rows)
                 self.rows.append(Row(name, kind))
@@ -114,7 +114,7 @@ class Reader:
             case "COLUMNS", [name, *entries]:
                 column = self.columns.get(name) or self.columns.setdefault(name, Column(name))
                 for row, number in self.numbers(entries):
-                    if row == OBJECTIVE:
+                    if row == _OBJECTIVE:
                         column.cost = number
                     elif row >= 0 and number:
                         column.entries.append((row, number))
@@ -126,26 +126,26 @@ class Reader:
                 self.columns[name].lower, self.columns[name].upper = 0, 1
             case "BOUNDS", [kind, *_, name, number]:
                 if kind != "UP":
-                    self.columns[name].lower = whole_number(number)
+                    self.columns[name].lower = _parse_whole(number)
                 if kind != "LO":
-                    self.columns[name].upper = whole_number(number)
+                    self.columns[name].upper = _parse_whole(number)
 
     def numbers(self, words: list[str]) -> Iterator[tuple[int, int]]:
         """The places of the rows that words name, each with the number that follows."""
         for name, token in zip(words[::2], words[1::2]):
-            yield self.row_places[name], whole_number(token)
+            yield self.row_places[name], _parse_whole(token)
 
 
 # a text as `wdp` writes it: each line of a section has as many fields as the others
-OWN_ROWS = re.compile(
+_ROWS = re.compile(
     rb"NAME wdp\nROWS\n N OBJ\n((?: [LGE] [!-~]++\n)*+)COLUMNS\n M1 'MARKER' 'INTORG'\n"
 )
-OWN_COLUMN = re.compile(rb" ([!-~]++) OBJ (-?[0-9]++)\n((?: \1 [!-~]++ [!-~]++\n)*+)")
-OWN_SIDES = re.compile(rb" M2 'MARKER' 'INTEND'\nRHS\n((?: RHS [!-~]++ [!-~]++\n)*+)BOUNDS\n")
-OWN_BOUND = re.compile(rb" (UP|FX) BND ([!-~]++) ([01])\n")
+_COLUMN = re.compile(rb" ([!-~]++) OBJ (-?[0-9]++)\n((?: \1 [!-~]++ [!-~]++\n)*+)")
+_RIGHT_SIDES = re.compile(rb" M2 'MARKER' 'INTEND'\nRHS\n((?: RHS [!-~]++ [!-~]++\n)*+)BOUNDS\n")
+_BOUND = re.compile(rb" (UP|FX) BND ([!-~]++) ([01])\n")
 
 
-class OwnReader:
+class FastReader:
     """Reads a text as `wdp` writes it, a column at a time. ValueError or KeyError if it is another one.
 
     Entries that are alike, as ` C3 2` of two columns, are one object.
@@ -178,13 +178,13 @@ class OwnReader:
         return found[1].split()
 
     def read_rows(self) -> None:
-        words = self.section(OWN_ROWS)
+        words = self.section(_ROWS)
         for kind, name in zip(words[::2], words[1::2], strict=True):
             self.row_places[name] = len(self.rows)
             self.rows.append(Row(name.decode("ascii"), kind.decode("ascii")))
 
     def read_columns(self) -> Iterator[Column]:
-        while found := self.next(OWN_COLUMN):
+        while found := self.next(_COLUMN):
             words = found[3].split()
             named = zip(words[1::3], words[2::3], strict=True)
             entries = [self.entries.get(each) or self.read_entry(each) for each in named]
@@ -198,14 +198,14 @@ class OwnReader:
         return self.entries.setdefault(words, entry)
 
     def read_sides(self) -> None:
-        words = self.section(OWN_SIDES)
+        words = self.section(_RIGHT_SIDES)
         for name, number in zip(words[1::3], words[2::3], strict=True):
             self.rows[self.row_places[name]].right_side = int(number)
 
     def read_bounds(self, columns: list[Column]) -> None:
         """The bound of each column, in their order."""
         for column in columns:
-            found = self.next(OWN_BOUND)
+            found = self.next(_BOUND)
             if found is None or found[2].decode("ascii") != column.name:
                 raise ValueError("another text")
             column.upper = int(found[3])
@@ -214,7 +214,7 @@ class OwnReader:
             raise ValueError("another text")
 
 
-def program_text(program: ZeroOne) -> bytes:
+def format_program(program: ZeroOne) -> bytes:
     """A program in free MPS, as `wdp` writes it, without the rows that no column has and that are met."""
     taken = {at for column in program.columns for at, _ in column.entries}
     rows = [row for at, row in enumerate(program.rows) if at in taken or not row.is_met_by(0)]
@@ -239,18 +239,18 @@ def program_text(program: ZeroOne) -> bytes:
     return "\n".join(lines).encode("ascii")
 
 
-def whole_number(token: str) -> int:
+def _parse_whole(token: str) -> int:
     return int(token) if token.isdigit() else int(Fraction(token))
 
 
 def read_solution(text: bytes, program: ZeroOne, source: str) -> set[int]:
     """The places of the columns at 1. Refused, with the line, if the text is no point of the program."""
     values: dict[int, bool] = {}
-    for number, line in enumerate(lines(text.decode("latin-1")), 1):
+    for number, line in enumerate(split_lines(text.decode("latin-1")), 1):
         words = FIELD.findall(line)
         if words and not line.startswith("#"):
             try:
-                take(words, program, values)
+                _take_line(words, program, values)
             except ValueError as fault:
                 raise Refused(f"{source}: line {number}: {fault}") from None
     ones = {place for place, is_one in values.items() if is_one}
@@ -259,23 +259,23 @@ def read_solution(text: bytes, program: ZeroOne, source: str) -> set[int]:
     return ones
 
 
-def take(words: list[str], program: ZeroOne, values: dict[int, bool]) -> None:
+def _take_line(words: list[str], program: ZeroOne, values: dict[int, bool]) -> None:
     """Takes a line: whether its column is at 1, by the column's place. ValueError says what is wrong with it."""
     if len(words) != 2:
         raise ValueError("not a name and a value")
-    name, token = (shortened(word, LONGEST) for word in words)
+    name, token = (shorten(word, _LONGEST_WORD) for word in words)
     place = program.column_places.get(words[0])
     if place is None:
         raise ValueError(f"the column {name} isn't known")
     if place in values:
         raise ValueError(f"the column {name} is there twice")
-    if not NUMBER.fullmatch(words[1]):
+    if not _NUMBER.fullmatch(words[1]):
         raise ValueError(f"the value {token} of {name} is no number")
     value = Fraction(words[1])
-    values[place] = abs(value - 1) <= NEAR
-    if not values[place] and abs(value) > NEAR:
+    values[place] = abs(value - 1) <= _NEAR
+    if not values[place] and abs(value) > _NEAR:
         raise ValueError(f"the value {token} of {name} is neither 0 nor 1")
 
 
-def solution_text(ones: Iterable[int], program: ZeroOne) -> bytes:
+def format_solution(ones: Iterable[int], program: ZeroOne) -> bytes:
     return "".join(f"{program.columns[place].name} 1\n" for place in sorted(ones)).encode("ascii")
