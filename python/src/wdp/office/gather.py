@@ -13,6 +13,7 @@ Exit status: 0 the input is written; 1 something is wrong; 2 the options are wro
 import argparse
 import os
 from collections.abc import Iterator, Sequence
+from dataclasses import astuple
 from itertools import groupby
 from operator import itemgetter
 
@@ -114,8 +115,14 @@ def _format_files(auction: AuctionFiles) -> Iterator[str]:
 
 def _format_rules(rules: AcceptedRules) -> Iterator[str]:
     yield f"The rules: amounts are multiples of {rules.step:,}"
-    of_lots = "Reserve of a lot", "Points of a lot", "Value of an unsold lot"
-    yield from align_rows([("Category", "Supply", *of_lots), *rules.categories])
+    headings = (
+        "Category",
+        "Supply",
+        "Reserve of a lot",
+        "Points of a lot",
+        "Value of an unsold lot",
+    )
+    yield from align_rows([headings, *map(astuple, rules.categories)])
     yield from (f"pool {pool.name}: a load of at most {pool.cap:,}" for pool in rules.pools)
 
 

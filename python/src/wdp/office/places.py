@@ -23,7 +23,7 @@ _HINTS = (
     (re.compile(r"#[A-Z/0]+[!?]?"), "it is a spreadsheet's word for an error"),
     *((re.compile(rf".*[{mark}].*", re.DOTALL), f"it has {name}") for mark, name in (
         (",", "a comma"), (" \u00a0\u202f\u2009", "a space"), (".", "a point"), ("'\u2019", "an apostrophe"),
-        ("£$€", "a sign of a currency"), (r"\-\u2212", "a minus sign"), ("+", "a plus sign"))),
+        ("£$€", "a currency sign"), (r"\-\u2212", "a minus sign"), ("+", "a plus sign"))),
 )  # fmt: skip
 _MOST_SHOWN = 100  # faults of one file that are printed one by one
 # of the faults that the program finds without a cause

@@ -1,7 +1,6 @@
 """The auction of an input in which the program found no fault; nothing is judged here."""
 from collections.abc import Iterable
 from dataclasses import dataclass, field
-from typing import NamedTuple
 
 from wdp.texts.parts import list_groups, parse_parts
 from wdp.texts.refusals import Refused
@@ -10,7 +9,10 @@ from wdp.texts.tables import TableRow
 KINDS = ("rules", "form", "groups")
 
 
-class Category(NamedTuple):
+@dataclass(frozen=True)
+class Category:
+    """A category of lots: how many there are, and the reserve, the points and the value of an unsold lot of each."""
+
     name: str
     supply: int
     reserve: int
@@ -18,13 +20,19 @@ class Category(NamedTuple):
     value: int = 0
 
 
-class Pool(NamedTuple):
+@dataclass(frozen=True)
+class Pool:
+    """A pool: the greatest load that a bidder may win, and the load of a lot of each category that is in it."""
+
     name: str
     cap: int
     weights: dict[str, int]
 
 
-class Bid(NamedTuple):
+@dataclass(frozen=True, slots=True)
+class Bid:
+    """A bid: its amount in pounds, and how many lots of each category it is for, in the order of the rules."""
+
     amount: int
     lots: tuple[int, ...]
 
@@ -39,11 +47,13 @@ class AcceptedRules:
     pools: list[Pool] = field(default_factory=list)
 
     def load(self, pool: Pool, lots: Iterable[int]) -> int:
-        pairs = zip(lots, self.categories)
-        return sum(quantity * pool.weights.get(each.name, 0) for quantity, each in pairs)
+        """What so many lots of each category are in a pool."""
+        pairs = zip(lots, self.categories, strict=True)
+        return sum(count * pool.weights.get(category.name, 0) for count, category in pairs)
 
 
-class Accepted(NamedTuple):
+@dataclass(frozen=True)
+class Accepted:
     """The rules, the bids of each bidder that has a form, by the last one, and the names that each group leaves out."""
 
     rules: AcceptedRules
@@ -52,7 +62,8 @@ class Accepted(NamedTuple):
 
 
 def parse_rules(rows: Iterable[TableRow]) -> AcceptedRules:
-    rules = AcceptedRules(1)
+    """The rules of accepted records; one of several errors, as ValueError, if no program accepts them."""
+    rules = AcceptedRules(step=1)
     for kind, name, *values in (row.values for row in rows):
         if kind == "rules":
             rules.step = int(values[0])
@@ -61,7 +72,7 @@ def parse_rules(rows: Iterable[TableRow]) -> AcceptedRules:
         elif kind == "bidder":
             rules.bidders.append(name)
         elif kind == "pool":
-            rules.pools.append(Pool(name, int(values[0]), {}))
+            rules.pools.append(Pool(name, cap=int(values[0]), weights={}))
         else:
             pool = next(pool for pool in rules.pools if pool.name == name)
             pool.weights[values[0]] = int(values[1])
@@ -69,8 +80,10 @@ def parse_rules(rows: Iterable[TableRow]) -> AcceptedRules:
 
 
 def parse_form(rows: Iterable[TableRow]) -> tuple[str, list[Bid]]:
-    head, *bids = (row.values for row in rows)
-    return head[0], [Bid(int(amount), tuple(map(int, lots))) for amount, *lots in bids]
+    """The bidder of an accepted form, and its bids; errors are those of `parse_rules`."""
+    head, *records = (row.values for row in rows)
+    bids = [Bid(int(amount), tuple(map(int, lots))) for amount, *lots in records]
+    return head[0], bids
 
 
 def read(data: bytes, source: str) -> Accepted:
@@ -83,8 +96,8 @@ def read(data: bytes, source: str) -> Accepted:
         rules = parse_rules(next(part.rows() for part in parts if part.kind == "rules"))
         forms = dict(parse_form(part.rows()) for part in parts if part.kind == "form")
         bids = {name: forms[name] for name in rules.bidders if name in forms}
-        named = [set(line.split("+")) for line in list_groups(data)]
-        groups = [[name for name in rules.bidders if name in group] for group in named]
+        left_out = [set(line.split("+")) for line in list_groups(data)]
+        groups = [[name for name in rules.bidders if name in names] for names in left_out]
         return Accepted(rules, bids, groups)
     except (IndexError, StopIteration, TypeError, ValueError):
         raise Refused(f"{source}: it isn't an input that wdp accepts") from None

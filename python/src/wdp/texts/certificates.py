@@ -5,7 +5,7 @@ from collections.abc import Collection
 
 def has_bid(solution: bytes, bidders: Collection[int]) -> bool:
     """Whether one of these bidders wins in a solution, by their numbers in the rules."""
-    return any(int(found) in bidders for found in re.findall(rb"(?m)^X([0-9]+)_", solution))
+    return any(int(number) in bidders for number in re.findall(rb"(?m)^X([0-9]+)_", solution))
 
 
 def remove_bidders(certificate: bytes, bidders: Collection[int]) -> bytes:
@@ -15,6 +15,6 @@ def remove_bidders(certificate: bytes, bidders: Collection[int]) -> bytes:
     """
     if not bidders:
         return certificate
-    either = "|".join(map(str, sorted(bidders)))
-    gone = rf" (?:X(?:{either})_[0-9]+|B(?:{either})) -?[0-9]+"
-    return re.sub(gone.encode("ascii"), b"", certificate)
+    numbers = "|".join(map(str, sorted(bidders)))
+    terms = rf" (?:X(?:{numbers})_[0-9]+|B(?:{numbers})) -?[0-9]+"
+    return re.sub(terms.encode("ascii"), b"", certificate)

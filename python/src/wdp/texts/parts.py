@@ -12,7 +12,11 @@ LINE_END = re.compile(rb"\r\n|\r|\n")  # as records count lines
 
 
 class Part(NamedTuple):
-    """A part: what its head line, number `line`, has after `%`; that line, the text below it, and where that ends."""
+    """A part of an input.
+
+    `kind` is what its head line, number `line`, has after `%`; `head` is that line, `text` what is below it, and `end` the place
+    of the input at which that ends.
+    """
 
     kind: str
     head: bytes
@@ -29,13 +33,21 @@ class Part(NamedTuple):
 
 
 def parse_parts(data: bytes) -> Iterator[Part]:
-    line, counted = 1, 0
+    """The parts of an input, in their order."""
+    line = 1
+    counted = 0
     for head, following in pairwise(chain(HEAD.finditer(data), [None])):
         assert head  # None is the last one
         line += len(LINE_END.findall(data, counted, head.start()))
         counted = head.start()
         end = following.start() if following else len(data)
-        yield Part(decode(head[1]), head[0], data[head.end() : end], end, line)
+        yield Part(
+            kind=decode(head[1]),
+            head=head[0],
+            text=data[head.end() : end],
+            end=end,
+            line=line,
+        )
 
 
 def list_names(rules: Iterable[TableRow], kind: str) -> list[str]:
@@ -49,6 +61,7 @@ def make_group_rows(numbered: Iterable[tuple[int, str]]) -> Iterator[TableRow]:
 
 
 def list_groups(data: bytes) -> list[str]:
+    """The lines of an input's groups."""
     texts = (decode(part.text) for part in parse_parts(data) if part.kind == "groups")
     return [line for text in texts for line in split_lines(text)]
 
@@ -60,6 +73,7 @@ def find_end_of_groups(data: bytes) -> int:
 
 def add_groups(data: bytes, names: Iterable[str]) -> bytes:
     """An input with more groups, after its own."""
-    more, end = "".join(f"{name}\n" for name in names).encode(), find_end_of_groups(data)
-    gap = b"" if not more or data.endswith(b"\n", 0, end) else b"\n"
-    return data[:end] + gap + more + data[end:]
+    added = "".join(f"{name}\n" for name in names).encode()
+    end = find_end_of_groups(data)
+    gap = b"" if not added or data.endswith(b"\n", 0, end) else b"\n"
+    return data[:end] + gap + added + data[end:]

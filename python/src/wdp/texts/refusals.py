@@ -2,7 +2,7 @@
 import importlib
 import re
 
-LONGEST_TEXT = 500  # signs of a text that a message shows
+LONGEST_TEXT = 500  # characters of a text that a message shows
 
 # a refusal with a kind: a part, its number if there are several, the kind, and the place
 _WITH_KIND = re.compile(
@@ -24,18 +24,23 @@ _IN_WORDS = re.compile(
 
 
 def escape(text: str) -> str:
-    """The text as one line of at most 500 signs, in which what can't be printed is escaped."""
+    """The text as one line of at most 500 characters, in which what can't be printed is escaped."""
     return escape_unprintable(shorten(text, LONGEST_TEXT))
 
 
 def shorten(text: str, most: int) -> str:
-    """The text, or its beginning and dots, with so many signs at most."""
-    return text if len(text) <= most else text[: most - 3] + "..."
+    """The text, or its beginning and dots, with so many characters at most."""
+    if len(text) <= most:
+        return text
+    return text[: most - 3] + "..."
 
 
 def escape_unprintable(text: str) -> str:
-    """The text with each sign that isn't printable as its escape: it stays one line, and steers no terminal."""
-    return "".join(x if x.isprintable() else x.encode("unicode_escape").decode() for x in text)
+    """The text with each character that isn't printable as its escape: it stays one line, and steers no terminal."""
+    return "".join(
+        character if character.isprintable() else character.encode("unicode_escape").decode()
+        for character in text
+    )
 
 
 class Refused(ValueError):
@@ -65,20 +70,24 @@ class Refused(ValueError):
     def __init__(self, text: str, part: str | None = None, number: int | None = None) -> None:
         self.text: str = escape(text)
         super().__init__(self.text)
-        found = _WITH_KIND.fullmatch(self.text) or _IN_WORDS.fullmatch(self.text)
-        said = found.groupdict() if found else {}
-        whole = {name: int(value) for name, value in said.items() if value and value.isdecimal()}
-        self.part, self.number = part, number
-        if found:
-            self.part, *counted = (said["part"] or "output").split()
-            self.number = int(counted[0]) if counted else whole.get("number")
-        self.kind: str | None = said.get("kind")
-        self.kind_number: int | None = whole.get("kind_number")
-        self.record: int | None = whole.get("record")
-        self.line: int | None = whole.get("line")
-        self.at: int | str | None = whole.get("record", whole.get("line", said.get("name")))
-        self.field: int | None = whole.get("field")
-        self.bidder: str | None = said.get("winner")
+        match = _WITH_KIND.fullmatch(self.text) or _IN_WORDS.fullmatch(self.text)
+        pieces = match.groupdict() if match else {}
+        numbers = {
+            name: int(value) for name, value in pieces.items() if value and value.isdecimal()
+        }
+        self.part = part
+        self.number = number
+        if match:
+            name, _, part_number = (pieces["part"] or "output").partition(" ")
+            self.part = name
+            self.number = int(part_number) if part_number else numbers.get("number")
+        self.kind: str | None = pieces.get("kind")
+        self.kind_number: int | None = numbers.get("kind_number")
+        self.record: int | None = numbers.get("record")
+        self.line: int | None = numbers.get("line")
+        self.at: int | str | None = numbers.get("record", numbers.get("line", pieces.get("name")))
+        self.field: int | None = numbers.get("field")
+        self.bidder: str | None = pieces.get("winner")
         self.row: int | None = None
         self.column: str | None = None
 
@@ -102,15 +111,16 @@ class NotSolved(Refused):
 
     def __init__(self, text: str, status: int = 1, group: int | None = None) -> None:
         super().__init__(text)
-        self.status, self.group = status, group
+        self.status = status
+        self.group = group
 
 
 class Missing(Refused, ImportError):
     """A library of Python that the call needs isn't there."""
 
 
-def need(what: str, *modules: str) -> None:
-    """Raises Missing, which says how to install them, if some of these modules aren't there."""
+def need(purpose: str, *modules: str) -> None:
+    """Raises Missing, which says how to install them, if some of the modules that a purpose needs aren't there."""
     missing = []
     for module in modules:
         try:
@@ -119,4 +129,4 @@ def need(what: str, *modules: str) -> None:
             missing.append(f"python3-{module}")
     if missing:
         names = " ".join(missing)
-        raise Missing(f"{what} needs Debian's packages {names}: apt-get install -y {names}")
+        raise Missing(f"{purpose} needs Debian's packages {names}: apt-get install -y {names}")

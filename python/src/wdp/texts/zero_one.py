@@ -1,5 +1,7 @@
-"""0-1 programs, read from texts in free MPS that `wdp check` accepts or `wdp` wrote, and their solutions. Of a program nothing
-is judged. A solution has a line NAME VALUE for each column, and comments; others are 0."""
+"""0-1 programs, read from texts in free MPS that `wdp check` accepts or `wdp` wrote, and their solutions.
+
+Of a program nothing is judged. A solution has a line NAME VALUE for each column, and comments; other columns are 0.
+"""
 import operator
 import re
 from collections.abc import Iterable, Iterator, Set
@@ -11,23 +13,30 @@ from functools import cached_property
 from wdp.texts.refusals import Refused, Unclear, shorten
 from wdp.texts.tables import split_lines
 
-AT_MOST, AT_LEAST, EQUAL = "L", "G", "E"
+AT_MOST = "L"
+AT_LEAST = "G"
+EQUAL = "E"
 _MEETS = {AT_MOST: operator.le, AT_LEAST: operator.ge, EQUAL: operator.eq}
-_OBJECTIVE, _DROPPED = -1, -2  # places of rows without a right side
+# places of rows without a right side
+_OBJECTIVE = -1
+_DROPPED = -2
 _NEAR = Fraction(1, 100000)
-_LONGEST_WORD = 40  # signs of a word that a message shows
-FIELD = re.compile(r"[^ \t]+")  # the longest run of signs that are neither space nor tab
+_LONGEST_FIELD = 40  # characters of a field that a message shows
+FIELD = re.compile(r"[^ \t]+")  # the longest run of characters that are neither space nor tab
 # a number: digits with an optional sign, point, and exponent that isn't far from 0
 _NUMBER = re.compile(r"[+-]?(?=\.?[0-9])[0-9]{0,30}\.?[0-9]{0,30}(?:[eE][+-]?0?[0-9]{1,2})?")
 
 
 @dataclass
 class Row:
+    """A row: its name, its kind, as AT_MOST, and its right side."""
+
     name: str
     kind: str
     right_side: int = 0
 
     def is_met_by(self, total: int) -> bool:
+        """Whether the row holds if its left side comes to this."""
         return bool(_MEETS[self.kind](total, self.right_side))
 
 
@@ -68,9 +77,9 @@ class ZeroOne:
                 return f"the bound of column {column.name} is broken"
         totals = [0] * len(self.rows)
         for place in ones:
-            for at, coefficient in self.columns[place].entries:
-                totals[at] += coefficient
-        for row, total in zip(self.rows, totals):
+            for row_place, coefficient in self.columns[place].entries:
+                totals[row_place] += coefficient
+        for row, total in zip(self.rows, totals, strict=True):
             if not row.is_met_by(total):
                 return f"the row {row.name} is broken"
         return None
@@ -80,15 +89,18 @@ def read_program(text: bytes) -> ZeroOne:
     """The program of a text, as docs/REFERENCE.md has it under 'Read programs'. Unclear if the text is cut off."""
     with suppress(KeyError, ValueError):
         return FastReader(text).program()
-    reader, section = _MpsReader(), ""
+    reader = _MpsReader()
+    section = ""
     with suppress(KeyError, ValueError):
         for line in split_lines(text.decode("latin-1")):
-            words = line.split()
-            if not words or line.startswith("*"):
+            fields = line.split()
+            if not fields or line.startswith("*"):
                 continue
             if line[0] in " \t":
-                reader.take(section, words)
-            elif (section := words[0]) == "ENDATA":
+                reader.take(section, fields)
+                continue
+            section = fields[0]
+            if section == "ENDATA":
                 return ZeroOne(reader.rows, list(reader.columns.values()))
     raise Unclear("the program's text isn't one that wdp accepts")
 
@@ -101,8 +113,9 @@ class _MpsReader:
     row_places: dict[str, int] = field(default_factory=dict)
     columns: dict[str, Column] = field(default_factory=dict)
 
-    def take(self, section: str, words: list[str]) -> None:
-        match section, words:
+    def take(self, section: str, fields: list[str]) -> None:
+        """Takes the fields of a line of a section."""
+        match section, fields:
             case "ROWS", ["N", name]:
                 is_first = _OBJECTIVE not in self.row_places.values()
                 self.row_places[name] = _OBJECTIVE if is_first else _DROPPED
@@ -119,21 +132,22 @@ class _MpsReader:
                     elif row >= 0 and number:
                         column.entries.append((row, number))
             case "RHS", _:  # an odd number of fields begins with the name of a set
-                for row, number in self.numbers(words[len(words) % 2 :]):
+                for row, number in self.numbers(fields[len(fields) % 2 :]):
                     if row >= 0:
                         self.rows[row].right_side = number
             case "BOUNDS", ["BV", name] | ["BV", _, name, *_]:
-                self.columns[name].lower, self.columns[name].upper = 0, 1
+                self.columns[name].lower = 0
+                self.columns[name].upper = 1
             case "BOUNDS", [kind, *_, name, number]:
                 if kind != "UP":
                     self.columns[name].lower = _parse_whole(number)
                 if kind != "LO":
                     self.columns[name].upper = _parse_whole(number)
 
-    def numbers(self, words: list[str]) -> Iterator[tuple[int, int]]:
-        """The places of the rows that words name, each with the number that follows."""
-        for name, token in zip(words[::2], words[1::2]):
-            yield self.row_places[name], _parse_whole(token)
+    def numbers(self, fields: list[str]) -> Iterator[tuple[int, int]]:
+        """The places of the rows that fields name, each with the number that follows."""
+        for name, number in zip(fields[::2], fields[1::2], strict=True):
+            yield self.row_places[name], _parse_whole(number)
 
 
 # a text as `wdp` writes it: each line of a section has as many fields as the others
@@ -153,7 +167,7 @@ class FastReader:
 
     def __init__(self, text: bytes) -> None:
         self.text = text
-        self.at = 0
+        self.position = 0
         self.rows: list[Row] = []
         self.row_places: dict[bytes, int] = {}
         self.entries: dict[tuple[bytes, bytes], tuple[int, int]] = {}
@@ -161,63 +175,67 @@ class FastReader:
     def program(self) -> ZeroOne:
         self.read_rows()
         columns = list(self.read_columns())
-        self.read_sides()
+        self.read_right_sides()
         self.read_bounds(columns)
         return ZeroOne(self.rows, columns)
 
-    def next(self, pattern: re.Pattern[bytes]) -> re.Match[bytes] | None:
-        found = pattern.match(self.text, self.at)
-        if found:
-            self.at = found.end()
-        return found
+    def match(self, pattern: re.Pattern[bytes]) -> re.Match[bytes] | None:
+        """What matches a pattern next, after which the reading goes on; None if that is something else."""
+        match = pattern.match(self.text, self.position)
+        if match:
+            self.position = match.end()
+        return match
 
-    def section(self, pattern: re.Pattern[bytes]) -> list[bytes]:
-        found = self.next(pattern)
-        if found is None:
+    def read_section(self, pattern: re.Pattern[bytes]) -> list[bytes]:
+        """The fields of a section."""
+        match = self.match(pattern)
+        if match is None:
             raise ValueError("another text")
-        return found[1].split()
+        return match[1].split()
 
     def read_rows(self) -> None:
-        words = self.section(_ROWS)
-        for kind, name in zip(words[::2], words[1::2], strict=True):
+        fields = self.read_section(_ROWS)
+        for kind, name in zip(fields[::2], fields[1::2], strict=True):
             self.row_places[name] = len(self.rows)
             self.rows.append(Row(name.decode("ascii"), kind.decode("ascii")))
 
     def read_columns(self) -> Iterator[Column]:
-        while found := self.next(_COLUMN):
-            words = found[3].split()
-            named = zip(words[1::3], words[2::3], strict=True)
-            entries = [self.entries.get(each) or self.read_entry(each) for each in named]
-            yield Column(found[1].decode("ascii"), int(found[2]), entries)
+        while match := self.match(_COLUMN):
+            name, cost, lines = match.groups()
+            fields = lines.split()
+            pairs = zip(fields[1::3], fields[2::3], strict=True)
+            entries = [self.entries.get(pair) or self.read_entry(pair) for pair in pairs]
+            yield Column(name.decode("ascii"), int(cost), entries)
 
-    def read_entry(self, words: tuple[bytes, bytes]) -> tuple[int, int]:
-        row, number = words
-        entry = self.row_places[row], int(number)
-        if not entry[1]:
+    def read_entry(self, pair: tuple[bytes, bytes]) -> tuple[int, int]:
+        """An entry by the name of its row and its coefficient."""
+        name, number = pair
+        coefficient = int(number)
+        if not coefficient:
             raise ValueError("an entry without a coefficient")
-        return self.entries.setdefault(words, entry)
+        return self.entries.setdefault(pair, (self.row_places[name], coefficient))
 
-    def read_sides(self) -> None:
-        words = self.section(_RIGHT_SIDES)
-        for name, number in zip(words[1::3], words[2::3], strict=True):
+    def read_right_sides(self) -> None:
+        fields = self.read_section(_RIGHT_SIDES)
+        for name, number in zip(fields[1::3], fields[2::3], strict=True):
             self.rows[self.row_places[name]].right_side = int(number)
 
     def read_bounds(self, columns: list[Column]) -> None:
         """The bound of each column, in their order."""
         for column in columns:
-            found = self.next(_BOUND)
-            if found is None or found[2].decode("ascii") != column.name:
+            match = self.match(_BOUND)
+            if match is None or match[2].decode("ascii") != column.name:
                 raise ValueError("another text")
-            column.upper = int(found[3])
-            column.lower = column.upper if found[1] == b"FX" else 0
-        if self.text[self.at :] != b"ENDATA\n":
+            column.upper = int(match[3])
+            column.lower = column.upper if match[1] == b"FX" else 0
+        if self.text[self.position :] != b"ENDATA\n":
             raise ValueError("another text")
 
 
 def format_program(program: ZeroOne) -> bytes:
     """A program in free MPS, as `wdp` writes it, without the rows that no column has and that are met."""
-    taken = {at for column in program.columns for at, _ in column.entries}
-    rows = [row for at, row in enumerate(program.rows) if at in taken or not row.is_met_by(0)]
+    used = {place for column in program.columns for place, _ in column.entries}
+    rows = [row for place, row in enumerate(program.rows) if place in used or not row.is_met_by(0)]
     lines = ["NAME wdp", "ROWS", " N OBJ"]
     lines += [f" {row.kind} {row.name}" for row in rows]
     lines += ["COLUMNS"]
@@ -225,7 +243,8 @@ def format_program(program: ZeroOne) -> bytes:
         lines += [" M1 'MARKER' 'INTORG'"]
     for column in program.columns:
         lines += [f" {column.name} OBJ {column.cost}"]
-        lines += [f" {column.name} {program.rows[at].name} {n}" for at, n in column.entries]
+        for place, coefficient in column.entries:
+            lines.append(f" {column.name} {program.rows[place].name} {coefficient}")
     if program.columns:
         lines += [" M2 'MARKER' 'INTEND'"]
     lines += ["RHS"]
@@ -239,18 +258,18 @@ def format_program(program: ZeroOne) -> bytes:
     return "\n".join(lines).encode("ascii")
 
 
-def _parse_whole(token: str) -> int:
-    return int(token) if token.isdigit() else int(Fraction(token))
+def _parse_whole(number: str) -> int:
+    return int(number) if number.isdigit() else int(Fraction(number))
 
 
 def read_solution(text: bytes, program: ZeroOne, source: str) -> set[int]:
     """The places of the columns at 1. Refused, with the line, if the text is no point of the program."""
     values: dict[int, bool] = {}
     for number, line in enumerate(split_lines(text.decode("latin-1")), 1):
-        words = FIELD.findall(line)
-        if words and not line.startswith("#"):
+        fields = FIELD.findall(line)
+        if fields and not line.startswith("#"):
             try:
-                _take_line(words, program, values)
+                _take_line(fields, program, values)
             except ValueError as fault:
                 raise Refused(f"{source}: line {number}: {fault}") from None
     ones = {place for place, is_one in values.items() if is_one}
@@ -259,23 +278,25 @@ def read_solution(text: bytes, program: ZeroOne, source: str) -> set[int]:
     return ones
 
 
-def _take_line(words: list[str], program: ZeroOne, values: dict[int, bool]) -> None:
+def _take_line(fields: list[str], program: ZeroOne, values: dict[int, bool]) -> None:
     """Takes a line: whether its column is at 1, by the column's place. ValueError says what is wrong with it."""
-    if len(words) != 2:
+    if len(fields) != 2:
         raise ValueError("not a name and a value")
-    name, token = (shorten(word, _LONGEST_WORD) for word in words)
-    place = program.column_places.get(words[0])
+    name = shorten(fields[0], _LONGEST_FIELD)
+    number = shorten(fields[1], _LONGEST_FIELD)
+    place = program.column_places.get(fields[0])
     if place is None:
         raise ValueError(f"the column {name} isn't known")
     if place in values:
         raise ValueError(f"the column {name} is there twice")
-    if not _NUMBER.fullmatch(words[1]):
-        raise ValueError(f"the value {token} of {name} is no number")
-    value = Fraction(words[1])
+    if not _NUMBER.fullmatch(fields[1]):
+        raise ValueError(f"the value {number} of {name} is no number")
+    value = Fraction(fields[1])
     values[place] = abs(value - 1) <= _NEAR
     if not values[place] and abs(value) > _NEAR:
-        raise ValueError(f"the value {token} of {name} is neither 0 nor 1")
+        raise ValueError(f"the value {number} of {name} is neither 0 nor 1")
 
 
 def format_solution(ones: Iterable[int], program: ZeroOne) -> bytes:
+    """A solution in which the columns at these places are 1."""
     return "".join(f"{program.columns[place].name} 1\n" for place in sorted(ones)).encode("ascii")
