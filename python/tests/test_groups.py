@@ -71,7 +71,7 @@ def test_steps_wait_for_others(tmp_path, jobs):
         for name, seconds in (("d", 0), ("c", 0.1), ("b", 0.2), ("a", 0.3))
     }
     # (one that fails is waited for no longer)
-    assert steps.run(work, jobs, after=after) == {"a": 0, "b": 1, "c": 0, "d": 0}
+    assert steps.run(work, jobs=jobs, after=after) == {"a": 0, "b": 1, "c": 0, "d": 0}
 
 
 @pytest.fixture

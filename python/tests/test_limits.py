@@ -181,4 +181,4 @@ def test_times_in_words():
     times = progress.Times({"programs": 1.0, "groups": 12.0})
     times.take("group 2", 3.0)
     times.take("group 3", 2.0)
-    assert times.text() == "13 s: programs 1.0 s, groups 12 s; the longest, group 2: 3.0 s"
+    assert times.format() == "13 s: programs 1.0 s, groups 12 s; the longest, group 2: 3.0 s"

@@ -9,8 +9,9 @@ from wdp.office.judge import Explained, Finding
 from wdp.results import Allocation, Certified, Counts, Group, Matrix, Prices, Program, Report
 from wdp.results import Solutions, Winner
 from wdp.texts.refusals import Missing, NotFound, NotSolved, Refused, Unclear, WrongArgument
+from wdp.version import VERSION
 
-__version__ = "2.0.0"
+__version__ = VERSION
 __all__ = ["Allocation", "Auction", "Certified", "Counts", "Explained", "Finding", "Group"]
 __all__ += ["Matrix", "Missing", "NotFound", "NotSolved", "Prices", "Program", "Refused"]
 __all__ += ["Report", "Solutions", "Unclear", "Winner", "WrongArgument"]

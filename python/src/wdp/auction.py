@@ -88,7 +88,7 @@ def run_steps(
 ) -> dict[str, int]:
     """Does steps by their names, each in a process of its own and `after` some others, and says why one failed; their statuses."""
     named = {name: partial(run_reporting, say, name, step) for name, step in work.items()}
-    ended = steps.run(named, jobs, watch, after)
+    ended = steps.run(named, jobs=jobs, watch=watch, after=after)
     for name, status in ended.items():
         if status < 0:
             say(f"{name or 'the run'}: the step was killed by signal {-status}")
@@ -148,7 +148,7 @@ class Run(Folder):
         with tempfile.TemporaryFile(dir=self.where) as printed:
             words = ["compile", f"--workers={min(self.jobs, 64)}"]
             try:
-                ask(self.program, words, text, limits, printed)
+                ask(self.program, words, text, limits, output=printed)
             except Refused as refused:
                 path = "-" if self.page is None else shlex.quote(str(self.path(INPUT)))
                 hint = f"wdp-office explain {path} prints what is wrong"
@@ -440,8 +440,8 @@ class Run(Folder):
             before = {group: groups.find_smaller(sets, group) for group in left}
             after = {label(group): [label(each) for each in before[group]] for group in left}
         work = {label(group): partial(self.settle, group) for group in left}
-        watch = Progress(len(asked), len(left), self.times, say)
-        with self.times.of("groups" if 1 in asked else "groups for prices"):
+        watch = Progress(len(asked), left=len(left), times=self.times, say=say)
+        with self.times.measure("groups" if 1 in asked else "groups for prices"):
             ended = run_steps(work, jobs, None if self.quiet else watch, after)
         kind = "certificate" if self.is_certified else "answer"
         missing = [group for group in left if not self.has(of_group(kind, group))]
@@ -489,7 +489,7 @@ class Run(Folder):
                 return 1
             if self.has(PRICES):
                 return 0
-            with self.times.of("prices"):
+            with self.times.measure("prices"):
                 status = in_processes({"prices": self.price})
             if status:
                 say("no prices; the next run looks for them again, and --no-prices leaves them out")
@@ -501,17 +501,17 @@ class Run(Folder):
             raise Refused(f"{self.path(REPORT)} is certified; --no-certify needs another folder")
         if self.page is not None:
             self.keep_page(self.page)
-        with self.times.of("programs"):
+        with self.times.measure("programs"):
             status = in_processes({"": self.compile})
         if status:
             return status
         if not self.solved(self.names()):
             return 1
         is_unpriced = self.is_priced and self.priced()
-        with self.times.of("report"):
+        with self.times.measure("report"):
             status = in_processes({"report": self.report})
         if not self.quiet:
-            say(f"it took {self.times.text()}")
+            say(f"it took {self.times.format()}")
         return status or self.tell_end() or int(is_unpriced)
 
     def tell_end(self) -> int:
@@ -534,9 +534,9 @@ class Run(Folder):
         if not self.where.is_dir():
             raise Refused(f"{self.where} is no folder; --input FILE makes it, with the input")
         if step:
-            with self.locked(alone=False):
+            with self.lock(alone=False):
                 return self.one_step(step)
-        with self.locked(alone=True):
+        with self.lock(alone=True):
             with self.scratch():
                 self.take_input(data)
                 status = self.through()
@@ -556,7 +556,7 @@ class Run(Folder):
         if not own.has(UNPRICED) or own.read(UNPRICED) != first:
             files.remove(own.where)
         own.where.mkdir(parents=True, exist_ok=True)
-        with own.locked(alone=True), own.scratch():
+        with own.lock(alone=True), own.scratch():
             if not own.has(UNPRICED):
                 own.take_audit(first)
                 own.leave(UNPRICED, first)

@@ -6,11 +6,12 @@ import signal
 import sys
 from collections.abc import Callable
 from functools import partial
-from typing import NoReturn
+from typing import Any, NoReturn
 
 from wdp import files
 from wdp.steps import INTERRUPTED, Step, heed_children
 from wdp.texts.refusals import Refused, escape, shorten
+from wdp.version import VERSION
 
 _NAME = "wdp-office"
 _EXPLAIN_HELP = "prints all that is wrong with an input, by file, line and column"
@@ -25,16 +26,19 @@ COMMANDS = {
     "prices": ("prices", "finds what the winners of an award pay"),
     "results": ("publish.command", "makes tables and a page of a report"),
 }
-_LONGEST_COMMAND = 40  # signs of an unknown command that are looked at
+_LONGEST_COMMAND = 40  # characters of an unknown command that are looked at
 _WRONG_ARGUMENTS = 2
 
 
 class _Parser(argparse.ArgumentParser):
     """A parser whose help has its text unchanged, and whose errors are one line."""
 
-    def __init__(self, **how: object) -> None:
-        raw = argparse.RawDescriptionHelpFormatter
-        super().__init__(formatter_class=raw, allow_abbrev=False, **how)  # type: ignore[arg-type]
+    def __init__(self, **options: Any) -> None:
+        super().__init__(
+            formatter_class=argparse.RawDescriptionHelpFormatter,
+            allow_abbrev=False,
+            **options,
+        )
 
     def error(self, message: str) -> NoReturn:
         self.exit(_WRONG_ARGUMENTS, escape(f"{self.prog}: error: {message}") + "\n")
@@ -48,72 +52,77 @@ class _Parser(argparse.ArgumentParser):
 
 
 def build_parser(only: str | None = None) -> _Parser:
-    """The parser of all commands, with the words of each, or of one alone, whose module is then the only one read."""
-    from wdp import __version__
-
+    """The parser of all commands, with the arguments of each, or of one alone, whose module is then the only one read."""
     parser = _Parser(prog=_NAME, description=__doc__)
-    parser.add_argument("--version", action="version", version=f"{_NAME} {__version__}")
+    parser.add_argument("--version", action="version", version=f"{_NAME} {VERSION}")
     commands = parser.add_subparsers(dest="command", metavar="COMMAND", title="commands")
-    for name, (module, purpose) in COMMANDS.items():
+    for name, (module_name, purpose) in COMMANDS.items():
         command = commands.add_parser(name, help=purpose)
         if only in (None, name):
-            read = importlib.import_module(f"wdp.{module}")
-            command.description = read.__doc__
-            read.add_arguments(command)
+            module = importlib.import_module(f"wdp.{module_name}")
+            command.description = module.__doc__
+            module.add_arguments(command)
             command.add_argument("--wdp", dest="program", metavar="PATH", help=argparse.SUPPRESS)
-            command.set_defaults(run=read.run)
-    about = commands.add_parser("help", help="prints what a command takes")
-    about.add_argument("about", metavar="COMMAND", nargs="?")
+            command.set_defaults(run=module.run)
+    help_command = commands.add_parser("help", help="prints what a command takes")
+    help_command.add_argument("about", metavar="COMMAND", nargs="?")
     return parser
 
 
-def _parse_arguments(words: list[str]) -> argparse.Namespace:
-    """What the words ask for; a SystemExit if they are wrong, or ask for help."""
-    if words[:1] == ["help"]:
-        words = [*(name for name in words[1:2] if name != "help"), "--help"]
-    first = words[0] if words else ""
-    if words and not first.startswith("-") and first not in COMMANDS:
-        near = difflib.get_close_matches(first[:_LONGEST_COMMAND].lower(), COMMANDS, 1, 0)[0]
-        shown = shorten(first, _LONGEST_COMMAND)
-        files.say(_NAME, f"there is no command '{shown}'; the nearest one is {near}")
+def _parse_arguments(arguments: list[str]) -> argparse.Namespace:
+    """What the arguments ask for; a SystemExit if they are wrong, or ask for help."""
+    if arguments[:1] == ["help"]:
+        arguments = [*(name for name in arguments[1:2] if name != "help"), "--help"]
+    first = arguments[0] if arguments else ""
+    if arguments and not first.startswith("-") and first not in COMMANDS:
+        begin = first[:_LONGEST_COMMAND].lower()
+        nearest = difflib.get_close_matches(begin, COMMANDS, n=1, cutoff=0)[0]
+        name = shorten(first, _LONGEST_COMMAND)
+        files.say(_NAME, f"there is no command '{name}'; the nearest one is {nearest}")
         raise SystemExit(_WRONG_ARGUMENTS)
     parser = build_parser(first if first in COMMANDS else "")
-    if not words:
+    if not arguments:
         parser.exit(_WRONG_ARGUMENTS, parser.format_help())
     parser.prog = f"{_NAME} {first}" if first in COMMANDS else _NAME
-    return parser.parse_args(words)
+    return parser.parse_args(arguments)
 
 
 def run_reporting(say: Callable[[str], None], label: str, step: Step) -> int:
-    """Does a step, and says why it failed; its status."""
+    """Does a step, and says why it failed, after the label if there is one; its status."""
     try:
         return step() or 0
     except Refused as refused:
-        why, status = refused.text, refused.status
+        why = refused.text
+        status = refused.status
     except MemoryError:
-        why, status = "out of memory", 1
+        why = "out of memory"
+        status = 1
     except OSError as error:
-        named = f"{error.filename}: " if error.filename else ""
-        why, status = f"{named}{error.strerror or error}", 1
+        why = f"{error.filename}: " if error.filename else ""
+        why += str(error.strerror or error)
+        status = 1
     say(f"{label}: {why}" if label else why)
     return status
 
 
-def main(words: list[str] | None = None) -> int:
-    """Does what the words ask for, and gives the status; whatever goes wrong is one line on standard error."""
-    asked = sys.argv[1:] if words is None else words
+def main(arguments: list[str] | None = None) -> int:
+    """Does what the arguments ask for, and gives the status; whatever goes wrong is one line on standard error."""
+    if arguments is None:
+        arguments = sys.argv[1:]
     files.open_standard_streams()
     heed_children()
-    say = partial(files.say, asked[0] if asked and asked[0] in COMMANDS else _NAME)
-
-    def called() -> int:
-        given = _parse_arguments(asked)
-        if signal.getsignal(signal.SIGINT) is signal.SIG_DFL:
-            signal.signal(signal.SIGINT, signal.default_int_handler)
-        return int(given.run(given) or 0)
-
+    command = arguments[0] if arguments and arguments[0] in COMMANDS else _NAME
+    say = partial(files.say, command)
     try:
-        return run_reporting(say, "", called)
+        return run_reporting(say, "", partial(_run_command, arguments))
     except KeyboardInterrupt:
         say("interrupted")
         return INTERRUPTED
+
+
+def _run_command(arguments: list[str]) -> int:
+    """Does what the arguments ask for; the status."""
+    options = _parse_arguments(arguments)
+    if signal.getsignal(signal.SIGINT) is signal.SIG_DFL:
+        signal.signal(signal.SIGINT, signal.default_int_handler)
+    return int(options.run(options) or 0)

@@ -27,12 +27,13 @@ class Unreadable(Refused):
 
     def __init__(self, path: str, why: str) -> None:
         super().__init__(f"{path}: {why}")
-        self.path, self.why = path, why
+        self.path = path
+        self.why = why
 
 
 @contextlib.contextmanager
 def map_errors(path: str) -> Iterator[None]:
-    """What the system refuses within is Unreadable, with the path."""
+    """Within this, an error of the system is raised as Unreadable, with the path."""
     try:
         yield
     except Refused:
@@ -50,9 +51,10 @@ def read(path: str, most: int, regular: bool = False) -> bytes:
             if sys.stdin is None:
                 raise Unreadable(path, "standard input is closed")
             return read_rest(sys.stdin.buffer, path, most)
-        # a pipe is opened without waiting for a writer
-        flags = os.O_RDONLY | (os.O_NONBLOCK | os.O_NOCTTY if regular else 0)
+        flags = os.O_RDONLY
         if regular:
+            # (a pipe is opened without waiting for a writer)
+            flags |= os.O_NONBLOCK | os.O_NOCTTY
             check_kind(path, os.stat(path))
         with open(os.open(path, flags), "rb") as file:
             if regular:
@@ -61,12 +63,13 @@ def read(path: str, most: int, regular: bool = False) -> bytes:
 
 
 def check_kind(path: str, status: os.stat_result) -> None:
+    """Raises Unreadable if a file's status is that of something else, as a folder."""
     if kind := _KINDS.get(stat.S_IFMT(status.st_mode)):
         raise Unreadable(path, f"it is {kind}")
 
 
 def read_rest(file: BinaryIO, path: str, most: int) -> bytes:
-    """The rest of a file. One that has too much by its size isn't read."""
+    """The rest of a file, at most so many bytes. One that has too much by its size isn't read; Unreadable has the path."""
     before = os.fstat(file.fileno())
     data: bytes | None = file.read(most + 1) if before.st_size <= most else b""
     if data is None:
@@ -80,7 +83,7 @@ def read_rest(file: BinaryIO, path: str, most: int) -> bytes:
 
 
 def write_all(texts: Mapping[str, bytes]) -> None:
-    """Writes files, all of them or none. None replaces what isn't a file, as a device."""
+    """Writes files by their paths, all of them or none. None replaces what isn't a file, as a device. Raises Unreadable."""
     written: dict[str, str] = {}
     try:
         for path, text in texts.items():
@@ -100,59 +103,72 @@ def write_all(texts: Mapping[str, bytes]) -> None:
 
 def remove(path: str | Path) -> None:
     """Takes away what has this name, and all that is in it, however deep; what can't be taken away stays."""
-    silent = subprocess.DEVNULL
-    words = ["rm", "-rf", "--", os.path.abspath(path)]
     with contextlib.suppress(OSError):
-        subprocess.run(words, stdin=silent, stdout=silent, stderr=silent, check=False)
+        subprocess.run(
+            ["rm", "-rf", "--", os.path.abspath(path)],
+            stdin=subprocess.DEVNULL,
+            stdout=subprocess.DEVNULL,
+            stderr=subprocess.DEVNULL,
+            check=False,
+        )
 
 
 @contextlib.contextmanager
 def temporary_folder(prefix: str) -> Iterator[Path]:
     """A folder that is taken away in the end."""
-    where = Path(tempfile.mkdtemp(prefix=prefix)).absolute()
+    folder = Path(tempfile.mkdtemp(prefix=prefix)).absolute()
     try:
-        yield where
+        yield folder
     finally:
-        remove(where)
+        remove(folder)
 
 
 def _make_hidden_path(path: str) -> str:
-    """A name that nobody has yet, in the folder of what a path leads to."""
+    """A path that nobody has yet, in the folder of what a path leads to."""
     return os.path.join(os.path.dirname(os.path.realpath(path)), WRITING + secrets.token_hex(8))
 
 
 def write_folder(folder: str, texts: Mapping[str, bytes], ours: Iterable[str] = ()) -> None:
-    """Writes a folder with these files, all or none, in the place of one that has no others than `ours`, by default these."""
+    """Writes a folder with files by their names, all or none, in the place of one that has no others than `ours`.
+
+    By default `ours` are the names of these files. Raises Unreadable.
+    """
     with map_errors(folder):
-        there = os.listdir(folder) if os.path.lexists(folder) else []
-        others = sorted(set(there).difference(ours or texts))
+        names = os.listdir(folder) if os.path.lexists(folder) else []
+        others = sorted(set(names).difference(ours or texts))
         if others:
             raise Unreadable(folder, f"it has other files, as {others[0]}; name a new folder")
-        place, made, old = (
-            os.path.realpath(folder),
-            _make_hidden_path(folder),
-            _make_hidden_path(folder),
-        )
+        place = os.path.realpath(folder)
+        made = _make_hidden_path(folder)
         os.makedirs(os.path.dirname(place), exist_ok=True)
         os.mkdir(made)
         try:
             for name, text in texts.items():
                 Path(made, name).write_bytes(text)
-            if os.path.lexists(place):
-                os.rename(place, old)
-            os.rename(made, place)
+            _replace_folder(place, made)
         finally:
-            if os.path.lexists(old) and not os.path.lexists(place):
-                os.rename(old, place)
             remove(made)
-            if os.path.lexists(place):
-                remove(old)
+
+
+def _replace_folder(place: str, made: str) -> None:
+    """Puts a folder in the place of another one, which comes back if that fails."""
+    old = _make_hidden_path(place)
+    try:
+        if os.path.lexists(place):
+            os.rename(place, old)
+        os.rename(made, place)
+    finally:
+        if os.path.lexists(old) and not os.path.lexists(place):
+            os.rename(old, place)
+        if os.path.lexists(place):
+            remove(old)
 
 
 def put(data: bytes, path: str | None = None) -> None:
-    """Writes a file, or if none is named to standard output."""
+    """Writes a file, or if none is named to standard output. Raises Unreadable if that is closed, or full."""
     if path:
-        return write_all({path: data})
+        write_all({path: data})
+        return
     if sys.stdout is None:
         raise Unreadable("standard output", "it is closed")
     with map_errors("standard output"):
@@ -181,8 +197,10 @@ def tell(text: str) -> None:
 
 
 def open_standard_streams() -> None:
-    """Opens what is closed of the standard streams for nothing, so that no file gets the number by which they are known. (They stay
-    closed to Python.)"""
+    """Opens what is closed of the standard streams for nothing, so that no file gets the number by which they are known.
+
+    They stay closed to Python.
+    """
     number = 0
     while number <= 2:
         number = os.open(os.devnull, os.O_RDWR)
@@ -192,4 +210,5 @@ def open_standard_streams() -> None:
 
 
 def say(tool: str, text: str) -> None:
+    """Prints a line of a tool on standard error."""
     tell(escape(f"{tool}: {text}") + "\n")

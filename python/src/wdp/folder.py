@@ -13,6 +13,7 @@ from wdp.texts.refusals import Refused
 
 INPUT = "input.txt"
 _MOST_OF_FILE = 2 * 1024 * 1024 * 1024  # bytes of a file that a step left
+_MOST_OF_SUM = 10_000  # bytes of a line with a file's SHA-256
 _PATIENCE = 3  # seconds for a run that is just ending
 
 
@@ -23,22 +24,26 @@ class Folder:
     where: Path
 
     def path(self, name: str) -> Path:
+        """The path of a file that a step leaves."""
         return self.where / name
 
     def sum_path(self, name: str) -> Path:
+        """The path of a file's SHA-256."""
         return self.path(f"sums/{name}.sha256")
 
     def has(self, name: str) -> bool:
+        """Whether a step left this file."""
         return os.path.lexists(self.path(name)) and os.path.lexists(self.sum_path(name))
 
-    def sum_of(self, name: str) -> bytes:
-        return files.read(str(self.sum_path(name)), 10_000, regular=True)
+    def read_sum(self, name: str) -> bytes:
+        """The line with a file's SHA-256, as it was left."""
+        return files.read(str(self.sum_path(name)), _MOST_OF_SUM, regular=True)
 
     def read(self, name: str) -> bytes:
         """The bytes that a step left; Refused if they are others, or it isn't a file."""
         path = str(self.path(name))
         data = files.read(path, _MOST_OF_FILE, regular=True)
-        if self.sum_of(name) != _format_sum(name, data):
+        if self.read_sum(name) != _format_sum(name, data):
             again = "take another folder" if name == INPUT else "delete it to have it made again"
             raise Refused(f"{path} isn't what was left there: put that back, or {again}")
         return data
@@ -55,37 +60,40 @@ class Folder:
         left more than that, or nothing yet."""
         path = self.path(INPUT)
         sums = [*self.path("sums").glob("*.sha256"), *self.path("sums").glob("*/*.sha256")]
-        others = set(sums) - {self.sum_path(INPUT)}
+        has_others = bool(set(sums) - {self.sum_path(INPUT)})
         another = Refused(f"{path} is another input; take another folder")
         if data is None or path.exists():
-            there = files.read(str(path), _MOST_OF_FILE, regular=True)
-            if data not in (None, there) and (others or not self.has(INPUT)):
+            current = files.read(str(path), _MOST_OF_FILE, regular=True)
+            if data not in (None, current) and (has_others or not self.has(INPUT)):
                 raise another
-            data = there if data is None else data
-        if others and self.has(INPUT):
+            data = current if data is None else data
+        if not has_others:
+            self.leave(INPUT, data)
+        elif self.has(INPUT):
             self.read(INPUT)
-        elif others and not self.sum_path(INPUT).exists():
+        elif not self.sum_path(INPUT).exists():
             why = f"it says which input {self.where} belongs to"
             raise Refused(f"{self.sum_path(INPUT)} isn't there; {why}")
-        elif others and self.sum_of(INPUT) != _format_sum(INPUT, data):
+        elif self.read_sum(INPUT) != _format_sum(INPUT, data):
             raise another
         else:
             self.leave(INPUT, data)
 
     @contextlib.contextmanager
-    def locked(self, alone: bool) -> Iterator[None]:
+    def lock(self, *, alone: bool) -> Iterator[None]:
         """One run at a time has the folder, or any number of steps of Snakemake, until the last of its processes ends."""
         kind = fcntl.LOCK_EX if alone else fcntl.LOCK_SH
-        last, path = time.monotonic() + _PATIENCE, str(self.path(".lock"))
+        path = str(self.path(".lock"))
+        end = time.monotonic() + _PATIENCE
         with files.map_errors(path):
             number = os.open(path, os.O_RDWR | os.O_CREAT | os.O_NONBLOCK, 0o666)
-        with open(number, "rb") as lock:
+        with open(number, "rb") as file:
             files.check_kind(path, os.fstat(number))
             while True:
                 with contextlib.suppress(BlockingIOError):
-                    fcntl.flock(lock, kind | fcntl.LOCK_NB)
+                    fcntl.flock(file, kind | fcntl.LOCK_NB)
                     break
-                if time.monotonic() > last:
+                if time.monotonic() > end:
                     raise Refused(f"another run works in {self.where}")
                 time.sleep(0.05)
             yield
@@ -93,18 +101,18 @@ class Folder:
     @contextlib.contextmanager
     def scratch(self) -> Iterator[None]:
         """Takes away what a run that was killed didn't finish. What is temporary then goes into the folder."""
-        where = self.path(".running").absolute()
-        files.remove(where)
+        scratch = self.path(".running").absolute()
+        files.remove(scratch)
         # (a file is written in the folder, in one in it, or in one of `sums`)
         for depth in ("", "*/", "*/*/"):
             for path in self.where.glob(f"{depth}{files.WRITING}*"):
                 files.remove(path)
-        where.mkdir(exist_ok=True)
-        os.environ["TMPDIR"] = str(where)
+        scratch.mkdir(exist_ok=True)
+        os.environ["TMPDIR"] = str(scratch)
         try:
             yield
         finally:
-            files.remove(where)
+            files.remove(scratch)
 
 
 def _format_sum(name: str, data: bytes) -> bytes:

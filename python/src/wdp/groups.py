@@ -19,6 +19,5 @@ def find_smaller(groups: Mapping[int, Names], group: int) -> list[int]:
     >>> find_smaller({1: parse_names("-"), 2: parse_names("A+B"), 3: parse_names("B"), 4: parse_names("C")}, 2)
     [1, 3]
     """
-    own = groups[group]
-    found = [number for number, names in groups.items() if names < own]
-    return sorted(found, key=lambda number: (len(groups[number]), number))
+    numbers = [number for number, names in groups.items() if names < groups[group]]
+    return sorted(numbers, key=lambda number: (len(groups[number]), number))

@@ -5,7 +5,6 @@ usage: python3 highs.py PROGRAM.mps SOLUTION [SECONDS]
 Writes the best point that is found. The status is that of `wdp-office solve`, and the last line on standard error says why
 there is no point.
 """
-import math
 import os
 import sys
 
@@ -21,37 +20,40 @@ from wdp.texts.zero_one import read_program, format_solution  # noqa: E402
 
 
 def solve(program: ZeroOne, seconds: float) -> set[int]:
-    """The columns at 1 of the best point that is found."""
+    """The places of the columns at 1 of the best point that is found in so many seconds. NotSolved if there is none."""
     import numpy as np
     from scipy.optimize import Bounds, LinearConstraint, milp
 
     matrix = Matrix.of(program)
-    kinds = np.array(matrix.senses)
-    right = np.array(matrix.right_sides, float)
-    low = np.where(kinds == AT_MOST, -np.inf, right)
-    high = np.where(kinds == AT_LEAST, np.inf, right)
-    rows = [LinearConstraint(matrix.entries.astype(float), low, high)] if len(right) else []
-    found = milp(
+    senses = np.array(matrix.senses)
+    right_sides = np.array(matrix.right_sides, float)
+    rows = []
+    if len(right_sides):
+        low = np.where(senses == AT_MOST, -np.inf, right_sides)
+        high = np.where(senses == AT_LEAST, np.inf, right_sides)
+        rows.append(LinearConstraint(matrix.entries.astype(float), lb=low, ub=high))
+    result = milp(
         [0.0 if column.is_fixed else float(column.cost) for column in program.columns],
         integrality=np.ones(len(matrix.columns)),
         bounds=Bounds(matrix.lower, matrix.upper),
         constraints=rows,
         options={"mip_rel_gap": 0.0, "time_limit": seconds},
     )
-    if found.x is None:
-        status = TIME_OUT if found.status == 1 else NO_POINT
-        raise NotSolved(f"HiGHS has no solution: {found.message}", status)
-    return {place for place, value in enumerate(found.x) if value > 0.5}
+    if result.x is None:
+        status = TIME_OUT if result.status == 1 else NO_POINT
+        raise NotSolved(f"HiGHS has no solution: {result.message}", status)
+    return {place for place, value in enumerate(result.x) if value > 0.5}
 
 
-def main(mps: str, out: str, seconds: str = "inf") -> int:
-    program = read_program(files.read(mps, MOST_OF_PROGRAM))
+def main(program_path: str, solution_path: str, seconds: str = "inf") -> int:
+    """Solves the program of a file, and writes its solution into another one; the status."""
+    program = read_program(files.read(program_path, MOST_OF_PROGRAM))
     try:
-        ones = solve(program, math.inf if seconds == "inf" else float(seconds))
+        ones = solve(program, float(seconds))
     except NotSolved as failed:
         files.tell(f"{failed.text}\n")
         return failed.status
-    files.write_all({out: format_solution(ones, program)})
+    files.write_all({solution_path: format_solution(ones, program)})
     return 0
 
 

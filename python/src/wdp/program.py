@@ -8,7 +8,8 @@ import subprocess
 import tempfile
 import time
 from collections.abc import Sequence
-from typing import IO, Any, NamedTuple
+from dataclasses import dataclass
+from typing import IO
 
 from wdp.texts.refusals import NotFound, Refused, Unclear, WrongArgument
 
@@ -30,26 +31,33 @@ def _find_tree() -> str | None:
     return root if is_tree else None
 
 
+def _find_beside() -> str:
+    """The path that the program has in the tree of this package, or where it was installed with it."""
+    if tree := _find_tree():
+        return os.path.join(tree, "wdp")
+    prefix = _PACKAGE.rpartition(f"{os.sep}lib{os.sep}")[0]
+    return os.path.join(prefix, "bin", "wdp")
+
+
 def find_program(program: StrPath | None = None) -> str:
-    """The path of the program: the one that is given, else $WDP, else ./wdp of the package's tree, else the one that was
+    """The path of the program: the one that is named, else $WDP, else ./wdp of the package's tree, else the one that was
     installed with the package, else `wdp` on the PATH. Raises NotFound if the one that is named isn't there; no other one is
     then taken, and WrongArgument if it is no path."""
-    tree, prefix = _find_tree(), _PACKAGE.rpartition(os.sep + "lib" + os.sep)[0]
-    beside = os.path.join(tree, "wdp") if tree else os.path.join(prefix, "bin", "wdp")
+    beside = _find_beside()
     usual = os.environ.get("WDP") or (beside if os.path.isfile(beside) else "wdp")
     try:
-        asked = usual if program is None else os.fsdecode(program)
+        path = usual if program is None else os.fsdecode(program)
     except TypeError:
-        raise WrongArgument(
-            f"program: a path is asked for, not a {type(program).__name__}"
-        ) from None
-    found = shutil.which(asked)
+        why = f"a path is asked for, not a {type(program).__name__}"
+        raise WrongArgument(f"program: {why}") from None
+    found = shutil.which(path)
     if found is None:
-        raise NotFound(f"the program isn't found: {asked}; {_INSTALL}")
+        raise NotFound(f"the program isn't found: {path}; {_INSTALL}")
     return os.path.abspath(found)
 
 
-class ProcessResult(NamedTuple):
+@dataclass(frozen=True)
+class ProcessResult:
     """How a program ended: its status, below 0 for a signal, None if its time was over; its output; the end of its messages."""
 
     status: int | None
@@ -59,10 +67,12 @@ class ProcessResult(NamedTuple):
     @property
     def last_line(self) -> str:
         """The last line of the messages that isn't blank, or nothing."""
-        return (self.messages.rstrip().splitlines() or [""])[-1].strip()
+        lines = self.messages.rstrip().splitlines()
+        return lines[-1].strip() if lines else ""
 
 
-class Limits(NamedTuple):
+@dataclass(frozen=True)
+class Limits:
     """How many bytes an answer may have, how many seconds it may take, and the signal that ends a program beyond them."""
 
     most: int
@@ -70,92 +80,133 @@ class Limits(NamedTuple):
     ending: int = signal.SIGKILL
 
 
+@dataclass(frozen=True)
+class _Streams:
+    """The files that a process has for its standard streams."""
+
+    source: IO[bytes]
+    output: IO[bytes]
+    messages: IO[bytes]
+
+    def check_sizes(self, name: str, most: int) -> None:
+        """Raises Unclear if the program of this name prints more than so many bytes, or too many messages."""
+        if _measure_file(self.output) > most:
+            raise Unclear(f"{name} prints more than an answer to this can have, {most} bytes")
+        if _measure_file(self.messages) > _MOST_OF_MESSAGES:
+            what = f"{_MOST_OF_MESSAGES} bytes on standard error"
+            raise Unclear(f"{name} prints more than {what}")
+
+
 def run_process(
-    words: Sequence[str],
-    given: bytes,
+    command: Sequence[str],
+    data: bytes,
     limits: Limits,
+    *,
     output: IO[bytes] | None = None,
     messages: IO[bytes] | None = None,
     folder: StrPath | None = None,
 ) -> ProcessResult:
-    """Runs a program to its end on `given`, in a folder. What it prints goes to the files that are named. Its three streams are
+    """Runs a program to its end on these data, in a folder. What it prints goes to the files that are named. Its three streams are
     files: none can fill, as a pipe can, and nothing that the program left running is waited for. Raises NotFound if it can't be
     started, and Unclear if it prints too much or a file can't be written."""
-    file = tempfile.TemporaryFile
+    temporary = tempfile.TemporaryFile
     try:
-        with file() as source, file() as printed, file() as said:
-            source.write(given)
+        with temporary() as source, temporary() as printed, temporary() as errors:
+            source.write(data)
             source.seek(0)
-            streams = {"stdin": source, "stdout": output or printed, "stderr": messages or said}
-            status = _wait_for(words, limits, streams, folder)
-            text = _read_end(messages or said, _END_OF_MESSAGES).decode("utf-8", "backslashreplace")
-            return ProcessResult(status, _read_end(printed, limits.most), text)
+            streams = _Streams(source, output=output or printed, messages=messages or errors)
+            status = _run_to_end(command, limits, streams, folder)
+            text = _read_end(streams.messages, _END_OF_MESSAGES)
+            return ProcessResult(
+                status=status,
+                output=_read_end(printed, limits.most),
+                messages=text.decode("utf-8", "backslashreplace"),
+            )
     except Refused:
         raise
     except OSError as error:
         why = f"can't be given its input, or its answer can't be read: {error.strerror or error}"
-        raise Unclear(f"{words[0]} {why}") from None
+        raise Unclear(f"{command[0]} {why}") from None
 
 
-def _wait_for(
-    words: Sequence[str], limits: Limits, streams: dict[str, IO[bytes]], folder: StrPath | None
+def _run_to_end(
+    command: Sequence[str], limits: Limits, streams: _Streams, folder: StrPath | None
 ) -> int | None:
     """Starts a program and waits for its end. Gives its status, None if its time is over; Unclear if it prints too much."""
-    most_of_answer = limits.most, f"an answer to this can have, {limits.most} bytes"
-    most_of_messages = _MOST_OF_MESSAGES, f"{_MOST_OF_MESSAGES} bytes on standard error"
-    mosts = {"stdout": most_of_answer, "stderr": most_of_messages}
     if signal.getsignal(signal.SIGCHLD) == signal.SIG_IGN:
         raise Unclear("this process ignores SIGCHLD, so that nobody knows how a program ends")
-    try:  # (in a group of its own, so that all of it can be ended)
-        how: Any = {**streams, "cwd": folder, "start_new_session": True}
-        started: subprocess.Popen[bytes] = subprocess.Popen(words, **how)
-    except (OSError, ValueError) as error:
-        why = getattr(error, "strerror", None) or error
-        raise NotFound(f"{words[0]} can't be started: {why}") from None
+    process = _start(command, streams, folder)
     try:
         last = math.inf if limits.seconds is None else time.monotonic() + limits.seconds
         while True:
             with contextlib.suppress(subprocess.TimeoutExpired):
-                started.wait(max(min(_LOOK_EVERY, last - time.monotonic()), 0))
-            for name, (most, what) in mosts.items():
-                if os.fstat(streams[name].fileno()).st_size > most:
-                    raise Unclear(f"{words[0]} prints more than {what}")
-            if started.returncode is not None or time.monotonic() >= last:
-                return started.returncode
+                process.wait(max(min(_LOOK_EVERY, last - time.monotonic()), 0))
+            streams.check_sizes(command[0], limits.most)
+            if process.returncode is not None or time.monotonic() >= last:
+                return process.returncode
     finally:
         # (once its end was seen, its number may be another one's)
         for number in (limits.ending, signal.SIGKILL):
-            if started.returncode is None:
-                os.killpg(started.pid, number)
+            if process.returncode is None:
+                os.killpg(process.pid, number)
                 with contextlib.suppress(subprocess.TimeoutExpired):
-                    started.wait(_PATIENCE)
+                    process.wait(_PATIENCE)
+
+
+def _start(
+    command: Sequence[str], streams: _Streams, folder: StrPath | None
+) -> subprocess.Popen[bytes]:
+    """Starts a program in a group of its own, so that all of it can be ended; NotFound if it can't be."""
+    try:
+        return subprocess.Popen(
+            command,
+            stdin=streams.source,
+            stdout=streams.output,
+            stderr=streams.messages,
+            cwd=folder,
+            start_new_session=True,
+        )
+    except (OSError, ValueError) as error:
+        why = getattr(error, "strerror", None) or error
+        raise NotFound(f"{command[0]} can't be started: {why}") from None
+
+
+def _measure_file(file: IO[bytes]) -> int:
+    return os.fstat(file.fileno()).st_size
 
 
 def _read_end(file: IO[bytes], most: int) -> bytes:
+    """The end of a file, at most so many bytes."""
     file.seek(max(file.seek(0, os.SEEK_END) - most, 0))
     return file.read(most)
 
 
 def ask(
-    program: str, words: list[str], given: bytes, limits: Limits, output: IO[bytes] | None = None
+    program: str,
+    arguments: list[str],
+    data: bytes,
+    limits: Limits,
+    *,
+    output: IO[bytes] | None = None,
 ) -> bytes:
     """What the program prints, if it ends with status 0; else a Refused that says why."""
-    ended = run_process([program, *words], given, limits, output)
-    status, line = ended.status, ended.last_line
-    if status is None:
+    ended = run_process([program, *arguments], data, limits, output=output)
+    if ended.status is None:
         raise Unclear(f"{program} gave no answer in {limits.seconds:g} s, and was ended")
-    if status < 0:
-        raise Unclear(f"{program} was ended by signal {format_signal(-status)}")
-    if status == 2:  # (a blank line ends what is wrong with the words)
+    if ended.status < 0:
+        raise Unclear(f"{program} was ended by signal {format_signal(-ended.status)}")
+    line = ended.last_line
+    if ended.status == 2:  # (a blank line ends what is wrong with the arguments)
         line = " ".join(ended.messages.strip().split("\n\n")[0].split())
-    if line and status in _REFUSALS:
-        raise _REFUSALS[status](line)
-    if status:
-        said = f": {line}" if line else " and said nothing"
-        raise Unclear(f"{program} ended with status {status}{said}")
+    if line and ended.status in _REFUSALS:
+        raise _REFUSALS[ended.status](line)
+    if ended.status:
+        why = f": {line}" if line else " and said nothing"
+        raise Unclear(f"{program} ended with status {ended.status}{why}")
     return ended.output
 
 
 def format_signal(number: int) -> str:
+    """A signal by its number and, if it has one, its name."""
     names = {each.value: f" ({each.name})" for each in signal.Signals}
     return f"{number}{names.get(number, '')}"

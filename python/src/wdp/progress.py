@@ -15,6 +15,7 @@ Say = Callable[[str], None]
 
 
 def is_at_terminal() -> bool:
+    """Whether standard error is a terminal."""
     return bool(sys.stderr and sys.stderr.isatty())
 
 
@@ -26,7 +27,9 @@ def format_seconds(seconds: float) -> str:
     """
     if seconds >= 600:
         return f"{seconds / 60:.0f} min"
-    return f"{seconds:.0f} s" if seconds >= 10 or seconds < 0.05 else f"{seconds:.1f} s"
+    if seconds >= 10 or seconds < 0.05:
+        return f"{seconds:.0f} s"
+    return f"{seconds:.1f} s"
 
 
 @dataclass
@@ -35,56 +38,61 @@ class Times:
 
     seconds: dict[str, float] = field(default_factory=dict)
     longest: str = ""
-    of_longest: float = 0.0
+    longest_seconds: float = 0.0
 
     @contextmanager
-    def of(self, kind: str) -> Iterator[None]:
+    def measure(self, kind: str) -> Iterator[None]:
         """Counts what is done within this for a kind of step."""
-        begun = time.monotonic()
+        begin = time.monotonic()
         try:
             yield
         finally:
-            self.seconds[kind] = self.seconds.get(kind, 0.0) + time.monotonic() - begun
+            self.seconds[kind] = self.seconds.get(kind, 0.0) + time.monotonic() - begin
 
     def take(self, name: str, seconds: float) -> None:
         """Takes the time of one step."""
-        if seconds > self.of_longest:
+        if seconds > self.longest_seconds:
             self.longest = name
-            self.of_longest = seconds
+            self.longest_seconds = seconds
 
-    def text(self) -> str:
-        parts = [f"{kind} {format_seconds(seconds)}" for kind, seconds in self.seconds.items()]
-        longest = (
-            f"; the longest, {self.longest}: {format_seconds(self.of_longest)}"
-            if self.longest
-            else ""
-        )
-        return f"{format_seconds(sum(self.seconds.values()))}: {', '.join(parts)}{longest}"
+    def format(self) -> str:
+        """All times as one line."""
+        total = format_seconds(sum(self.seconds.values()))
+        kinds = [f"{kind} {format_seconds(seconds)}" for kind, seconds in self.seconds.items()]
+        text = f"{total}: {', '.join(kinds)}"
+        if not self.longest:
+            return text
+        return f"{text}; the longest, {self.longest}: {format_seconds(self.longest_seconds)}"
 
 
 class Progress:
-    """Prints how far a run is, one line that is renewed at a terminal, few lines elsewhere; and counts the time of each step."""
+    """Prints how far a run is, one line that is renewed at a terminal, few lines elsewhere; and counts the time of each step.
 
-    def __init__(self, count: int, left: int, times: Times, say: Say) -> None:
+    Of `count` groups `left` are to be done. `say` prints a line elsewhere.
+    """
+
+    def __init__(self, count: int, *, left: int, times: Times, say: Say) -> None:
         self.count = count
         self.left = left
         self.times = times
         self.say = say
-        self.printed = time.monotonic()
-        self.begun: dict[str, float] = {}
+        self.last_print = time.monotonic()
+        self.begins: dict[str, float] = {}
 
     def __call__(self, ended: int, at_work: list[str]) -> None:
+        """Takes how many of the groups that were left have ended, and the names of those that are at work."""
         now = time.monotonic()
-        for name in self.begun.keys() - at_work:
-            self.times.take(name, now - self.begun.pop(name))
+        for name in self.begins.keys() - at_work:
+            self.times.take(name, now - self.begins.pop(name))
         for name in at_work:
-            self.begun.setdefault(name, now)
+            self.begins.setdefault(name, now)
         is_terminal = is_at_terminal()
-        if now - self.printed < _PRINT_EVERY[is_terminal]:
+        if now - self.last_print < _PRINT_EVERY[is_terminal]:
             return
-        self.printed = now
+        self.last_print = now
         text = f"{self.count - self.left + ended} of {format_count(self.count, 'group')} done"
-        text += f"; at work: {', '.join(at_work[:8])}" if at_work else ""
+        if at_work:
+            text += f"; at work: {', '.join(at_work[:8])}"
         if is_terminal:
             files.tell("\r\x1b[K" + text[: shutil.get_terminal_size().columns - 1])
         else:

@@ -121,7 +121,7 @@ def answer_of(text: bytes, solver: str, limit: float | None, folder: Path, log: 
     late = seconds and seconds + min(LONGEST_GRACE, 5 + seconds // 10)
     limits = Limits(MOST_OF_ANSWER, late, signal.SIGTERM)
     with open(log, "wb+") as printed:
-        ended = run_process(guarded, b"", limits, printed, printed, folder)
+        ended = run_process(guarded, b"", limits, output=printed, messages=printed, folder=folder)
     said = ended.last_line or "it printed nothing"
     if ended.status is None:
         raise NotSolved(f"{name} overstepped its limit of {seconds} s and was ended", TIME_OUT)

@@ -1,6 +1,6 @@
 """Steps side by side, each in a process of its own, of which nothing is left, whatever ends them and wherever it hid.
 
-usage: python3 -IS steps.py PARENT BYTES WORDS..
+usage: python3 -IS steps.py PARENT BYTES COMMAND..
 
 Runs a program so. PARENT is the process that asks; when that ends, or by SIGTERM, the program is ended, and if PARENT has
 ended, the folder in which it ran, if its name begins with `solve.`, is taken away. No file that it writes gets more than BYTES.
@@ -17,12 +17,14 @@ from collections.abc import Callable, Collection, Iterator, Mapping
 from contextlib import contextmanager, suppress
 from pathlib import Path
 
-_PR_SET_PDEATHSIG, _PR_SET_CHILD_SUBREAPER = 1, 36
+_PR_SET_PDEATHSIG = 1
+_PR_SET_CHILD_SUBREAPER = 36
 _ENDINGS = {signal.SIGTERM, signal.SIGINT, signal.SIGHUP}
 _LOOK_EVERY = 0.2  # seconds
 _PATIENCE = 5  # seconds for a step to put away what it began
 _LAST_PATIENCE = 10  # seconds for what was killed to end
-INTERRUPTED, _NOT_STARTED = 130, 127
+INTERRUPTED = 130
+_NOT_STARTED = 127
 
 Step = Callable[[], int | None]
 Watch = Callable[[int, list[str]], None]
@@ -35,16 +37,18 @@ def _prctl(option: int, value: int) -> None:
 
 def _interrupt(number: int, frame: object) -> None:
     """Ends the work once: what comes after is over already."""
-    for each in _ENDINGS:
-        signal.signal(each, signal.SIG_IGN)
+    for ending in _ENDINGS:
+        signal.signal(ending, signal.SIG_IGN)
     raise KeyboardInterrupt
 
 
-def _set_endings(handler: Callable[[int, object], None] | signal.Handlers, of_parent: int) -> None:
+def _set_endings(
+    handler: Callable[[int, object], None] | signal.Handlers, signal_of_parent: int
+) -> None:
     """What the signals that end a process do in this one, and which one it gets when its parent ends."""
-    for number in _ENDINGS:
-        signal.signal(number, handler)
-    _prctl(_PR_SET_PDEATHSIG, of_parent)
+    for ending in _ENDINGS:
+        signal.signal(ending, handler)
+    _prctl(_PR_SET_PDEATHSIG, signal_of_parent)
 
 
 @contextmanager
@@ -60,11 +64,11 @@ def end_at_once() -> Iterator[None]:
 @contextmanager
 def hold_signals() -> Iterator[None]:
     """Within this a signal waits: an import that it breaks off may fail with another error."""
-    before = signal.pthread_sigmask(signal.SIG_BLOCK, _ENDINGS | {signal.SIGCHLD})
+    mask = signal.pthread_sigmask(signal.SIG_BLOCK, _ENDINGS | {signal.SIGCHLD})
     try:
         yield
     finally:
-        signal.pthread_sigmask(signal.SIG_SETMASK, before)
+        signal.pthread_sigmask(signal.SIG_SETMASK, mask)
 
 
 def _fork(step: Step) -> int:
@@ -107,6 +111,7 @@ def heed_children() -> None:
 
 def run(
     steps: Mapping[str, Step],
+    *,
     jobs: int = 1,
     watch: Watch | None = None,
     after: Mapping[str, Collection[str]] | None = None,
@@ -128,42 +133,53 @@ def run(
                 for name in ready[: jobs - len(at_work)]:
                     del waiting[name]
                     at_work[_fork(steps[name])] = name
-                came = signal.sigtimedwait(_ENDINGS | {signal.SIGCHLD}, _LOOK_EVERY)
-                if came and came.si_signo != signal.SIGCHLD:
-                    raise KeyboardInterrupt
+                _wait_for_signal()
                 for process, status in _reap().items():
                     if process in at_work:
                         ended[at_work.pop(process)] = status
                 if watch:
                     watch(len(ended), list(at_work.values()))
         finally:
-            left, last = set(at_work), time.monotonic() + _PATIENCE
-            for process in left:
-                os.kill(process, signal.SIGTERM)
-            while left and time.monotonic() < last:
-                left -= set(_reap())
-                time.sleep(0.01)
+            _terminate(set(at_work))
             _end_all()
     return ended
 
 
+def _wait_for_signal() -> None:
+    """Waits for the end of a child, or some time; KeyboardInterrupt if this process is to end."""
+    info = signal.sigtimedwait(_ENDINGS | {signal.SIGCHLD}, _LOOK_EVERY)
+    if info and info.si_signo != signal.SIGCHLD:
+        raise KeyboardInterrupt
+
+
+def _terminate(processes: set[int]) -> None:
+    """Asks processes to end, and gives them some time for it."""
+    end = time.monotonic() + _PATIENCE
+    for process in processes:
+        os.kill(process, signal.SIGTERM)
+    while processes and time.monotonic() < end:
+        processes -= set(_reap())
+        time.sleep(0.01)
+
+
 def _reap() -> dict[int, int]:
     """The statuses of the processes that ended, by their numbers."""
-    ended: dict[int, int] = {}
+    statuses: dict[int, int] = {}
     with suppress(ChildProcessError):
-        while (found := os.waitpid(-1, os.WNOHANG))[0]:
-            ended[found[0]] = os.waitstatus_to_exitcode(found[1])
-    return ended
+        while True:
+            process, status = os.waitpid(-1, os.WNOHANG)
+            if not process:
+                break
+            statuses[process] = os.waitstatus_to_exitcode(status)
+    return statuses
 
 
 def _end_all() -> None:
     """Ends all that was started: whatever loses its parent becomes a child of this process."""
-    listed, last = (
-        Path(f"/proc/self/task/{os.getpid()}/children"),
-        time.monotonic() + _LAST_PATIENCE,
-    )
-    while left := listed.read_text().split():
-        if time.monotonic() > last:
+    children = Path(f"/proc/self/task/{os.getpid()}/children")
+    end = time.monotonic() + _LAST_PATIENCE
+    while left := children.read_text().split():
+        if time.monotonic() > end:
             raise TimeoutError(f"these processes can't be ended: {' '.join(left)}")
         for process in left:
             os.kill(int(process), signal.SIGKILL)
@@ -171,7 +187,7 @@ def _end_all() -> None:
         time.sleep(0.002)
 
 
-def _become(words: list[str]) -> int:
+def _become(command: list[str]) -> int:
     """Turns this process into a program, in a session of its own; its status if that can't be started."""
     try:
         os.setsid()
@@ -179,13 +195,15 @@ def _become(words: list[str]) -> int:
         _set_endings(signal.SIG_DFL, signal.SIGKILL)
         for number in (signal.SIGPIPE, signal.SIGXFSZ):
             signal.signal(number, signal.SIG_DFL)
-        os.execvp(words[0], words)
+        os.execvp(command[0], command)
     except OSError as error:
-        os.write(2, f"{words[0]} can't be started: {error.strerror}\n".encode(errors="replace"))
+        text = f"{command[0]} can't be started: {error.strerror}\n"
+        os.write(2, text.encode(errors="replace"))
     return _NOT_STARTED
 
 
-def main(parent: int, most: int, words: list[str]) -> int:
+def _run_program(parent: int, most: int, command: list[str]) -> int:
+    """Runs a program for a parent, whose files get at most so many bytes; the program's status."""
     signal.pthread_sigmask(signal.SIG_SETMASK, [])
     _prctl(_PR_SET_PDEATHSIG, signal.SIGTERM)
     resource.setrlimit(resource.RLIMIT_FSIZE, (most, most))
@@ -193,13 +211,21 @@ def main(parent: int, most: int, words: list[str]) -> int:
     if os.getppid() != parent:
         return INTERRUPTED
     try:
-        status = run({"": lambda: _become(words)})[""]
+        status = run({"": lambda: _become(command)})[""]
     except KeyboardInterrupt:
         return INTERRUPTED
     if status < 0:
         with suppress(OSError):  # (nothing can be said of SIGKILL)
             signal.signal(-status, signal.SIG_DFL)
         os.kill(os.getpid(), -status)
+    return status
+
+
+def main(arguments: list[str]) -> int:
+    """Does what the arguments ask for: PARENT BYTES COMMAND.. ; the status."""
+    parent = int(arguments[0])
+    status = _run_program(parent, most=int(arguments[1]), command=arguments[2:])
+    _clear_after(parent)
     return status
 
 
@@ -212,7 +238,4 @@ def _clear_after(parent: int) -> None:
 
 
 if __name__ == "__main__":
-    asking = int(sys.argv[1])
-    ended = main(asking, int(sys.argv[2]), sys.argv[3:])
-    _clear_after(asking)
-    sys.exit(ended)
+    sys.exit(main(sys.argv[1:]))

@@ -1,0 +1,3 @@
+"""The version of the package, which is the program's."""
+
+VERSION = "2.0.0"
