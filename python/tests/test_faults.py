@@ -187,7 +187,7 @@ def test_an_older_program_and_odd_names(tmp_path):
         assert [each.refusal for each in found.findings] == [said.split(";")[0]]
         assert found.more == 12 * ("12" in said)
     odd = parse_finding("groups: 3 UnknownBidder at line 2, name 1: ', name 9: x' is no bidder's name")
-    assert (odd.field, odd.words) == (1, "', name 9: x' is no bidder's name")
+    assert (odd.field, odd.cause) == (1, "', name 9: x' is no bidder's name")
 
 
 def test_an_accepted_input_is_read_however_it_is_written():

@@ -74,7 +74,8 @@ def test_no_change_of_a_table_goes_without_a_word():
     for _ in range(20_000):
         data = "".join(draw.choices(PIECES, k=draw.randint(1, 12))).encode()
         with contextlib.suppress(Unreadable):
-            file = parse_table("a.csv", data, 100).trim(draw.randint(1, 3))
+            file = parse_table("a.csv", data, 100)
+            file.trim(draw.randint(1, 3))
             if not file.faults and file.text != data:
                 assert file.changes, data
                 changed += 1

@@ -389,7 +389,7 @@ def made(name):
 def outcome(data, sheet=None):
     """What is read of a workbook, and what is said of it: of its rows, or of why they aren't read."""
     try:
-        file = read_workbook("it", data, 4_002, sheet, BIDDERS)
+        file = read_workbook("it", data, 4_002, sheet=sheet, heads=BIDDERS)
     except Unreadable as error:
         return str(error).removeprefix("it: ").removeprefix("it:")
     if file.faults:
@@ -419,7 +419,7 @@ def shown_by_libreoffice(folder, name):
 def taken(path):
     """What is read of a workbook, or why it is refused."""
     try:
-        file = read_workbook("it", path.read_bytes(), 4_002, None, BIDDERS)
+        file = read_workbook("it", path.read_bytes(), 4_002, heads=BIDDERS)
     except Unreadable as error:
         return None, str(error)
     odd = [value for row in file.rows[1:] for value in row.values if not DIGITS.fullmatch(value)]

@@ -188,7 +188,7 @@ class Auction:
     def explain(self, bids: bool = False) -> Explained:
         """Everything that is wrong with the input: each finding has the refusal, the field and the cause. With `bids`, if
         nothing is wrong, the bids that are in no program, each with the bidder's name and why."""
-        return explain(self._program, self._given, bids)
+        return explain(self._program, self._given, with_bids=bids)
 
     def compile(self, workers: int = 1) -> list[Program]:
         """The program of each group, in the order of the groups, written by 1 to 64 `workers`. Raises Refused if the rules, a form

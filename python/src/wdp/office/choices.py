@@ -1,6 +1,7 @@
 """What an office says of its files beside their paths: the options that gather and explain share."""
 import argparse
-from collections.abc import Callable
+from collections.abc import Callable, Sequence
+from dataclasses import dataclass, fields
 from functools import partial
 from typing import TypeVar
 
@@ -8,26 +9,26 @@ _Value = TypeVar("_Value")
 
 
 def make_type(
-    what: str, read: Callable[[str], _Value], is_right: Callable[[_Value], bool]
+    name: str, read: Callable[[str], _Value], is_right: Callable[[_Value], bool]
 ) -> Callable[[str], _Value]:
-    """Reads a word as a value that has to be right; a message calls it `what`."""
+    """A type of an argument, whose value is read from a text and has to be right; a message calls it by this name."""
 
-    def of_word(word: str) -> _Value:
-        value = read(word)
+    def parse(text: str) -> _Value:
+        value = read(text)
         if not is_right(value):
             raise ValueError
         return value
 
-    of_word.__name__ = what
-    return of_word
+    parse.__name__ = name
+    return parse
 
 
 def parse_names(text: str) -> list[str]:
-    """The names in a word like Wren,Teal."""
-    found = [name.strip() for name in text.split(",")]
-    if not all(found):
+    """The names in a text like Wren,Teal."""
+    names = [name.strip() for name in text.split(",")]
+    if not all(names):
         raise argparse.ArgumentTypeError("names of bidders are separated by commas: Wren,Teal")
-    return found
+    return names
 
 
 def parse_path(text: str) -> str:
@@ -38,18 +39,31 @@ def parse_path(text: str) -> str:
 
 
 def add_arguments(parser: argparse.ArgumentParser) -> None:
-    add = parser.add_argument
-    last = "of a bidder's files the last one counts, by the end of its name or its time of change"
-    add("--last-wins", choices=("name", "time"), help=last)
-    add("--any-file-name", action="store_true", help="a file's name needn't name a bidder")
-    allow = partial(add, metavar="NAMES", type=parse_names, action="extend", default=[])
-    allow("--allow-missing", help="these bidders have no form; separate names by commas")
-    allow("--allow-empty", help="these bidders' forms have no bid; separate names by commas")
-    ends = "the forms of these bidders, `rules` or `groups` are complete without a last line end"
-    allow("--allow-unended", help=ends)
-    rows = "a file of rows `bidder,bids`: how many bids each form must have"
-    add("--expect", metavar="COUNTS", type=parse_path, help=rows)
-    add(
+    """Adds the options of `gather` and `explain`."""
+    parser.add_argument(
+        "--last-wins",
+        choices=("name", "time"),
+        help="of a bidder's files the last one counts, by the end of its name or its time of change",
+    )
+    parser.add_argument(
+        "--any-file-name", action="store_true", help="a file's name needn't name a bidder"
+    )
+    add_names = partial(
+        parser.add_argument, metavar="NAMES", type=parse_names, action="extend", default=[]
+    )
+    add_names("--allow-missing", help="these bidders have no form; separate names by commas")
+    add_names("--allow-empty", help="these bidders' forms have no bid; separate names by commas")
+    add_names(
+        "--allow-unended",
+        help="the forms of these bidders, `rules` or `groups` are complete without a last line end",
+    )
+    parser.add_argument(
+        "--expect",
+        metavar="COUNTS",
+        type=parse_path,
+        help="a file of rows `bidder,bids`: how many bids each form must have",
+    )
+    parser.add_argument(
         "--sheet",
         metavar="NAME",
         type=parse_path,
@@ -57,7 +71,23 @@ def add_arguments(parser: argparse.ArgumentParser) -> None:
     )
 
 
-def has_any(given: argparse.Namespace) -> bool:
-    """Whether one of these choices is made."""
-    allowed = given.allow_missing, given.allow_empty, given.allow_unended
-    return any([given.last_wins, given.any_file_name, *allowed, given.expect, given.sheet])
+@dataclass(frozen=True)
+class Choices:
+    """What an office says of its files beside their paths, as `add_arguments` explains it."""
+
+    last_wins: str | None = None
+    any_file_name: bool = False
+    allow_missing: Sequence[str] = ()
+    allow_empty: Sequence[str] = ()
+    allow_unended: Sequence[str] = ()
+    expect: str | None = None
+    sheet: str | None = None
+
+    def has_any(self) -> bool:
+        """Whether anything is said."""
+        return any(getattr(self, each.name) for each in fields(self))
+
+    @classmethod
+    def of(cls, options: argparse.Namespace) -> "Choices":
+        """The choices among the options of a command."""
+        return cls(**{each.name: getattr(options, each.name) for each in fields(cls)})

@@ -8,73 +8,109 @@ Exit status: 0 nothing is wrong; 1 something is; 2 the options are wrong.
 """
 import argparse
 from collections.abc import Sequence
+from dataclasses import dataclass
 
-from wdp.texts.refusals import WrongArgument
 from wdp.files import Unreadable, put, read
 from wdp.office import choices
 from wdp.office.faults import Fault, format_total, format_count, format_lines
 from wdp.office.judge import explain
 from wdp.office.places import make_faults_of_input
-from wdp.office.reading import AuctionFiles
+from wdp.office.auction_files import AuctionFiles
 from wdp.program import find_program
 from wdp.texts import accepted
 from wdp.texts.parts import MOST_OF_INPUT
+from wdp.texts.refusals import WrongArgument
 
 _THEN = "the forms and groups are read once the parts and the rules are right"
 
 
 def add_arguments(parser: argparse.ArgumentParser) -> None:
+    """Adds the arguments of the command."""
     parser.add_argument("paths", metavar="INPUT | RULES FORMS_DIR [GROUPS]", nargs="+")
     parser.add_argument("--bids", action="store_true", help="print which bids are in no program")
     choices.add_arguments(parser)
 
 
-def _format_left_out(counts: dict[str, int], bids: Sequence[tuple[str, str]]) -> list[str]:
+@dataclass(frozen=True)
+class _Explanation:
+    """The faults, whether the rules are right, and a line for each form and bid if nothing is wrong."""
+
+    faults: list[Fault]
+    has_rules: bool
+    lines: list[str]
+
+
+def _format_left_out(counts: dict[str, int], left_out: Sequence[tuple[str, str]]) -> list[str]:
     """A line for each form, with its number of bids, and for each form that is replaced and bid that is in no program."""
     lines: list[str] = []
     for name, count in counts.items():
-        whys = [why for bidder, why in bids if bidder == name]
-        kept = count - sum(why.startswith("bid ") for why in whys)
-        lines += [f"{name}: {why}" for why in (f"{format_count(count, 'bid')}, {kept} kept", *whys)]
+        reasons = [reason for bidder, reason in left_out if bidder == name]
+        kept = count - sum(reason.startswith("bid ") for reason in reasons)
+        lines.append(f"{name}: {format_count(count, 'bid')}, {kept} kept")
+        lines += [f"{name}: {reason}" for reason in reasons]
     return lines
 
 
-def _explain_input(given: argparse.Namespace, program: str) -> tuple[list[Fault], bool, list[str]]:
-    """The faults of one input, whether its rules are right, and a line for each form and bid if nothing is wrong."""
-    path = given.paths[0]
+def _explain_input(options: argparse.Namespace, program: str) -> _Explanation:
+    """What is wrong with one input."""
+    path = options.paths[0]
     source = "input" if path == "-" else path
     try:
         data = read(path, MOST_OF_INPUT)
     except Unreadable as error:
         if "more than" not in error.why:
             raise
-        return [Fault(source, error.why, "input: too large")], False, []
-    found = explain(program, data, given.bids)
-    faults = make_faults_of_input(found, data, source)
-    if faults or not given.bids:
-        return faults, bool(faults) and found.findings[0].refused.part in ("form", "groups"), []
-    counts = {name: len(bids) for name, bids in accepted.read(data, source).bids.items()}
-    return [], True, _format_left_out(counts, found.left_out)
-
-
-def _explain_files(given: argparse.Namespace, program: str) -> tuple[list[Fault], bool, list[str]]:
-    rules, folder, *groups = given.paths
-    auction = AuctionFiles(program, given)
-    auction.read_all(rules, folder, groups)
-    counts = {name: form.bids or 0 for name, form in auction.forms.items()}
-    return auction.faults, bool(auction.rules.bidders), _format_left_out(counts, auction.left_out)
-
-
-def run(given: argparse.Namespace) -> int:
-    is_one = len(given.paths) == 1
-    if len(given.paths) > 3:
-        raise WrongArgument("give INPUT, or RULES FORMS_DIR [GROUPS]")
-    if is_one and choices.has_any(given):
-        raise WrongArgument("one input has no files to choose from")
-    read_faults = _explain_input if is_one else _explain_files
-    faults, has_rules, lines = read_faults(given, find_program(given.program))
+        fault = Fault(source, error.why, refusal="input: too large")
+        return _Explanation([fault], has_rules=False, lines=[])
+    explained = explain(program, data, with_bids=options.bids)
+    faults = make_faults_of_input(explained, data, source)
     if faults:
-        lines = [f"{it} (wdp: {it.refusal})" if is_one and it.refusal else str(it) for it in faults]
-        lines += [*([] if has_rules else [_THEN]), format_total(faults)]
-    put(format_lines(lines if faults or given.bids else ["nothing is wrong"]).encode())
+        has_rules = explained.findings[0].refused.part in ("form", "groups")
+        return _Explanation(faults, has_rules=has_rules, lines=[])
+    lines: list[str] = []
+    if options.bids:
+        auction = accepted.read(data, source)
+        counts = {name: len(bids) for name, bids in auction.bids.items()}
+        lines = _format_left_out(counts, explained.left_out)
+    return _Explanation([], has_rules=True, lines=lines)
+
+
+def _explain_files(options: argparse.Namespace, program: str) -> _Explanation:
+    """What is wrong with an auction's files."""
+    rules, folder, *groups = options.paths
+    files = AuctionFiles(program, choices.Choices.of(options))
+    files.read_all(rules, folder, groups)
+    counts = {name: form.bids or 0 for name, form in files.forms.items()}
+    return _Explanation(
+        faults=files.faults,
+        has_rules=bool(files.rules.bidders),
+        lines=_format_left_out(counts, files.left_out),
+    )
+
+
+def _format_fault(fault: Fault, *, with_refusal: bool) -> str:
+    """The line of a fault, which ends with the program's own line if that is wanted."""
+    if with_refusal and fault.refusal:
+        return f"{fault} (wdp: {fault.refusal})"
+    return str(fault)
+
+
+def run(options: argparse.Namespace) -> int:
+    """Prints what is wrong; the status."""
+    is_one_input = len(options.paths) == 1
+    if len(options.paths) > 3:
+        raise WrongArgument("give INPUT, or RULES FORMS_DIR [GROUPS]")
+    if is_one_input and choices.Choices.of(options).has_any():
+        raise WrongArgument("one input has no files to choose from")
+    explain_paths = _explain_input if is_one_input else _explain_files
+    explanation = explain_paths(options, find_program(options.program))
+    faults = explanation.faults
+    if faults:
+        lines = [_format_fault(fault, with_refusal=is_one_input) for fault in faults]
+        if not explanation.has_rules:
+            lines.append(_THEN)
+        lines.append(format_total(faults))
+    else:
+        lines = explanation.lines if options.bids else ["nothing is wrong"]
+    put(format_lines(lines).encode())
     return 1 if faults else 0

@@ -18,15 +18,16 @@ class Fault:
     """A fault at a place as `forms/Aster.csv:3:1`, the program's line for it without `wdp: `, and how many faults it is for."""
 
     place: str
-    words: str
+    text: str
     refusal: str | None = None
     count: int = 1
 
     def __str__(self) -> str:
-        return f"{self.place}: {self.words}"
+        return f"{self.place}: {self.text}"
 
 
 def format_lines(lines: Iterable[object]) -> str:
+    """Lines as a text, in which what can't be printed is escaped."""
     return "".join(escape_unprintable(str(line)) + "\n" for line in lines)
 
 
@@ -35,32 +36,34 @@ def quote(value: str) -> str:
     return f"'{escape_unprintable(shorten(value, 40))}'"
 
 
-def decode_escapes(words: str) -> str:
-    """The program's words, with characters in place of their bytes.
+def decode_escapes(text: str) -> str:
+    """A text of the program, with characters in place of their bytes.
 
     >>> decode_escapes("'\\\\xc2\\\\xa312' isn't 1 to 18 digits")
     "'£12' isn't 1 to 18 digits"
     """
 
-    def character(found: re.Match[str]) -> str:
-        data = bytes.fromhex((found[1] or "").replace("\\x", ""))
-        return escape_unprintable(data.decode("utf-8", "backslashreplace")) or found[0]
+    def decode(match: re.Match[str]) -> str:
+        data = bytes.fromhex((match[1] or "").replace("\\x", ""))
+        return escape_unprintable(data.decode("utf-8", "backslashreplace")) or match[0]
 
-    return _BYTES.sub(character, words)
+    return _BYTES.sub(decode, text)
 
 
 def format_count(number: int, thing: str) -> str:
+    """A number of things, as `1 bid` and `2,000 bids`."""
     return f"{number:,} {thing}{'' if number == 1 else 's'}"
 
 
 def format_total(faults: Iterable[Fault]) -> str:
+    """How many faults there are in all."""
     return format_count(sum(fault.count for fault in faults), "fault")
 
 
 def suggest_name(value: str, names: Iterable[str]) -> str:
     """What a message says of the name that is nearest to an unknown one; nothing if none is near."""
     by_letters = {name.lower(): name for name in names}
-    near = get_close_matches(value.strip().lower(), by_letters, 1, 0.5)
+    near = get_close_matches(value.strip().lower(), by_letters, n=1, cutoff=0.5)
     return f"; the nearest name is {by_letters[near[0]]}" if near else ""
 
 
@@ -73,10 +76,11 @@ def format_number(number: int | Fraction) -> str:
 def align_rows(rows: Sequence[Sequence[CellValue]]) -> list[str]:
     """Rows, the first of them headings, as lines; a column that has a number is aligned at its right."""
     columns = []
-    for column in zip(*rows):
+    for values in zip(*rows, strict=True):
+        has_number = any(isinstance(value, _NUMBER) for value in values)
         texts = [
-            format_number(cell) if isinstance(cell, _NUMBER) else cell or "" for cell in column
+            format_number(value) if isinstance(value, _NUMBER) else value or "" for value in values
         ]
-        width, is_number = max(map(len, texts)), any(isinstance(cell, _NUMBER) for cell in column)
-        columns.append([text.rjust(width) if is_number else text.ljust(width) for text in texts])
-    return ["  ".join(cells).rstrip() for cells in zip(*columns)]
+        width = max(map(len, texts))
+        columns.append([text.rjust(width) if has_number else text.ljust(width) for text in texts])
+    return ["  ".join(cells).rstrip() for cells in zip(*columns, strict=True)]

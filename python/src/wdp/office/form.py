@@ -7,49 +7,56 @@ import argparse
 import io
 import os
 
-from wdp.texts.refusals import Refused, need
 from wdp.files import tell, write_folder
 from wdp.office import choices
 from wdp.office.faults import format_count, format_lines
-from wdp.office.reading import AuctionFiles
+from wdp.office.auction_files import AuctionFiles
 from wdp.program import find_program
+from wdp.texts.refusals import Refused, need
 from wdp.texts.tables import encode, format_record
 
 
 def add_arguments(parser: argparse.ArgumentParser) -> None:
+    """Adds the arguments of the command."""
     parser.add_argument("rules", metavar="RULES", help="the file of the rules")
-    made = "the folder for the forms, which must be empty or new"
     parser.add_argument(
-        "--output", metavar="DIR", type=choices.parse_path, required=True, help=made
+        "--output",
+        metavar="DIR",
+        type=choices.parse_path,
+        required=True,
+        help="the folder for the forms, which must be empty or new",
     )
     parser.add_argument("--workbooks", action="store_true", help="write .xlsx in place of CSV")
 
 
 def _make_workbook(values: list[str]) -> bytes:
+    """A workbook with one row."""
     need("--workbooks", "openpyxl")
     import openpyxl
 
-    book, file = openpyxl.Workbook(), io.BytesIO()
-    book.active.title = "Bids"
-    book.active.append(values)
-    book.active.freeze_panes = "A2"
-    book.save(file)
+    workbook = openpyxl.Workbook()
+    file = io.BytesIO()
+    workbook.active.title = "Bids"
+    workbook.active.append(values)
+    workbook.active.freeze_panes = "A2"
+    workbook.save(file)
     return file.getvalue()
 
 
-def run(given: argparse.Namespace) -> int:
-    auction = AuctionFiles(
-        find_program(given.program), argparse.Namespace(allow_unended=[], sheet=None)
-    )
-    if not auction.read_rules(given.rules):
+def run(options: argparse.Namespace) -> int:
+    """Writes the forms; the status."""
+    program = find_program(options.program)
+    auction = AuctionFiles(program, choices.Choices())
+    if not auction.read_rules(options.rules):
         raise Refused(format_lines(auction.faults).rstrip("\n"))
-    if os.path.isdir(given.output) and os.listdir(given.output):
-        raise Refused(f"{given.output}: it has files; name a new folder")
+    if os.path.isdir(options.output) and os.listdir(options.output):
+        raise Refused(f"{options.output}: it has files; name a new folder")
     categories = [category.name for category in auction.rules.categories]
     rows = {name: [name, *categories] for name in auction.rules.bidders}
-    files = {f"{name}.csv": encode(format_record(row)) for name, row in rows.items()}
-    if given.workbooks:
-        files = {f"{name}.xlsx": _make_workbook(row) for name, row in rows.items()}
-    write_folder(given.output, files)
-    tell(f"{format_count(len(files), 'blank form')} in {given.output}\n")
+    if options.workbooks:
+        forms = {f"{name}.xlsx": _make_workbook(row) for name, row in rows.items()}
+    else:
+        forms = {f"{name}.csv": encode(format_record(row)) for name, row in rows.items()}
+    write_folder(options.output, forms)
+    tell(f"{format_count(len(forms), 'blank form')} in {options.output}\n")
     return 0

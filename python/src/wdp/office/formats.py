@@ -5,9 +5,8 @@ from functools import cached_property
 GENERAL = "General"
 # the formats that workbooks name by their numbers alone; most of the dates are those of a language
 BUILT_IN = {"9": "0%", "10": "0.00%"}
-BUILT_IN |= {
-    str(n): "yyyy-mm-dd" for n in (*range(14, 23), *range(27, 37), *range(45, 48), *range(50, 59))
-}
+_DATE_NUMBERS = (*range(14, 23), *range(27, 37), *range(45, 48), *range(50, 59))
+BUILT_IN |= {str(number): "yyyy-mm-dd" for number in _DATE_NUMBERS}
 # what is shown as it is written there: a text in quotes, and a character after a backslash; then what leaves room, fills it, or
 # says a colour, a currency or a condition
 _QUOTED = re.compile(r'"([^"]*)"|\\(.)', re.DOTALL)
@@ -39,19 +38,22 @@ class NumberFormat:
 
     @cached_property
     def is_date(self) -> bool:
-        is_elapsed = bool(_ELAPSED.search(_QUOTED.sub("", self.code)))
-        return is_elapsed or any(
-            _OF_DATES.search(it) and not it.lower().startswith("standard") for it in self.sections
+        """Whether it shows a number as a date or a time."""
+        if _ELAPSED.search(_QUOTED.sub("", self.code)):
+            return True
+        return any(
+            _OF_DATES.search(section) and not section.lower().startswith("standard")
+            for section in self.sections
         )
 
     @cached_property
     def is_scaled(self) -> bool:
         """Whether it shows another number than the cell's: scaled, in percent, or with digits of its own."""
-        written = "".join(quote or sign for quote, sign in _QUOTED.findall(self.code))
-        return bool(_DIGIT.search(written)) or any(map(_SCALE.search, self.sections))
+        literals = "".join(text or character for text, character in _QUOTED.findall(self.code))
+        return bool(_DIGIT.search(literals)) or any(map(_SCALE.search, self.sections))
 
     @cached_property
     def is_seen(self) -> bool:
         """Whether it shows a number that isn't 0 at all."""
-        shown = self.sections if _CONDITION.search(self.code) else self.sections[:1]
-        return all(map(_OF_NUMBERS.search, shown))
+        sections = self.sections if _CONDITION.search(self.code) else self.sections[:1]
+        return all(map(_OF_NUMBERS.search, sections))

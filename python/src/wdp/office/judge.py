@@ -27,14 +27,15 @@ class Finding:
 
     refused: Refused
     field: int | None = None
-    words: str | None = None
+    cause: str | None = None
 
     @property
     def refusal(self) -> str:
+        """The program's line for the fault, without `wdp: `."""
         return self.refused.text.removeprefix("wdp: ")
 
 
-@dataclass
+@dataclass(frozen=True)
 class Explained:
     """All faults in order, and how many more are counted; if there is none, of each bid in no program the bidder and why."""
 
@@ -43,10 +44,11 @@ class Explained:
     left_out: list[tuple[str, str]] = field(default_factory=list)
 
     def by_part(self) -> defaultdict[PartKey, list[Finding]]:
-        found: defaultdict[PartKey, list[Finding]] = defaultdict(list)
-        for each in self.findings:
-            found[each.refused.part, each.refused.number].append(each)
-        return found
+        """The findings of each part, in their order."""
+        parts: defaultdict[PartKey, list[Finding]] = defaultdict(list)
+        for finding in self.findings:
+            parts[finding.refused.part, finding.refused.number].append(finding)
+        return parts
 
 
 def _split_line(pattern: re.Pattern[str], line: str) -> list[str]:
@@ -58,24 +60,37 @@ def _split_line(pattern: re.Pattern[str], line: str) -> list[str]:
 
 
 def parse_finding(line: str) -> Finding:
-    refusal, at, words = _split_line(_LINE, line)
-    words = re.sub("^1 fields ", "1 field ", decode_escapes(words))
-    return Finding(Refused("wdp: " + refusal), int(at) if at else None, words or None)
+    """The finding of a line that `wdp explain` prints; Refused if it is no such line."""
+    refusal, number, cause = _split_line(_LINE, line)
+    cause = re.sub("^1 fields ", "1 field ", decode_escapes(cause))
+    return Finding(
+        refused=Refused("wdp: " + refusal),
+        field=int(number) if number else None,
+        cause=cause or None,
+    )
+
+
+def _parse_left_out(line: str) -> tuple[str, str]:
+    """The bidder of a bid that is in no program, and why it isn't."""
+    name, why = _split_line(_BID, line)
+    return name, why
 
 
 def explain(program: str, text: bytes, with_bids: bool = False) -> Explained:
     """What `wdp explain` finds in an input; with bids, which of them are in no program."""
-    words = ["explain", "--bids"] if with_bids else ["explain"]
-    done = run_process([program, *words], text, Limits(_MOST_OF_ANSWER))
-    lines = done.output.decode("ascii", "backslashreplace").splitlines()
-    is_right = done.status == 0 and (with_bids or not lines) or done.status == 1 and lines
-    if done.messages or not is_right:
-        why = (done.messages.splitlines() or [f"it ended with status {done.status}"])[0]
+    command = [program, "explain"]
+    if with_bids:
+        command.append("--bids")
+    ended = run_process(command, text, Limits(_MOST_OF_ANSWER))
+    lines = ended.output.decode("ascii", "backslashreplace").splitlines()
+    is_right = ended.status == 0 and (with_bids or not lines) or ended.status == 1 and lines
+    if ended.messages or not is_right:
+        why = (ended.messages.splitlines() or [f"it ended with status {ended.status}"])[0]
         raise Refused(f"wdp explain: {why}")
-    if done.status == 0:
-        return Explained(
-            left_out=[(name, why) for name, why in (_split_line(_BID, x) for x in lines)]
-        )
-    last = _MORE.fullmatch(lines[-1])
-    more, lines = (int(last[1]), lines[:-1]) if last else (0, lines)
+    if ended.status == 0:
+        return Explained(left_out=[_parse_left_out(line) for line in lines])
+    more = 0
+    if last := _MORE.fullmatch(lines[-1]):
+        more = int(last[1])
+        lines.pop()
     return Explained([parse_finding(line) for line in lines], more)

@@ -5,9 +5,10 @@ template left alike have one line.
 """
 import re
 from collections.abc import Iterable, Sequence
+from dataclasses import dataclass
 from itertools import islice
 
-from wdp.office.faults import Fault, format_count, suggest_name, quote
+from wdp.office.faults import Fault, format_count, quote, suggest_name
 from wdp.office.judge import Explained, Finding, PartKey
 from wdp.texts.parts import MOST_OF_INPUT, Part, list_names, parse_parts
 from wdp.texts.tables import TableRow
@@ -15,16 +16,30 @@ from wdp.texts.tables import TableRow
 _MONTH = "(?:jan|feb|mar|apr|may|jun|jul|aug|sep|oct|nov|dec)[a-z]*"
 _IN_DIGITS = r"[0-9]{1,4}([-/.])[0-9]{1,2}\1[0-9]{1,4}(?:[ T].*)?"
 _DATE = rf"{_IN_DIGITS}|[0-9]{{1,2}}[- ]{_MONTH}(?:[- ][0-9]+)?|{_MONTH}[- ][0-9]+"
+# what a field that is no number has
+_CHARACTERS = {
+    ",": "a comma",
+    " \u00a0\u202f\u2009": "a space",
+    ".": "a point",
+    "'\u2019": "an apostrophe",
+    "£$€": "a currency sign",
+    r"\-\u2212": "a minus sign",
+    "+": "a plus sign",
+}
 # why a field is no number, as spreadsheets write it
-_HINTS = (
-    (re.compile(r""), "the field is empty"),
-    (re.compile(r"[+-]?[0-9]+([.,][0-9]*)?[eE][+-]?[0-9]+"), "it is in scientific notation, as spreadsheets show wide numbers"),
+_HINTS = [
+    (re.compile(""), "the field is empty"),
+    (
+        re.compile(r"[+-]?[0-9]+([.,][0-9]*)?[eE][+-]?[0-9]+"),
+        "it is in scientific notation, as spreadsheets show wide numbers",
+    ),
     (re.compile(_DATE, re.IGNORECASE), "it is a date, as spreadsheets make of what looks like one"),
     (re.compile(r"#[A-Z/0]+[!?]?"), "it is a spreadsheet's word for an error"),
-    *((re.compile(rf".*[{mark}].*", re.DOTALL), f"it has {name}") for mark, name in (
-        (",", "a comma"), (" \u00a0\u202f\u2009", "a space"), (".", "a point"), ("'\u2019", "an apostrophe"),
-        ("£$€", "a currency sign"), (r"\-\u2212", "a minus sign"), ("+", "a plus sign"))),
-)  # fmt: skip
+]
+_HINTS += [
+    (re.compile(rf".*[{characters}].*", re.DOTALL), f"it has {name}")
+    for characters, name in _CHARACTERS.items()
+]
 _MOST_SHOWN = 100  # faults of one file that are printed one by one
 # of the faults that the program finds without a cause
 _CAUSES = {
@@ -35,107 +50,151 @@ _CAUSES = {
     "CallLimit": "a bidder has at most 1,000 forms",
 }
 _SEPARATORS = {";": "semicolons", "\t": "tabs", "|": "bars", ",": "commas"}
-_OF_ZEROS = "holds nothing but zeros; delete it if it is no bid"
-_MANY_OF_ZEROS = "hold nothing but zeros; delete those that are no bids"
+
+
+@dataclass(frozen=True)
+class _Alike:
+    """A fault that many rows of a form may have, in words for one row and for many."""
+
+    of_one: str
+    of_many: str
+
+    def describe(self, lines: set[int]) -> str:
+        """The fault of the rows that begin in these lines."""
+        if len(lines) == 1:
+            return f"the row {self.of_one}"
+        rows = f"{format_count(len(lines), 'row')} from line {min(lines)} to line {max(lines)}"
+        return f"{rows} {self.of_many}"
+
+
+_OF_ZEROS = _Alike(
+    of_one="holds nothing but zeros; delete it if it is no bid",
+    of_many="hold nothing but zeros; delete those that are no bids",
+)
 
 
 def explain_value(value: str) -> str:
     """Why a value is no number, after a colon; nothing if that isn't known."""
-    words = next((words for pattern, words in _HINTS if pattern.fullmatch(value)), "")
-    return words and f": {words}" + ("; write digits alone" if value else "")
+    reason = next((reason for pattern, reason in _HINTS if pattern.fullmatch(value)), "")
+    if not reason:
+        return ""
+    return f": {reason}; write digits alone" if value else f": {reason}"
 
 
 def _describe(finding: Finding, row: TableRow | None, bidders: Sequence[str]) -> str:
-    kind, earlier = finding.refused.kind or "", finding.refused.field
-    if earlier:
-        return f"bid {earlier} has the same package"
-    words = finding.words or _CAUSES.get(kind) or finding.refusal
+    """A finding in words; its row adds what is there."""
+    kind = finding.refused.kind or ""
+    if finding.refused.field:
+        return f"bid {finding.refused.field} has the same package"
+    text = finding.cause or _CAUSES.get(kind) or finding.refusal
     if not row or not finding.field or finding.field > len(row.values):
-        return words
+        return text
     value = row.values[finding.field - 1]
     if kind in ("NumberText", "AmountText", "QuantityText"):
-        return words + explain_value(value)
-    return words + (suggest_name(value, bidders) if kind == "UnknownBidder" else "")
+        return text + explain_value(value)
+    if kind == "UnknownBidder":
+        return text + suggest_name(value, bidders)
+    return text
 
 
-def _describe_alike(finding: Finding, row: TableRow | None, width: int) -> tuple[str, str] | None:
-    """The words of a fault that many rows of a form may have, for one row and for many; None for other faults."""
+def _describe_alike(finding: Finding, row: TableRow | None, width: int) -> _Alike | None:
+    """A fault that many rows of a form may have; None for other faults. `width` is how many fields the form's first row has."""
     refused = finding.refused
     if row is None or refused.part != "form" or refused.at == 1 or refused.kind == "TooManyBids":
         return None
     if refused.kind != "FieldCount":
         is_bid = any(value.strip("0") for value in row.values)
-        return None if is_bid else (_OF_ZEROS, _MANY_OF_ZEROS)
-    for mark, name in _SEPARATORS.items():
-        if sum(value.count(mark) for value in row.values) >= width - 1:
+        return None if is_bid else _OF_ZEROS
+    for separator, name in _SEPARATORS.items():
+        if sum(value.count(separator) for value in row.values) >= width - 1:
             end = "fields, and the first row hasn't"
-            return f"has {name} between its {end}", f"have {name} between their {end}"
+            return _Alike(
+                of_one=f"has {name} between its {end}",
+                of_many=f"have {name} between their {end}",
+            )
     return None
 
 
 def make_faults(
-    found: Sequence[Finding],
-    file: str,
+    findings: Sequence[Finding],
+    path: str,
     rows: Iterable[TableRow],
     bidders: Sequence[str],
+    *,
     head: str = "",
 ) -> list[Fault]:
     """The faults of one part in the program's order; rows with the same fault, as a template leaves them, have one. The part has
     these rows of the file, in which it begins at `head`."""
-    wanted = {1} | {each.refused.at for each in found if isinstance(each.refused.at, int)}
-    numbered = enumerate(islice(rows, max(wanted)), 1)
-    there: dict[object, TableRow] = {number: row for number, row in numbered if number in wanted}
-    width = len(there[1].values) if there else 0
+    numbers = {1} | {each.refused.at for each in findings if isinstance(each.refused.at, int)}
+    numbered = enumerate(islice(rows, max(numbers)), 1)
+    by_number: dict[object, TableRow] = {
+        number: row for number, row in numbered if number in numbers
+    }
+    width = len(by_number[1].values) if by_number else 0
     groups: dict[object, list[Finding]] = {}  # those of rows that are alike are one
-    for number, each in enumerate(found):
-        alike = _describe_alike(each, there.get(each.refused.at), width)
-        groups.setdefault(alike or number, []).append(each)
+    for number, finding in enumerate(findings):
+        alike = _describe_alike(finding, by_number.get(finding.refused.at), width)
+        groups.setdefault(alike or number, []).append(finding)
     faults = []
-    for words, group in groups.items():
-        first, row, at = group[0], there.get(group[0].refused.at), head
+    for key, group in groups.items():
+        first = group[0]
+        row = by_number.get(first.refused.at)
+        place = path + head
         if row and first.refused.kind not in ("NoCategory", "NoBidder"):
-            at = ":" + row.place((first.field or 1) - 1)
-        said = _describe(first, row, bidders)
-        if isinstance(words, tuple):
-            lines = {there[each.refused.at].line for each in group}
-            many = f"{format_count(len(lines), 'row')} from line {min(lines)} to line {max(lines)}"
-            said = f"the row {words[0]}" if len(lines) == 1 else f"{many} {words[1]}"
-        faults.append(Fault(file + at, said, first.refusal))
+            place = f"{path}:{row.place((first.field or 1) - 1)}"
+        if isinstance(key, _Alike):
+            lines = {by_number[finding.refused.at].line for finding in group}
+            text = key.describe(lines)
+        else:
+            text = _describe(first, row, bidders)
+        faults.append(Fault(place, text, refusal=first.refusal))
     return faults
 
 
-def limit_faults(faults: list[Fault], file: str, more: int = 0) -> list[Fault]:
+def limit_faults(faults: list[Fault], path: str, more: int = 0) -> list[Fault]:
+    """The first faults of a file, and one that counts the others, and how many more there are."""
     more += max(0, len(faults) - _MOST_SHOWN)
-    rest = Fault(file, f"{format_count(more, 'more fault')} in this file", count=more)
-    return faults[:_MOST_SHOWN] + ([rest] if more else [])
+    if not more:
+        return faults
+    rest = Fault(path, f"{format_count(more, 'more fault')} in this file", count=more)
+    return [*faults[:_MOST_SHOWN], rest]
 
 
 def make_input_fault(finding: Finding, data: bytes, source: str) -> Fault:
-    refusal, parts = finding.refusal, parse_parts(data)
+    """A fault of an input as a whole, or of its parts."""
+    refusal = finding.refusal
+    parts = parse_parts(data)
     line = 1 if refusal.endswith("before the first part") else None
-    words = finding.words or refusal.removeprefix("input: ")
-    kind = re.search("wrong number of (rules|groups)", refusal)
+    text = finding.cause or refusal.removeprefix("input: ")
+    wrong_number = re.search("wrong number of (rules|groups)", refusal)
     if refusal == "input: too large":
-        words = f"it has more than {MOST_OF_INPUT:,} bytes"
+        text = f"it has more than {MOST_OF_INPUT:,} bytes"
     elif finding.refused.number:
         part = next(islice(parts, finding.refused.number - 1, None))
-        words = f"{quote('%' + part.kind)} is no head of a part: %rules, %form or %groups"
+        text = f"{quote('%' + part.kind)} is no head of a part: %rules, %form or %groups"
         line = part.line
-    elif kind:
-        line = next(islice((part.line for part in parts if part.kind == kind[1]), 1, None), None)
-    return Fault(source if line is None else f"{source}:{line}", words, refusal)
+    elif wrong_number:
+        lines = (part.line for part in parts if part.kind == wrong_number[1])
+        line = next(islice(lines, 1, None), None)
+    place = source if line is None else f"{source}:{line}"
+    return Fault(place, text, refusal=refusal)
 
 
 def make_faults_of_input(explained: Explained, data: bytes, source: str) -> list[Fault]:
-    findings, forms, parts = explained.findings, 0, dict[PartKey, Part]()
-    if findings and findings[0].refused.part == "input":
+    """The faults of an input that is one file."""
+    findings = explained.findings
+    if not findings:
+        return limit_faults([], source, explained.more)
+    if findings[0].refused.part == "input":
         return [make_input_fault(findings[0], data, source)]
+    parts: dict[PartKey, Part] = {}
+    forms = 0
     for part in parse_parts(data):
         forms += part.kind == "form"
         parts[part.kind, forms if part.kind == "form" else None] = part
-    bidders = list_names(parts["rules", None].rows(), "bidder") if findings else []
+    bidders = list_names(parts["rules", None].rows(), "bidder")
     faults: list[Fault] = []
-    for key, found in explained.by_part().items():
+    for key, of_part in explained.by_part().items():
         part = parts[key]
-        faults += make_faults(found, source, part.rows(), bidders, f":{part.line}")
+        faults += make_faults(of_part, source, part.rows(), bidders, head=f":{part.line}")
     return limit_faults(faults, source, explained.more)

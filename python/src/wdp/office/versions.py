@@ -15,7 +15,8 @@ _WORD = r"(?<![A-Za-z0-9]){}(?![A-Za-z0-9])"
 _DATE = re.compile(r"(?<![0-9])((?:19|20)[0-9]{2})([-_. ]?)([0-9]{2})\2([0-9]{2})(?![0-9])")
 _PART = re.compile(r"\0[0-9]|[0-9]+|[^\W\d_]+|[^\s\-_.,()\[\]]")
 _VERSION = re.compile("[0-9]{1,3}")
-_BIDDER, _DATED = "\x000", "\x001"  # in place of the bidder's name, and of a date
+_BIDDER = "\x000"  # in place of the bidder's name
+_DATED = "\x001"  # in place of a date
 # such a date isn't in order by its numbers
 _YEAR_LAST = re.compile(r"(?<![0-9])[0-9]{1,2}[^0-9][0-9]{1,2}[^0-9](?:19|20)[0-9]{2}(?![0-9])")
 _MORE = "their names differ in more than the numbers at their ends"
@@ -41,24 +42,28 @@ def _parse_name(path: str, bidder: str) -> _FileName:
     dates: list[datetime.date] = []
     spellings: list[str] = []
 
-    def take(found: re.Match[str]) -> str:
-        year, between, month, day = found.groups()
+    def take_date(match: re.Match[str]) -> str:
+        year, between, month, day = match.groups()
         with suppress(ValueError):
             dates.append(datetime.date(int(year), int(month), int(day)))
             spellings.append(between)
             return f"-{_DATED}-"
-        return found[0]
+        return match[0]
 
-    words = _PART.findall(_DATE.sub(take, stem).lower())
-    numbers = len(words)
-    while numbers and words[numbers - 1].isdecimal() and words[numbers - 1].isascii():
-        numbers -= 1
-    *before, last = [*words[numbers:], "0"] if numbers == len(words) else words[numbers:]
-    if before or not _VERSION.fullmatch(last):
-        raise Refused(
-            "a date with the year last isn't in order" if _YEAR_LAST.search(stem) else _MANY
-        )
-    return _FileName(tuple(words[:numbers]), int(last), tuple(dates), tuple(spellings))
+    words = _PART.findall(_DATE.sub(take_date, stem).lower())
+    numbers: list[str] = []
+    while words and words[-1].isdecimal() and words[-1].isascii():
+        numbers.append(words.pop())
+    version = numbers[0] if numbers else "0"
+    if len(numbers) > 1 or not _VERSION.fullmatch(version):
+        why = "a date with the year last isn't in order" if _YEAR_LAST.search(stem) else _MANY
+        raise Refused(why)
+    return _FileName(
+        words=tuple(words),
+        version=int(version),
+        dates=tuple(dates),
+        spellings=tuple(spellings),
+    )
 
 
 def _list_keys(paths: Sequence[str], bidder: str) -> tuple[list[int | datetime.date], str]:
@@ -84,13 +89,13 @@ def _format_key(key: int | datetime.date) -> str:
 
 
 def format_time(nanoseconds: int) -> str:
-    """A time of change in words."""
+    """A time of change, in nanoseconds since 1970, in words."""
     seconds, rest = divmod(nanoseconds, 10**9)
     try:
-        at = time.strftime("%Y-%m-%d %H:%M:%S", time.gmtime(seconds))
+        text = time.strftime("%Y-%m-%d %H:%M:%S", time.gmtime(seconds))
     except (OverflowError, OSError, ValueError):
-        at = f"{seconds} s after 1970-01-01"
-    return f"{at}.{rest:09}"
+        text = f"{seconds} s after 1970-01-01"
+    return f"{text}.{rest:09}"
 
 
 @dataclass(frozen=True)
@@ -101,31 +106,37 @@ class LastFile:
     replaced: list[tuple[int, str]]
 
 
-def _sort_places(keys: Sequence[int | datetime.date], same: str) -> list[int]:
-    """The places of keys in their order; Refused if the last two are the same."""
+def _sort_places(keys: Sequence[int | datetime.date], why: str) -> list[int]:
+    """The places of keys in their order; Refused, for this reason, if the last two are the same."""
     places = sorted(range(len(keys)), key=lambda place: (keys[place], place))
     if keys[places[-1]] == keys[places[-2]]:
-        raise Refused(same)
+        raise Refused(why)
     return places
 
 
 def _find_last_by_name(paths: Sequence[str], bidder: str) -> LastFile:
     keys, what = _list_keys(paths, bidder)
-    *order, last = _sort_places(keys, "their names end alike")
+    *earlier, last = _sort_places(keys, "their names end alike")
     now = _format_key(keys[last])
-    return LastFile(last, [(it, f"{what}, {_format_key(keys[it])} and {now}") for it in order])
+    replaced = [(place, f"{what}, {_format_key(keys[place])} and {now}") for place in earlier]
+    return LastFile(last, replaced)
 
 
 def _find_last_by_time(paths: Sequence[str]) -> LastFile:
     times = [os.stat(path).st_mtime_ns for path in paths]
-    *order, last = _sort_places(times, "they were changed at the same time")
-    what = "their times of change"
+    *earlier, last = _sort_places(times, "they were changed at the same time")
     now = format_time(times[last])
-    return LastFile(last, [(it, f"{what}, {format_time(times[it])} and {now} UTC") for it in order])
+    replaced = [
+        (place, f"their times of change, {format_time(times[place])} and {now} UTC")
+        for place in earlier
+    ]
+    return LastFile(last, replaced)
 
 
 def find_last(paths: Sequence[str], bidder: str, way: str | None) -> LastFile:
-    """The last one of a bidder's files: by `name` or by `time`."""
+    """The last one of a bidder's files, by `name` or by `time`. Refused if that can't be known."""
     if way is None:
         raise Refused("say --last-wins name or --last-wins time")
-    return _find_last_by_name(paths, bidder) if way == "name" else _find_last_by_time(paths)
+    if way == "name":
+        return _find_last_by_name(paths, bidder)
+    return _find_last_by_time(paths)

@@ -8,11 +8,10 @@ import posixpath
 import re
 import zipfile
 import zlib
-from bisect import bisect_left
-from collections.abc import Collection, Iterator, Mapping
+from bisect import bisect_left, bisect_right
+from collections.abc import Collection, Iterator, Mapping, Sequence
 from dataclasses import dataclass, field
 from io import BytesIO
-from typing import NamedTuple
 from xml.parsers import expat
 
 from wdp.files import Unreadable
@@ -27,11 +26,15 @@ _MOST_OF_A_PART = 16 * 1024 * 1024  # bytes of what is read of it: one XML text
 _CHUNK = 64 * 1024  # bytes that the parser gets at once
 _LONGEST_PIECE = (
     64 * 1024
-)  # bytes of a comment or a tag: the parser begins each anew with every chunk
-_MOST_ELEMENTS, _MOST_NESTED = 1_000_000, 64  # of a part, and within each other
+)  # bytes of a comment or a tag, which the parser begins anew with every chunk
+_MOST_ELEMENTS = 1_000_000  # of a part
+_MOST_NESTED = 64  # elements within each other
 _MOST_CELLS = 1_000  # of a row
 _MOST_MERGED = 1_000  # ranges
-_LAST_ROW, _LAST_COLUMN = 1_048_576, 16_384  # of any sheet
+_MOST_NAMED = 20  # cells in a line of the receipt
+_MOST_SHEETS_NAMED = 9  # in a message
+_LAST_ROW = 1_048_576  # of any sheet
+_LAST_COLUMN = 16_384
 _SMALLEST = 1  # what a height in points or a width in characters has to be for anything to be seen
 
 _MAIN = (
@@ -65,7 +68,8 @@ class _BadWorkbook(Exception):
         self.cell = cell
 
 
-class _Element(NamedTuple):
+@dataclass(frozen=True, slots=True)
+class _Element:
     """The beginning of an element with its attributes, or its end with the text since the tag before. Names are without the
     namespace of workbooks; those of others have theirs before them."""
 
@@ -77,7 +81,10 @@ class _Element(NamedTuple):
 
 def _strip_namespace(name: str, namespaces: tuple[str, ...]) -> str:
     """A name without its namespace, if that is one of these."""
-    return next((name[len(it) :] for it in namespaces if name.startswith(it)), name)
+    for namespace in namespaces:
+        if name.startswith(namespace):
+            return name.removeprefix(namespace)
+    return name
 
 
 class _XmlParser:
@@ -103,26 +110,27 @@ class _XmlParser:
             most = f"{_MOST_ELEMENTS:,} elements, or {_MOST_NESTED} within each other"
             raise _BadWorkbook(f"its XML has more than {most}")
         self.texts.clear()
-        self.found.append(_Element(True, _strip_namespace(name, self.namespaces), attributes))
+        local_name = _strip_namespace(name, self.namespaces)
+        self.found.append(_Element(is_begin=True, name=local_name, attributes=attributes))
 
     def end(self, name: str) -> None:
         self.depth -= 1
         text = "".join(self.texts)
         self.texts.clear()
-        self.found.append(_Element(False, _strip_namespace(name, self.namespaces), {}, text))
+        local_name = _strip_namespace(name, self.namespaces)
+        self.found.append(_Element(is_begin=False, name=local_name, attributes={}, text=text))
 
     def refuse_type(self, *_: object) -> None:
         raise _BadWorkbook("its XML has a document type, as no spreadsheet writes")
 
     def elements(self, data: bytes) -> Iterator[_Element]:
         try:
-            for at in range(0, len(data), _CHUNK):
-                chunk = data[at : at + _CHUNK]
+            for begin in range(0, len(data), _CHUNK):
+                chunk = data[begin : begin + _CHUNK]
                 self.parser.Parse(chunk, False)
-                if at + len(chunk) - self.parser.CurrentByteIndex > _LONGEST_PIECE:
-                    raise _BadWorkbook(
-                        f"its XML has a tag or a comment of more than {_LONGEST_PIECE:,} bytes"
-                    )
+                if begin + len(chunk) - self.parser.CurrentByteIndex > _LONGEST_PIECE:
+                    most = f"{_LONGEST_PIECE:,} bytes"
+                    raise _BadWorkbook(f"its XML has a tag or a comment of more than {most}")
                 yield from self.found
                 self.found.clear()
             self.parser.Parse(b"", True)
@@ -132,6 +140,7 @@ class _XmlParser:
 
 
 def _parse_xml(data: bytes, namespaces: tuple[str, ...] = _MAIN) -> Iterator[_Element]:
+    """The elements of an XML text, as they begin and end."""
     return _XmlParser(namespaces).elements(data)
 
 
@@ -158,6 +167,7 @@ class _Archive:
             self.entries[name] = entry
 
     def read(self, name: str) -> bytes:
+        """The bytes of a part."""
         entry = self.entries.get(name.lower())
         if entry is None:
             raise _BadWorkbook(f"{_NO_WORKBOOK}: it has no part {quote(name)}")
@@ -166,41 +176,41 @@ class _Archive:
         if entry.compress_type not in (zipfile.ZIP_STORED, zipfile.ZIP_DEFLATED):
             raise _BadWorkbook(f"its archive packs {quote(name)} as no spreadsheet does")
         if entry.file_size > _MOST_OF_A_PART:
-            raise _BadWorkbook(
-                f"its part {quote(name)} has more than {_MOST_OF_A_PART:,} bytes, unpacked"
-            )
+            most = f"{_MOST_OF_A_PART:,} bytes, unpacked"
+            raise _BadWorkbook(f"its part {quote(name)} has more than {most}")
         return self.archive.read(entry)
 
     def links(self, name: str) -> dict[str, tuple[str, str]]:
         """What a part is linked to, by the links' names: the kind of each link, and the part's name."""
         folder, file = posixpath.split(name)
-        found: dict[str, tuple[str, str]] = {}
-        for it in _parse_xml(
-            self.read(posixpath.join(folder, "_rels", f"{file}.rels")), (_RELATIONS,)
-        ):
-            if it.name != "Relationship" or not it.is_begin:
+        data = self.read(posixpath.join(folder, "_rels", f"{file}.rels"))
+        links: dict[str, tuple[str, str]] = {}
+        for element in _parse_xml(data, (_RELATIONS,)):
+            if element.name != "Relationship" or not element.is_begin:
                 continue
-            link = it.attributes.get("Id", "")
-            if link in found:
+            attributes = element.attributes
+            link = attributes.get("Id", "")
+            if link in links:
                 raise _BadWorkbook(f"its archive has the link {quote(link)} twice")
-            kind = it.attributes.get("Type", "").rpartition("/")[2]
-            target = posixpath.normpath(
-                posixpath.join("/", folder, it.attributes.get("Target", ""))
-            )
-            is_outside = it.attributes.get("TargetMode") == "External"
-            found[link] = (kind, "" if is_outside else target.lstrip("/"))
-        return found
+            kind = attributes.get("Type", "").rpartition("/")[2]
+            path = posixpath.join("/", folder, attributes.get("Target", ""))
+            is_outside = attributes.get("TargetMode") == "External"
+            links[link] = (kind, "" if is_outside else posixpath.normpath(path).lstrip("/"))
+        return links
 
 
 def _find_part(links: Mapping[str, tuple[str, str]], kind: str) -> str | None:
     """The one part of a kind that is linked, or None."""
-    names = [name for its_kind, name in links.values() if its_kind == kind]
+    names = [name for kind_of_link, name in links.values() if kind_of_link == kind]
     if len(names) > 1:
         raise _BadWorkbook(f"{_NO_WORKBOOK}: it has two parts {kind}")
     return names[0] if names else None
 
 
-class _Sheet(NamedTuple):
+@dataclass(frozen=True)
+class _Sheet:
+    """A sheet of cells: its name, its part of the archive, and whether it is hidden."""
+
     name: str
     part: str
     is_hidden: bool
@@ -213,13 +223,15 @@ class _TextPieces:
         self.pieces: list[str] = []
         self.is_spoken = False
 
-    def take(self, it: _Element) -> None:
-        if it.name == "rPh":
-            self.is_spoken = it.is_begin
-        elif it.name == "t" and not it.is_begin and not self.is_spoken:
-            self.pieces.append(it.text)
+    def take(self, element: _Element) -> None:
+        """Takes the beginning or the end of an element of the text."""
+        if element.name == "rPh":
+            self.is_spoken = element.is_begin
+        elif element.name == "t" and not element.is_begin and not self.is_spoken:
+            self.pieces.append(element.text)
 
-    def text(self) -> str:
+    def finish(self) -> str:
+        """The text of the pieces so far; another one begins."""
         text = "".join(self.pieces)
         self.pieces.clear()
         return text
@@ -236,20 +248,19 @@ class _Workbook:
         self.links = self.package.links(part)
         self.is_of_1904 = False
         self.sheets: list[_Sheet] = []
-        for it in _parse_xml(self.package.read(part)):
-            if it.is_begin and it.name == "sheet":
-                self.add_sheet(it.attributes)
-            elif it.is_begin and it.name == "workbookPr":
-                self.is_of_1904 = it.attributes.get("date1904", "0") not in _OFF
+        for element in _parse_xml(self.package.read(part)):
+            if element.is_begin and element.name == "sheet":
+                self.add_sheet(element.attributes)
+            elif element.is_begin and element.name == "workbookPr":
+                self.is_of_1904 = element.attributes.get("date1904", "0") not in _OFF
         self.texts = self.read_texts()
         self.formats = self.read_formats()
 
     def add_sheet(self, attributes: Mapping[str, str]) -> None:
-        link = next(
-            (value for name, value in attributes.items() if _strip_namespace(name, _LINKS) == "id"),
-            "",
-        )
-        kind, part = self.links.get(link, ("", ""))
+        """Adds what the workbook says of a sheet, if that is one of cells."""
+        values = attributes.items()
+        links = (value for name, value in values if _strip_namespace(name, _LINKS) == "id")
+        kind, part = self.links.get(next(links, ""), ("", ""))
         name = attributes.get("name", "")
         if name.lower() in {sheet.name.lower() for sheet in self.sheets}:
             raise _BadWorkbook(f"two of its sheets are called {quote(name)}")
@@ -257,32 +268,35 @@ class _Workbook:
             raise _BadWorkbook(f"its sheet {quote(name)} is another one, too")
         if kind == "worksheet":
             is_hidden = attributes.get("state", "visible") != "visible"
-            self.sheets.append(_Sheet(name, part, is_hidden))
+            self.sheets.append(_Sheet(name, part, is_hidden=is_hidden))
 
     def read_texts(self) -> list[str]:
+        """The texts that cells name by their numbers."""
         part = _find_part(self.links, "sharedStrings")
         texts: list[str] = []
-        strings = _TextPieces()
-        for it in _parse_xml(self.package.read(part)) if part else ():
-            strings.take(it)
-            if it.name == "si" and not it.is_begin:
-                texts.append(strings.text())
+        pieces = _TextPieces()
+        for element in _parse_xml(self.package.read(part)) if part else ():
+            pieces.take(element)
+            if element.name == "si" and not element.is_begin:
+                texts.append(pieces.finish())
         return texts
 
     def read_formats(self) -> list[NumberFormat]:
+        """The format of numbers of each style."""
         part = _find_part(self.links, "styles")
         codes = dict(BUILT_IN)
         numbers: list[str] = []
         is_of_cells = False
-        for it in _parse_xml(self.package.read(part)) if part else ():
-            if it.name == "cellXfs":
-                is_of_cells = it.is_begin
-            elif it.is_begin and it.name == "numFmt":
-                codes[it.attributes.get("numFmtId", "")] = it.attributes.get("formatCode", "")
-            elif it.is_begin and it.name == "xf" and is_of_cells:
-                numbers.append(it.attributes.get("numFmtId", "0"))
-        made = {number: NumberFormat(codes.get(number, GENERAL)) for number in set(numbers)}
-        return [made[number] for number in numbers]
+        for element in _parse_xml(self.package.read(part)) if part else ():
+            attributes = element.attributes
+            if element.name == "cellXfs":
+                is_of_cells = element.is_begin
+            elif element.is_begin and element.name == "numFmt":
+                codes[attributes.get("numFmtId", "")] = attributes.get("formatCode", "")
+            elif element.is_begin and element.name == "xf" and is_of_cells:
+                numbers.append(attributes.get("numFmtId", "0"))
+        formats = {number: NumberFormat(codes.get(number, GENERAL)) for number in set(numbers)}
+        return [formats[number] for number in numbers]
 
 
 def _format_column(column: int) -> str:
@@ -299,6 +313,7 @@ def _format_column(column: int) -> str:
 
 
 def _parse_column(letters: str) -> int:
+    """A column by its letters, from 1."""
     column = 0
     for letter in letters:
         column = 26 * column + ord(letter) - ord("A") + 1
@@ -343,30 +358,32 @@ class _SheetReader:
     is_row_hidden: bool = False
     column: int = 0
     cells: list[_Cell] = field(default_factory=list)
-    strings: _TextPieces = field(default_factory=_TextPieces)
+    pieces: _TextPieces = field(default_factory=_TextPieces)
     within: list[str] = field(default_factory=list)
     is_begun: bool = False
 
     def rows(self) -> Iterator[TableRow]:
         """The rows that have a value; a formula's cell is added to `formulas`."""
         last = 0
-        for it in _parse_xml(self.book.package.read(self.sheet.part)):
-            if it.is_begin:
-                self.begin(it)
-                self.within.append(it.name)
+        for element in _parse_xml(self.book.package.read(self.sheet.part)):
+            if element.is_begin:
+                self.begin(element)
+                self.within.append(element.name)
                 continue
             self.within.pop()
-            self.strings.take(it)
-            self.end(it)
-            if it.name == "row" and self.within == ["worksheet", "sheetData"] and self.cells:
+            self.pieces.take(element)
+            self.end(element)
+            if element.name == "row" and self.within == ["worksheet", "sheetData"] and self.cells:
                 self.file.empty += self.row - last - 1
                 last = self.row
-                yield self.made_row()
+                yield self.make_row()
         if not self.is_begun:
             raise _BadWorkbook("it has no rows")
 
-    def begin(self, it: _Element) -> None:
-        match self.within, it.name:
+    def begin(self, element: _Element) -> None:
+        """Takes the beginning of an element."""
+        attributes = element.attributes
+        match self.within, element.name:
             case [], name:
                 if name != "worksheet":
                     raise _BadWorkbook(f"the sheet {quote(self.sheet.name)} is no sheet of cells")
@@ -376,54 +393,55 @@ class _SheetReader:
                 self.is_begun = True
             case ["worksheet"], name:
                 if " " in name and not self.is_begun:
-                    raise _BadWorkbook(
-                        f"before its rows it has {quote(name)}, which isn't understood"
-                    )
-                self.are_rows_small |= _is_small(it.attributes.get("defaultRowHeight"))
-                self.are_columns_small |= _is_small(it.attributes.get("defaultColWidth"))
+                    why = f"before its rows it has {quote(name)}, which isn't understood"
+                    raise _BadWorkbook(why)
+                self.are_rows_small |= _is_small(attributes.get("defaultRowHeight"))
+                self.are_columns_small |= _is_small(attributes.get("defaultColWidth"))
             case ["worksheet", "cols"], "col":
-                self.begin_columns(it.attributes)
+                self.begin_columns(attributes)
             case ["worksheet", "mergeCells"], "mergeCell":
-                self.check_merged(it.attributes.get("ref", ""))
-            case ["worksheet", "sheetData", *within], name:
-                self.begin_within(within, it)
+                self.check_merged(attributes.get("ref", ""))
+            case ["worksheet", "sheetData", *within], _:
+                self.begin_within(within, element)
 
-    def begin_within(self, within: list[str], it: _Element) -> None:
-        """What begins among the rows."""
-        match within, it.name:
+    def begin_within(self, within: list[str], element: _Element) -> None:
+        """Takes the beginning of an element among the rows."""
+        match within, element.name:
             case [], "row":
-                self.begin_row(it.attributes)
+                self.begin_row(element.attributes)
             case ["row"], "c":
-                self.begin_cell(it.attributes)
+                self.begin_cell(element.attributes)
             case ["row", "c"], "f":
                 self.cells[-1].is_formula = True
             case ["row", "c"], "v" | "is":
-                self.strings.take(it)
+                self.pieces.take(element)
             case ["row", "c", "is", *_], name if " " not in name:
-                self.strings.take(it)
+                self.pieces.take(element)
             case [*_, "extLst" | "ext"], _:
                 pass
             case ["row", *_], "extLst":
                 pass
             case _:
-                at = self.cells[-1].place if self.cells else f"A{self.row or 1}"
-                raise _BadWorkbook(f"there is {quote(it.name)}, which isn't understood", at)
+                place = self.cells[-1].place if self.cells else f"A{self.row or 1}"
+                raise _BadWorkbook(f"there is {quote(element.name)}, which isn't understood", place)
 
     def begin_columns(self, attributes: Mapping[str, str]) -> None:
-        ends = [attributes.get(name, "") for name in ("min", "max")]
-        if not all(map(_ROW.fullmatch, ends)):
+        """Takes what is said of some columns."""
+        first_text = attributes.get("min", "")
+        last_text = attributes.get("max", "")
+        if not _ROW.fullmatch(first_text) or not _ROW.fullmatch(last_text):
             raise _BadWorkbook("its columns aren't understood")
-        first, last = map(int, ends)
+        first = int(first_text)
+        last = int(last_text)
         if not self.last_hidden < first <= last:
-            raise _BadWorkbook(
-                "its column isn't in order, or is there twice", f"{_format_column(first)}1"
-            )
+            place = f"{_format_column(first)}1"
+            raise _BadWorkbook("its column isn't in order, or is there twice", place)
         self.last_hidden = last
-        is_hidden = attributes.get("hidden", "0") not in _OFF or _is_small(attributes.get("width"))
-        if is_hidden:
+        if attributes.get("hidden", "0") not in _OFF or _is_small(attributes.get("width")):
             self.hidden_columns.update(range(first, min(last, _MOST_CELLS) + 1))
 
     def begin_row(self, attributes: Mapping[str, str]) -> None:
+        """Takes the number of a row, and whether it is shown."""
         number = attributes.get("r", str(self.row + 1))
         if not _ROW.fullmatch(number) or int(number) > _LAST_ROW:
             why = f"a row has the number {quote(number)}, and a sheet has {_LAST_ROW:,} rows"
@@ -437,41 +455,50 @@ class _SheetReader:
         self.column = 0
         self.cells = []
         height = attributes.get("ht")
-        is_small_row = _is_small(height) if height else self.are_rows_small
-        self.is_row_hidden = attributes.get("hidden", "0") not in _OFF or is_small_row
+        is_row_small = _is_small(height) if height else self.are_rows_small
+        self.is_row_hidden = attributes.get("hidden", "0") not in _OFF or is_row_small
 
     def begin_cell(self, attributes: Mapping[str, str]) -> None:
+        """Takes the place of a cell, and the kind of its value."""
         name = attributes.get("r", f"{_format_column(self.column + 1)}{self.row}")
-        found = _CELL.fullmatch(name)
-        column = _parse_column(found[1]) if found else 0
-        if not found or int(found[2]) != self.row or column > _LAST_COLUMN:
-            raise _BadWorkbook(
-                f"in this row there is {quote(name)}, which is no cell of it", f"A{self.row}"
-            )
-        if column <= self.column:
+        cell = _CELL.fullmatch(name)
+        column = _parse_column(cell[1]) if cell else 0
+        if not cell or int(cell[2]) != self.row or column > _LAST_COLUMN:
+            why = f"in this row there is {quote(name)}, which is no cell of it"
+            raise _BadWorkbook(why, f"A{self.row}")
+        if column == self.column:
+            raise _BadWorkbook("it is there twice", name)
+        if column < self.column:
             before = f"{_format_column(self.column)}{self.row}"
-            why = f"it comes after {before}, and cells have to be in order"
-            raise _BadWorkbook("it is there twice" if column == self.column else why, name)
+            raise _BadWorkbook(f"it comes after {before}, and cells have to be in order", name)
         self.drop_empty()
         self.column = column
-        kind = attributes.get("t", "n")
-        self.cells.append(_Cell(column, name, kind, attributes.get("s")))
+        self.cells.append(
+            _Cell(
+                column=column,
+                place=name,
+                kind=attributes.get("t", "n"),
+                style=attributes.get("s"),
+            )
+        )
 
     def drop_empty(self) -> None:
         """Drops the last cell if it has nothing."""
         if self.cells and self.cells[-1].value is None and not self.cells[-1].is_formula:
             self.cells.pop()
 
-    def end(self, it: _Element) -> None:
-        match self.within, it.name:
+    def end(self, element: _Element) -> None:
+        """Takes the end of an element."""
+        match self.within, element.name:
             case ["worksheet", "sheetData", "row", "c"], "v":
-                self.set_value(it.text, is_inline=False)
+                self.set_value(element.text, is_inline=False)
             case ["worksheet", "sheetData", "row", "c"], "is":
-                self.set_value(self.strings.text(), is_inline=True)
+                self.set_value(self.pieces.finish(), is_inline=True)
             case ["worksheet", "sheetData"], "row":
                 self.drop_empty()
 
-    def set_value(self, text: str, is_inline: bool) -> None:
+    def set_value(self, text: str, *, is_inline: bool) -> None:
+        """Gives the last cell its value."""
         cell = self.cells[-1]
         if cell.value is not None or is_inline != (cell.kind == "inlineStr"):
             raise _BadWorkbook("its value isn't understood, or it has two", cell.place)
@@ -482,61 +509,72 @@ class _SheetReader:
                 f"it is beyond the first {_MOST_CELLS:,} cells of its row", cell.place
             )
 
-    def made_row(self) -> TableRow:
+    def make_row(self) -> TableRow:
         """The row of the cells that were read."""
         self.columns[self.row] = [cell.column for cell in self.cells]
         is_first = len(self.columns) == 1
         width = self.cells[-1].column
         values = [""] * width
         title = self.sheet.name
-        places = [f"{title}!{_format_column(at)}{self.row}" for at in range(1, width + 1)]
+        columns = range(1, width + 1)
+        places = [f"{title}!{_format_column(column)}{self.row}" for column in columns]
         for cell in self.cells:
-            place = places[cell.column - 1]
-            values[cell.column - 1] = self.field_of(cell, place)
-            self.check_cell(cell, place, values[cell.column - 1], is_first)
+            index = cell.column - 1
+            values[index] = self.format_cell(cell, places[index])
+            self.check_cell(cell, places[index], values[index])
+            if not is_first:
+                self.check_kind(cell, places[index], values[index])
         return TableRow(values, self.row, places)
 
-    def check_cell(self, cell: _Cell, place: str, value: str, is_first: bool) -> None:
+    def check_cell(self, cell: _Cell, place: str, value: str) -> None:
+        """Adds what is wrong with a cell, or hidden."""
         if cell.is_formula:
             self.formulas.append(cell.place)
             if cell.value is None:
-                self.file.fault(place, NOT_STORED)
+                self.file.add_fault(place, NOT_STORED)
         is_column_hidden = cell.column in self.hidden_columns
         if cell.column > self.last_hidden:
             is_column_hidden = self.are_columns_small
         if self.is_row_hidden or is_column_hidden:
-            why = "row" if self.is_row_hidden else "column"
-            self.unseen.append((place, f"its {why} is hidden"))
-        if not is_first and cell.kind in _TEXTS and value.strip().isdecimal():
-            self.file.fault(place, f"{quote(value)} is a text; turn it into a number")
+            what = "row" if self.is_row_hidden else "column"
+            self.unseen.append((place, f"its {what} is hidden"))
 
-    def field_of(self, cell: _Cell, place: str) -> str:
+    def check_kind(self, cell: _Cell, place: str, value: str) -> None:
+        """Adds a fault if a cell has a number as a text."""
+        if cell.kind in _TEXTS and value.strip().isdecimal():
+            text = f"{quote(value)} is a text; turn it into a number"
+            self.file.add_fault(place, text)
+
+    def format_cell(self, cell: _Cell, place: str) -> str:
         """A cell's value as a field; what is no whole number stays what it is, for the program to refuse."""
         value = cell.value or ""
         if cell.value is None or cell.kind in ("str", "inlineStr", "e", "d"):
             return value
         value = value.strip(_BLANK)
         if cell.kind == "n":
-            return self.number_of(cell, value, place) if _NUMBER.fullmatch(value) else value
+            return self.format_number(cell, value, place) if _NUMBER.fullmatch(value) else value
         if cell.kind == "s" and _INDEX.fullmatch(value) and int(value) < len(self.book.texts):
             return self.book.texts[int(value)]
         if cell.kind == "b" and value in _TRUTHS:
             return _TRUTHS[value]
         raise _BadWorkbook(f"its value {quote(value)} isn't understood", cell.place)
 
-    def number_of(self, cell: _Cell, text: str, place: str) -> str:
+    def format_number(self, cell: _Cell, text: str, place: str) -> str:
+        """The number of a cell as a field, as its format shows it."""
         number = float(text)
-        shown = self.format_of(cell)
-        if shown.is_date:
-            return _format_date(number, self.book.is_of_1904) or text
-        if number and not shown.is_seen:
-            self.unseen.append((place, f"its format {quote(shown.code)} doesn't show its number"))
-        elif number and shown.is_scaled:
-            self.scaled.append(f"{cell.place} ({shown.code})")
+        number_format = self.find_format(cell)
+        if number_format.is_date:
+            return _format_date(number, is_of_1904=self.book.is_of_1904) or text
+        if number and not number_format.is_seen:
+            code = quote(number_format.code)
+            self.unseen.append((place, f"its format {code} doesn't show its number"))
+        elif number and number_format.is_scaled:
+            self.scaled.append(f"{cell.place} ({number_format.code})")
         is_exact = number.is_integer() and abs(number) < 2**53
         return str(int(number)) if is_exact else str(number)
 
-    def format_of(self, cell: _Cell) -> NumberFormat:
+    def find_format(self, cell: _Cell) -> NumberFormat:
+        """The format of numbers that a cell has."""
         if cell.style is None or cell.style == "0" and not self.book.formats:
             return NumberFormat(GENERAL)
         if not _INDEX.fullmatch(cell.style) or int(cell.style) >= len(self.book.formats):
@@ -546,38 +584,44 @@ class _SheetReader:
     def check_merged(self, ref: str) -> None:
         """A value that merged cells cover is a fault of its cell."""
         self.merged += 1
-        found = [_CELL.fullmatch(name) for name in ref.split(":")]
-        ends = [(_parse_column(it[1]), int(it[2])) for it in found if it]
-        if not 1 <= len(found) == len(ends) <= 2 or self.merged > _MOST_MERGED:
-            raise _BadWorkbook(f"its merged cells {quote(ref)} aren't understood, or are too many")
-        (left, top), (right, bottom) = ends[0], ends[-1]
+        names = ref.split(":")
+        cells = [cell for cell in map(_CELL.fullmatch, names) if cell]
+        if not 1 <= len(names) == len(cells) <= 2 or self.merged > _MOST_MERGED:
+            why = f"its merged cells {quote(ref)} aren't understood, or are too many"
+            raise _BadWorkbook(why)
+        left = _parse_column(cells[0][1])
+        top = int(cells[0][2])
+        right = _parse_column(cells[-1][1])
+        bottom = int(cells[-1][2])
         rows = list(self.columns)
-        for row in rows[bisect_left(rows, top) :]:
-            if row > bottom:
-                return
+        for row in rows[bisect_left(rows, top) : bisect_right(rows, bottom)]:
             columns = self.columns[row]
-            at = bisect_left(columns, left + 1 if row == top else left)
-            if at < len(columns) and columns[at] <= right:
+            first = bisect_left(columns, left + 1 if row == top else left)
+            if first < len(columns) and columns[first] <= right:
                 why = f"it is covered by the merged cells {ref}; unmerge them"
-                raise _BadWorkbook(why, f"{_format_column(columns[at])}{row}")
+                raise _BadWorkbook(why, f"{_format_column(columns[first])}{row}")
 
     def finish(self) -> None:
         """Adds what is hidden to the faults, and what the receipt says to the changes."""
         if self.unseen:
             place, why = self.unseen[0]
             rest = len(self.unseen) - 1
-            many = f", and {format_count(rest, 'more cell')} {'is' if rest == 1 else 'are'} hidden"
-            do = "show what counts, and delete the rest"
-            self.file.fault(place, f"{why}{many if rest else ''}; {do}")
+            if rest:
+                why += (
+                    f", and {format_count(rest, 'more cell')} {'is' if rest == 1 else 'are'} hidden"
+                )
+            self.file.add_fault(place, f"{why}; show what counts, and delete the rest")
         if self.formulas:
-            stored = f"taken by their stored values: {', '.join(self.formulas[:20])}"
-            self.file.changes.append(f"{format_count(len(self.formulas), 'formula')} {stored}")
+            count = format_count(len(self.formulas), "formula")
+            cells = ", ".join(self.formulas[:_MOST_NAMED])
+            self.file.changes.append(f"{count} taken by their stored values: {cells}")
         if self.scaled:
-            shown = f"shown as another number by its format: {', '.join(self.scaled[:20])}"
-            self.file.changes.append(f"{format_count(len(self.scaled), 'number')} {shown}")
+            count = format_count(len(self.scaled), "number")
+            cells = ", ".join(self.scaled[:_MOST_NAMED])
+            self.file.changes.append(f"{count} shown as another number by its format: {cells}")
 
 
-def _format_date(number: float, is_of_1904: bool) -> str:
+def _format_date(number: float, *, is_of_1904: bool) -> str:
     """A date as it is written by a text; nothing if there is no such date."""
     try:
         date = _EPOCHS[is_of_1904] + datetime.timedelta(days=number)
@@ -594,29 +638,34 @@ def _read_first_value(book: _Workbook, sheet: _Sheet) -> str:
 
 def _choose_sheet(book: _Workbook, name: str | None, heads: Collection[str]) -> _Sheet:
     """The sheet of this name, or the first one. No other may then be hidden, or begin with one of these heads, in any case."""
-    sheets = book.sheets
-    there = ", ".join(quote(sheet.name) for sheet in sheets[:9])
     if name is not None:
-        for sheet in sheets:
-            if sheet.name == name and sheet.is_hidden:
-                raise _BadWorkbook(f"its sheet {quote(name)} is hidden; show it if it counts")
-            if sheet.name == name:
-                return sheet
-        raise _BadWorkbook(f"it has no sheet {quote(name)}, but {there}")
-    if not sheets:
+        return _find_sheet(book.sheets, name)
+    if not book.sheets:
         raise _BadWorkbook("it has no sheet of cells")
-    say = "say --sheet NAME for the one that counts"
-    if hidden := [sheet.name for sheet in sheets if sheet.is_hidden]:
-        raise _BadWorkbook(f"its sheet {quote(hidden[0])} is hidden; delete it, or {say}")
+    hint = "say --sheet NAME for the one that counts"
+    for sheet in book.sheets:
+        if sheet.is_hidden:
+            raise _BadWorkbook(f"its sheet {quote(sheet.name)} is hidden; delete it, or {hint}")
     known = {head.lower() for head in heads}
-    for sheet in sheets[1:]:
+    for sheet in book.sheets[1:]:
         if _read_first_value(book, sheet).strip().lower() in known:
-            raise _BadWorkbook(f"its sheet {quote(sheet.name)} begins as a form does, too; {say}")
-    return sheets[0]
+            raise _BadWorkbook(f"its sheet {quote(sheet.name)} begins as a form does, too; {hint}")
+    return book.sheets[0]
 
 
-def _fill_from_sheet(file: File, most: int, name: str | None, heads: Collection[str]) -> File:
-    """Fills a file with the rows of a sheet."""
+def _find_sheet(sheets: Sequence[_Sheet], name: str) -> _Sheet:
+    """The sheet of a name."""
+    for sheet in sheets:
+        if sheet.name == name and sheet.is_hidden:
+            raise _BadWorkbook(f"its sheet {quote(name)} is hidden; show it if it counts")
+        if sheet.name == name:
+            return sheet
+    names = ", ".join(quote(sheet.name) for sheet in sheets[:_MOST_SHEETS_NAMED])
+    raise _BadWorkbook(f"it has no sheet {quote(name)}, but {names}")
+
+
+def _fill_from_sheet(file: File, most: int, name: str | None, heads: Collection[str]) -> None:
+    """Fills a file with the rows of a sheet, at most so many."""
     book = _Workbook(file.data)
     sheet = _choose_sheet(book, name, heads)
     reader = _SheetReader(book, sheet, file)
@@ -625,19 +674,28 @@ def _fill_from_sheet(file: File, most: int, name: str | None, heads: Collection[
     try:
         file.fill(reader.rows(), most)
     except _BadWorkbook as bad:
-        at = f":{sheet.name}!{bad.cell}" if bad.cell else ""
-        raise Unreadable(file.path + at, bad.why) from None
+        place = f"{file.path}:{sheet.name}!{bad.cell}" if bad.cell else file.path
+        raise Unreadable(place, bad.why) from None
     reader.finish()
-    return file
 
 
 def read_workbook(
-    path: str, data: bytes, most: int, name: str | None = None, heads: Collection[str] = ()
+    path: str,
+    data: bytes,
+    most: int,
+    *,
+    sheet: str | None = None,
+    heads: Collection[str] = (),
 ) -> File:
-    """The rows of a workbook's sheet, as of a file of CSV: of the one of this name, or of the first. Raises Unreadable."""
+    """The rows of a workbook's sheet, as of a file of CSV: of the one of this name, or of the first. Raises Unreadable.
+
+    At most so many rows are read. `heads` are how the first sheet begins, and no other sheet may.
+    """
+    file = File(path, data)
     try:
-        return _fill_from_sheet(File(path, data), most, name, heads)
+        _fill_from_sheet(file, most, name=sheet, heads=heads)
     except _BadWorkbook as bad:
         raise Unreadable(path, bad.why) from None
     except (zipfile.BadZipFile, zlib.error, EOFError, NotImplementedError, UnicodeError) as error:
         raise Unreadable(path, f"{_NO_WORKBOOK}: {type(error).__name__}") from None
+    return file

@@ -123,8 +123,14 @@ def add_arguments(parser: argparse.ArgumentParser) -> None:
 def read_names(path: str, rules: AcceptedRules, regular: bool) -> dict[str, str]:
     """What an office calls bidders and categories, by their codes; Refused at the first row that isn't `code,name`."""
     codes = {*rules.bidders, *(category.name for category in rules.categories)}
-    about = "a code and a name", codes, "bidder and no category"
-    pairs, faults = read_pairs(path, "code,name", *about, regular)
+    pairs, faults = read_pairs(
+        path,
+        "code,name",
+        wanted="a code and a name",
+        names=codes,
+        who="bidder and no category",
+        regular=regular,
+    )
     if faults:
         raise Refused(str(faults[0]))
     names: dict[str, str] = {}
