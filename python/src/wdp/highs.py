@@ -45,11 +45,12 @@ def solve(program: ZeroOne, seconds: float) -> set[int]:
     return {place for place, value in enumerate(result.x) if value > 0.5}
 
 
-def main(program_path: str, solution_path: str, seconds: str = "inf") -> int:
+def main(arguments: list[str]) -> int:
     """Solves the program of a file, and writes its solution into another one; the status."""
+    program_path, solution_path, *limit = arguments
     program = read_program(files.read(program_path, MOST_OF_PROGRAM))
     try:
-        ones = solve(program, float(seconds))
+        ones = solve(program, float(limit[0] if limit else "inf"))
     except NotSolved as failed:
         files.tell(f"{failed.text}\n")
         return failed.status
@@ -58,4 +59,4 @@ def main(program_path: str, solution_path: str, seconds: str = "inf") -> int:
 
 
 if __name__ == "__main__":
-    sys.exit(main(*sys.argv[1:]))
+    sys.exit(main(sys.argv[1:]))

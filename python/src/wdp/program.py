@@ -115,7 +115,7 @@ def run_process(
             source.write(data)
             source.seek(0)
             streams = _Streams(source, output=output or printed, messages=messages or errors)
-            status = _run_to_end(command, limits, streams, folder)
+            status = _run_to_end(command, limits, streams=streams, folder=folder)
             text = _read_end(streams.messages, _END_OF_MESSAGES)
             return ProcessResult(
                 status=status,
@@ -130,7 +130,7 @@ def run_process(
 
 
 def _run_to_end(
-    command: Sequence[str], limits: Limits, streams: _Streams, folder: StrPath | None
+    command: Sequence[str], limits: Limits, *, streams: _Streams, folder: StrPath | None
 ) -> int | None:
     """Starts a program and waits for its end. Gives its status, None if its time is over; Unclear if it prints too much."""
     if signal.getsignal(signal.SIGCHLD) == signal.SIG_IGN:

@@ -87,7 +87,7 @@ class AuctionFiles:
             self._check_counts(self.choices.expect)
         path = groups[-1] if groups else ""
         rows = self.groups.rows
-        faults = make_faults(findings["groups", None], path, rows, self.rules.bidders)
+        faults = make_faults(findings["groups", None], path, rows, bidders=self.rules.bidders)
         self.faults += faults_of_groups + limit_faults(faults, path)
         if explained.findings and explained.findings[0].refused.part == "input":
             fault = make_input_fault(explained.findings[0], self.text, "the joined input")
@@ -120,7 +120,7 @@ class AuctionFiles:
         # (a quote that isn't closed makes one field of all that follows)
         beyond = form.unclosed or MOST_OF_A_FORM + 1
         within = [finding for finding in findings if (finding.refused.record or 0) < beyond]
-        faults = make_faults(within, form.path, form.rows, self.rules.bidders)
+        faults = make_faults(within, form.path, form.rows, bidders=self.rules.bidders)
         # (a formula without a value isn't also an empty field)
         blank = {fault.place for fault in form.faults if fault.text == NOT_STORED}
         faults = [

@@ -95,7 +95,7 @@ def _check_parts(parts: str, forms: str, files: Sequence[str]) -> None:
         raise WrongArgument(f"{parts} {why}")
 
 
-def _format_file(name: str, file: File, count: str, part: bytes) -> str:
+def _format_file(name: str, file: File, *, count: str, part: bytes) -> str:
     """A line of the receipt: what a file is, its path and how much it has, its part of the input, and each change between them."""
     pieces = [
         f"{name}: file {file.path}, {count}, SHA-256 {compute_digest(file.data)}",
@@ -111,12 +111,14 @@ def _format_files(auction: AuctionFiles) -> Iterator[str]:
     rules = auction.rules
     file = auction.rules_file
     bidders = format_count(len(rules.bidders), "bidder")
-    yield _format_file("rules", file, f"{bidders}, {len(rules.categories)} categories", file.text)
+    count = f"{bidders}, {len(rules.categories)} categories"
+    yield _format_file("rules", file, count=count, part=file.text)
     forms = auction.forms
     for name in rules.bidders:
         if name in forms:
             form = forms[name]
-            yield _format_file(name, form, format_count(form.bids or 0, "bid"), form.text)
+            count = format_count(form.bids or 0, "bid")
+            yield _format_file(name, form, count=count, part=form.text)
         else:
             yield f"{name}: no form"
     for replaced in auction.folder.replaced:
@@ -128,7 +130,7 @@ def _format_files(auction: AuctionFiles) -> Iterator[str]:
     groups = auction.groups
     count = format_count(len(groups.rows), "group")
     if groups.file:
-        yield _format_file("groups", groups.file, count, encode(groups.text))
+        yield _format_file("groups", groups.file, count=count, part=encode(groups.text))
     else:
         yield f"groups: {count}, each bidder alone"
     size = format_count(len(auction.text), "byte")

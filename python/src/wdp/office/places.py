@@ -119,8 +119,8 @@ def make_faults(
     findings: Sequence[Finding],
     path: str,
     rows: Iterable[TableRow],
-    bidders: Sequence[str],
     *,
+    bidders: Sequence[str],
     head: str = "",
 ) -> list[Fault]:
     """The faults of one part in the program's order; rows with the same fault, as a template leaves them, have one. The part has
@@ -196,5 +196,5 @@ def make_faults_of_input(explained: Explained, data: bytes, source: str) -> list
     faults: list[Fault] = []
     for key, of_part in explained.by_part().items():
         part = parts[key]
-        faults += make_faults(of_part, source, part.rows(), bidders, head=f":{part.line}")
+        faults += make_faults(of_part, source, part.rows(), bidders=bidders, head=f":{part.line}")
     return limit_faults(faults, source, explained.more)
