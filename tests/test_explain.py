@@ -10,7 +10,7 @@ import re
 from collections import Counter
 
 import pytest
-from damage import ACCEPTED, damaged_input
+from damage import ACCEPTED, damage_input
 from tied_auctions import input_text, random_auction
 from trials import cases, left_out
 from trials.details import is_line_of
@@ -116,7 +116,7 @@ def test_damaged(wdp, first):
     counts = Counter()
     for version, seed in itertools.product(range(3), range(first, first + DAMAGES)):
         with row(f"version {version + 1}, damaged by {seed}"):
-            text = damaged_input(ACCEPTED[version], seed)
+            text = damage_input(ACCEPTED[version], seed)
             refusal = refusal_of(wdp, text)
             counts[refusal.partition(" ")[0].removesuffix(":")] += 1
             expect_first(wdp, text, refusal)

@@ -47,7 +47,7 @@ class Office:
     def seen(self, *words: str, given: str | bytes | IO[bytes] = b"", **how: object) -> Seen:
         return judging.seen(self.program, list(words), given, cwd=self.folder, **how)
 
-    def there(self) -> dict[str, bytes | bool]:
+    def snapshot(self) -> dict[str, bytes | bool]:
         """What is in the folder, and in its files."""
         paths = self.folder.iterdir()
         return {path.name: path.is_file() and path.read_bytes() for path in paths}
@@ -87,14 +87,14 @@ def test_run(office: Office, run: str) -> None:
     if change:
         name, old, *new = change.split()
         office.change(name, old.replace("\\n", "\n"), "".join(new))
-    before = office.there()
+    before = office.snapshot()
     is_refused = wanted not in before
     for more in ([], ["-o", "out"])[: 1 + (is_refused and "-o" not in words)]:
         with office.path(given or "empty.txt").open("rb") as file:
             seen = office.seen(*words, *more, given=file)
         has_faults = "explain" in words and wanted != "empty.txt"
         assert seen == (refused(wanted) if is_refused else (has_faults, before[wanted], b""))
-        assert office.there() == before
+        assert office.snapshot() == before
 
 
 # a name, and how it is printed: no control character and no mark of the writing direction reaches a terminal
@@ -121,9 +121,9 @@ def test_name_as_it_is_printed(office: Office, name: str) -> None:
 
 @pytest.mark.parametrize("words", ["text form.csv", "text"])
 def test_output_without_a_name_is_refused_before_the_input(office: Office, words: str) -> None:
-    before = office.there()
+    before = office.snapshot()
     assert office.seen(*words.split(), "-o", "") == refused("'': no such file or directory")
-    assert office.there() == before
+    assert office.snapshot() == before
 
 
 WORDS = """check program.mps one.txt; one.txt; -; -o out; text -o; text -o a -o b; text --outptu a; compile --workers 99 none
@@ -132,9 +132,9 @@ check --last-wins program.mps; --last-wins rules.txt"""
 
 @pytest.mark.parametrize("words", WORDS.replace("\n", "; ").split("; "))
 def test_words_that_are_refused(office: Office, words: str) -> None:
-    before = office.there()
+    before = office.snapshot()
     status, output, faults = office.seen(*words.split())
-    assert (status, output, faults[:7], office.there()) == (2, b"", b"error: ", before)
+    assert (status, output, faults[:7], office.snapshot()) == (2, b"", b"error: ", before)
 
 
 def test_pipes_of_the_shell(office: Office) -> None:
@@ -177,7 +177,7 @@ def test_without_rights(office: Office) -> None:
 
 
 def test_outputs_and_their_rights(office: Office) -> None:
-    before = office.there()
+    before = office.snapshot()
     assert office.seen("text", "one.txt", "-o", "new", umask=0o027) == done("")
     office.path("out").chmod(0o604)
     office.path("link").symlink_to("out")
@@ -186,7 +186,7 @@ def test_outputs_and_their_rights(office: Office) -> None:
     words = ["explain", "rules.txt", "gamma.txt", "lots.txt"]
     assert office.seen(*words, "-o", "faults") == (1, b"", b"")
     written = dict.fromkeys(("new", "out", "link"), ONE_COLUMN.encode())
-    assert office.there() == {**before, **written, "faults": before["unknown"]}
+    assert office.snapshot() == {**before, **written, "faults": before["unknown"]}
     rights = [stat.S_IMODE(office.path(name).stat().st_mode) for name in ("new", "out")]
     assert rights == [0o640, 0o604] and office.path("link").is_symlink()
 
@@ -206,19 +206,19 @@ def test_a_limit_on_the_size_of_files(office: Office, is_ignored: bool) -> None:
         resource.setrlimit(resource.RLIMIT_FSIZE, (4096, 4096))
         resource.setrlimit(resource.RLIMIT_CORE, (0, 0))
 
-    before = office.there()
+    before = office.snapshot()
     how = {"given": LONG, "preexec_fn": limit, "restore_signals": False}
     seen, ended = office.seen("compile", "-o", "out", **how), (-signal.SIGXFSZ, b"", b"")
     assert seen == (refused("write failed after 4096 bytes") if is_ignored else ended)
-    left = {name: text for name, text in office.there().items() if not name.startswith(".out.")}
-    assert left == before and (not is_ignored or office.there() == before)
+    left = {name: text for name, text in office.snapshot().items() if not name.startswith(".out.")}
+    assert left == before and (not is_ignored or office.snapshot() == before)
 
 
 @pytest.mark.parametrize("number", [signal.SIGTERM, signal.SIGINT, signal.SIGKILL])
 def test_a_run_that_is_ended_at_any_moment(office: Office, number: signal.Signals) -> None:
     whole = office.seen("compile", given=LONG)[1]
     office.path("long.txt").write_text(LONG)
-    before, draw = office.there(), random.Random(int(number))
+    before, draw = office.snapshot(), random.Random(int(number))
     for turn in range(60):
         office.path("out").write_text("before")
         child = office.start("compile", "long.txt", "-o", "out", stdin=subprocess.DEVNULL)
@@ -229,7 +229,7 @@ def test_a_run_that_is_ended_at_any_moment(office: Office, number: signal.Signal
         assert found == whole or found == b"before" and child.returncode != 0, turn
         for path in office.folder.glob(".out.*"):
             path.unlink()
-    assert office.there().keys() == before.keys()
+    assert office.snapshot().keys() == before.keys()
 
 
 @pytest.mark.parametrize("words", ["", "text", "text -", "text one.txt"])
@@ -252,10 +252,10 @@ def test_closed_streams(office: Office, streams: str) -> None:
     assert office.seen(*words, **how) == done("")
     assert office.path("out").read_text() == ONE_COLUMN
     # nothing that is said on a closed stream comes to stand in a file
-    before = office.there()
+    before = office.snapshot()
     assert office.seen("text", "form.csv", "-o", "out", **how)[0] == 1
     assert office.seen("text", "one.txt", **how)[0] == ("1" in streams)
-    assert office.there() == before
+    assert office.snapshot() == before
 
 
 def write_at_random(office: Office, draw: random.Random, place: int, text: str) -> str:
@@ -286,14 +286,14 @@ def test_random_lists_beside_the_joined_input(office: Office, block: int) -> Non
         names = [write_at_random(office, draw, *it) for it in enumerate(chosen)]
         target = draw.choice(["out", "gone/out", "-"])
         seen = office.seen("compile", "-o", target, "--", *names)
-        texts = [office.there().get(name) or b"" for name in names]
+        texts = [office.snapshot().get(name) or b"" for name in names]
         are_parts = all(text.startswith(b"%") for text in texts)
         if are_parts and all(text.endswith(b"\n") for text in texts[:-1]) and target != "gone/out":
             joined = b"".join(texts)
             status, output, faults = office.seen("compile", given=joined)
-            written = office.there().get("out", b"")
+            written = office.snapshot().get("out", b"")
             assert (seen[0], seen[1] + written) == (status, output), (turn, names)
             assert bool(seen[2]) == bool(faults), (turn, names)
         else:
-            assert seen[:2] == (1, b"") and "out" not in office.there(), (turn, names)
+            assert seen[:2] == (1, b"") and "out" not in office.snapshot(), (turn, names)
         assert seen[2].count(b"\n") == (seen[0] != 0), (turn, names)

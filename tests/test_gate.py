@@ -11,7 +11,7 @@ import time
 from types import SimpleNamespace
 
 import pytest
-from commands import ROOT, content, running, start, wait_for
+from commands import ROOT, read_text, find_processes, start, wait_for
 from gate import lanes, toolchain
 from gate.edits import Sources, edit_of
 from gate.said import is_within, findings_in
@@ -19,7 +19,7 @@ from gate.steps import Steps, counts_in
 from gate.trial import Trial
 from trials.judging import seen
 
-LIB = content("fixtures", "edits", "names.rt.txt")
+LIB = read_text("fixtures", "edits", "names.rt.txt")
 TAILS = "first second Name::new NameReader::new FaultFromHigh::from FaultFromLow::from".split()
 NAMES = [f"names::{name}" for name in TAILS]
 OPEN = "no proof: expected answers in ./proofs/x/Answers.antt; `search` did not prove `%s`"
@@ -301,8 +301,8 @@ steps.run_from([(str(n), ['sh', '-c', 'sleep 61.37 & wait']) for n in range(3)],
     how = {"stderr": subprocess.STDOUT, "env": {**os.environ, "STARTED_BY": mark}}
     ending = start([sys.executable, "-c", text], **how)
     # (itself, and of each of two steps the shell and what it waits for)
-    wait_for(lambda: len(running(mark)) == 5)
+    wait_for(lambda: len(find_processes(mark)) == 5)
     ending.send_signal(number)
     told = ending.communicate(timeout=20)[0]
     assert (ending.returncode, len(re.findall(rb"ended with status -9", told))) == (128 + number, 2)
-    assert running(mark) == []
+    assert find_processes(mark) == []

@@ -12,7 +12,7 @@ from hashlib import sha256
 from pathlib import Path
 
 import pytest
-from commands import ROOT, files_below
+from commands import ROOT, list_files
 from wdp import cli
 
 SYSTEM = "/usr/sbin:/usr/bin:/sbin:/bin"
@@ -77,11 +77,11 @@ COMPLETION = "share/bash-completion/completions/%s", "share/zsh/site-functions/_
 
 
 def test_it_installs_what_it_has_to_and_takes_away_what_an_older_one_left(tree, there):
-    wanted = {f"{to}/{it}" for of, to in INSTALLED.items() for it in files_below(tree / of)}
+    wanted = {f"{to}/{it}" for of, to in INSTALLED.items() for it in list_files(tree / of)}
     pages = ["wdp", "wdp-office", *(f"wdp-office-{it}" for it in OFFICE)]
     wanted |= {"bin/wdp", "bin/wdp-office", *(f"share/man/man1/{it}.1" for it in pages)}
     wanted |= {path % name for path in COMPLETION for name in COMMANDS}
-    assert wanted | OTHERS <= files_below(there) and not files_below(there) & STALE
+    assert wanted | OTHERS <= list_files(there) and not list_files(there) & STALE
     assert os.access(there / "bin/wdp", os.X_OK)
     assert not (there / "share/doc/wdp/README.md").stat().st_mode & 0o111
 
@@ -89,7 +89,7 @@ def test_it_installs_what_it_has_to_and_takes_away_what_an_older_one_left(tree, 
 def test_uninstall(tree, there, tmp_path):
     subprocess.run(["cp", "-a", there, tmp_path / "it"], check=True)
     assert make(tree, "uninstall", f"DESTDIR={tmp_path / 'it'}") == (0, "")
-    assert files_below(tmp_path / "it") == OTHERS
+    assert list_files(tmp_path / "it") == OTHERS
 
 
 def test_a_program_of_other_sources_is_not_installed(tree, tmp_path):
@@ -184,14 +184,14 @@ def test_the_pages_have_each_part_of_an_input():
 def test_the_package_for_debian(wdp, folder, tmp_path):
     """It has the program as it was built, and lintian finds no error but that of the licence, which is for a person to say."""
     tree = copied(folder / "built" / "tree", Path(wdp))
-    examples = files_below(tree / "examples")
+    examples = list_files(tree / "examples")
     env = {"PATH": SYSTEM, "LC_ALL": "C.UTF-8"}
     done = run("dpkg-buildpackage", "--no-sign", "-b", cwd=tree, env=env)
     assert done.returncode == 0, done.stdout[-2000:] + done.stderr[-2000:]
     package = next((folder / "built").glob("wdp_*.deb"))
     run("dpkg-deb", "-x", package, tmp_path, check=True)
     documents = tmp_path / "usr/share/doc/wdp"
-    assert examples == files_below(tree / "examples") == files_below(documents / "examples")
+    assert examples == list_files(tree / "examples") == list_files(documents / "examples")
     assert (documents / "CHANGELOG.md").is_file()
     programs = [path.read_bytes() for path in tmp_path.rglob("wdp") if path.is_file()]
     assert Path(wdp).read_bytes() in programs

@@ -13,8 +13,8 @@ from fractions import Fraction
 
 import pytest
 import tied_auctions as tied
-from commands import output
-from damage import damaged
+from commands import run_program
+from damage import damage_certificate
 from price_judge import KINDS, Audit, Untrue
 from priced_auctions import Costs, drawn
 from trials.judging import done, row, seen
@@ -46,9 +46,9 @@ class Trial:
         self.auction = auction
         self.rest = b"".join(it.head + it.text for it in parse_parts(audit) if it.kind not in KINDS)
         self.parts = {it.kind: it.text for it in parse_parts(audit) if it.kind in KINDS}
-        self.program = b"* " + output(wdp, "compile", text.encode()).split(b"* program ")[1]
+        self.program = b"* " + run_program(wdp, "compile", text.encode()).split(b"* program ")[1]
         self.first = read_program(self.program)
-        self.printed = output(wdp, "verify", self.rest)
+        self.printed = run_program(wdp, "verify", self.rest)
         self.report = package.Auction.from_text(self.rest, program=wdp).verify([], [])
 
     def costs(self) -> Costs:
@@ -198,7 +198,7 @@ def test_damaged_parts(wdp: str, first: int) -> None:
         trial = Trial(wdp, number)
         for damage in range(DAMAGES):
             kind = draw.choice(KINDS)
-            text, names = damaged(trial.parts[kind], "prices", f"{number} {damage}")
+            text, names = damage_certificate(trial.parts[kind], "prices", f"{number} {damage}")
             with row(f"auction {number}, {kind} damaged ({'+'.join(names)}): {text!r}"):
                 true += trial.try_with(**{kind: text})
     assert 0 < true < BLOCK * DAMAGES

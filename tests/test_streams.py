@@ -11,7 +11,7 @@ import tempfile
 from functools import partial
 
 import pytest
-from commands import ROOT, content
+from commands import ROOT, read_text
 from trials import cases
 from trials.judging import TIME_LIMIT, done, encoded, refusals, refused, row, seen, written_of
 from trials.worked import FOUR_COLUMNS, GAMMA, NO_COLUMN, ONE_COLUMN, SOLUTION_OF_ALL, WINNERS
@@ -203,7 +203,7 @@ def test_no_threads(failed, words, text, wanted, wants_some):
 @pytest.mark.parametrize("command", ["compile", "report", "verify"])
 def test_as_many_workers_as_the_words_say(failed, tmp_path, command, workers):
     """The caller is among them: what several start is that many threads more."""
-    verified = content("examples", "verified.txt")
+    verified = read_text("examples", "verified.txt")
     text = {"compile": LONG, "report": LONG_REPORT, "verify": verified}[command]
 
     def came(*words):

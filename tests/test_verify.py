@@ -12,8 +12,8 @@ import re
 
 import pytest
 import tied_auctions as tied
-from commands import ROOT, output
-from damage import damaged
+from commands import ROOT, run_program
+from damage import damage_certificate
 from oracle import Checker
 from trials.judging import KINDS, done, refused, row, seen
 from wdp.certify.layout import Layout
@@ -27,7 +27,7 @@ NUMBERS = {"tie": 0, "only": 1, "only nobody": 2, "tie by a bid without a column
 
 
 def programs_of(wdp, text):
-    pieces = output(wdp, "compile", text).split(b"* program ")[1:]
+    pieces = run_program(wdp, "compile", text).split(b"* program ")[1:]
     return [read_program(b"* " + piece) for piece in pieces]
 
 
@@ -150,7 +150,7 @@ def test_damaged(wdp, prepared, first):
     for number in range(first, first + DAMAGES):
         auction, is_whole = prepared[number % len(prepared)], number < len(prepared)
         whole = auction.damaged, []
-        certificate, names = whole if is_whole else damaged(auction.damaged, "1", number)
+        certificate, names = whole if is_whole else damage_certificate(auction.damaged, "1", number)
         with row(f"certificate {number} ({'+'.join(names)})"):
             wanted = auction.wanted(certificate)
             assert not is_whole or wanted == [done(auction.report)]

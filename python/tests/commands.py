@@ -27,45 +27,45 @@ EVIL = "x\ntotal 1\x1b[2K\r\u202e"
 
 
 # what a command comes to
-Seen = namedtuple("Seen", "status out err")
+CommandResult = namedtuple("Seen", "status out err")
 
 
-def rows(table):
+def parse_rows(table):
     """The rows of a table that is a text, a line each with cells between `|`; ⏎ is LF there, ␍ CR, and a line `# ..` a comment."""
     ends = str.maketrans("⏎␍", "\n\r")
     lines = [line for line in table.strip("\n").split("\n") if not line.startswith("# ")]
     return [tuple(cell.strip().translate(ends) for cell in line.split(" |")) for line in lines]
 
 
-def is_in(pattern, text):
+def matches(pattern, text):
     """Whether a line of a table is in a text; * is anything."""
     return re.search(re.escape(pattern).replace(r"\*", ".*"), text)
 
 
-def content(*names):
+def read_text(*names):
     return ROOT.joinpath(*names).read_bytes().decode()
 
 
-SCHEMA = jsonschema.Draft202012Validator(json.loads(content("docs", "results.schema.json")))
+SCHEMA = jsonschema.Draft202012Validator(json.loads(read_text("docs", "results.schema.json")))
 
 
-def files_below(folder):
+def list_files(folder):
     """The paths below a folder of all that is no folder, but of Python's compiled modules."""
     found = (path for path in folder.rglob("*") if path.is_symlink() or not path.is_dir())
     return {str(it.relative_to(folder)) for it in found if it.parent.name != "__pycache__"}
 
 
-def environment(**more):
+def make_environment(**more):
     own = {"PYTHONPATH": f"{ROOT}/python/src", "PYTHONDONTWRITEBYTECODE": "1"}
     return {**os.environ, **own, **more}
 
 
-def without(library, folder):
+def hide_library(library, folder):
     (folder / f"{library}.py").write_text("raise ImportError\n")
-    return {"env": environment(PYTHONPATH=f"{folder}:{ROOT}/python/src")}
+    return {"env": make_environment(PYTHONPATH=f"{folder}:{ROOT}/python/src")}
 
 
-def small_files(size):
+def limit_files(size):
     """How a command is started that can't write more bytes to a file."""
     return {"preexec_fn": lambda: resource.setrlimit(resource.RLIMIT_FSIZE, (size, size))}
 
@@ -74,14 +74,14 @@ def start(words, **how):
     """(A job that a shell runs beside others begins with the signal of an interrupt ignored.)"""
     own = dict.fromkeys(("stdout", "stderr"), subprocess.PIPE)
     own["preexec_fn"] = lambda: signal.signal(signal.SIGINT, signal.SIG_DFL)
-    how = {"stdin": subprocess.DEVNULL, "env": environment(), **own, **how}
+    how = {"stdin": subprocess.DEVNULL, "env": make_environment(), **own, **how}
     return subprocess.Popen(list(map(str, words)), **how)
 
 
-def ended(started, data=None, own="Traceback"):
+def finish(started, data=None, own="Traceback"):
     """What a process comes to. Whatever it is given, it ends in no traceback; `own` is what one of ours would print."""
     out, err = (text or b"" for text in started.communicate(data, timeout=900))
-    seen = Seen(started.returncode, out.decode(), err.decode())
+    seen = CommandResult(started.returncode, out.decode(), err.decode())
     assert own not in seen.out + seen.err, seen.out + seen.err
     return seen
 
@@ -91,27 +91,27 @@ def run(*words, data=None, **how):
     if data is not None:
         how["stdin"] = subprocess.PIPE
     if how:
-        return ended(start([sys.executable, "-m", "wdp", *words], **how), data)
+        return finish(start([sys.executable, "-m", "wdp", *words], **how), data)
     streams = [io.TextIOWrapper(io.BytesIO(), write_through=True) for _ in range(2)]
     with contextlib.redirect_stdout(streams[0]), contextlib.redirect_stderr(streams[1]):
         try:
             status = cli.main(list(map(str, words)))
         except SystemExit as stopped:
             status = int(stopped.code or 0)
-    return Seen(status, *(each.buffer.getvalue().decode() for each in streams))
+    return CommandResult(status, *(each.buffer.getvalue().decode() for each in streams))
 
 
-def stopped(seen, *parts, status=1):
+def check_stopped(seen, *parts, status=1):
     """A command that ended early, with these words, and no output."""
     assert (seen.status, seen.out) == (status, ""), seen
     assert "Traceback" not in seen.err and all(part in seen.err for part in parts), seen.err
 
 
-def output(wdp, command, data):
+def run_program(wdp, command, data):
     return subprocess.run([wdp, command], input=data, capture_output=True, check=True).stdout
 
 
-def script(path, text):
+def write_script(path, text):
     path.write_text("#!/bin/sh\n" + text + "\n")
     path.chmod(0o755)
     return path
@@ -124,7 +124,7 @@ def wait_for(holds, seconds=300):
         time.sleep(0.01)
 
 
-def running(mark):
+def find_processes(mark):
     """The processes that have this in their surroundings."""
     found = []
     for path in Path("/proc").glob("[0-9]*/environ"):
@@ -143,13 +143,13 @@ REST = """rest() { cbc "$1" -solve -solu cbc.txt > /dev/null \\
 """
 
 
-def solver(folder, text):
+def write_solver(folder, text):
     """A solver that is a script: $1 is the program, which has Beta's bid X2_1 in groups 1 and 2 alone, $2 the answer."""
-    path = script(folder / "solver", REST + text)
+    path = write_script(folder / "solver", REST + text)
     return ["--solver-command", f"{path} {{free}} {{out}}"]
 
 
-class Auction:
+class AuctionFolder:
     """A folder with an auction, and its runs, of which no process is left."""
 
     def __init__(self, where, wdp, data=WORKED):
@@ -167,26 +167,26 @@ class Auction:
     def read(self, name):
         return (self.where / name).read_bytes()
 
-    def surroundings(self, **more):
-        return environment(WDP=self.wdp, STARTED_BY=self.mark, **more)
+    def make_environment(self, **more):
+        return make_environment(WDP=self.wdp, STARTED_BY=self.mark, **more)
 
     def start(self, *words, folder=True, stdin=subprocess.DEVNULL, stderr=subprocess.PIPE, **more):
         place = [self.where] if folder else []
         command = [sys.executable, COMMAND, "auction", *place, "--jobs", 2, *words]
-        return start(command, stdin=stdin, stderr=stderr, env=self.surroundings(**more))
+        return start(command, stdin=stdin, stderr=stderr, env=self.make_environment(**more))
 
     def run(self, *words, data=None, **how):
-        seen = ended(self.start(*words, stdin=subprocess.PIPE, **how), data)
-        assert running(self.mark) == []
+        seen = finish(self.start(*words, stdin=subprocess.PIPE, **how), data)
+        assert find_processes(self.mark) == []
         return seen
 
-    def said(self, *words, status=0, **how):
+    def read_messages(self, *words, status=0, **how):
         """The messages of a run that ends with this status."""
         seen = self.run(*words, **how)
         assert seen.status == status, seen
         return seen.err
 
-    def outcome(self):
+    def read_outcome(self):
         return self.read("report.txt"), self.read("audit.txt")
 
 
@@ -195,7 +195,7 @@ OFFICE = ROOT / "fixtures/office/folder"
 BY_HAND = (OFFICE / "joined.txt").read_text()
 
 
-class Office:
+class OfficeFolder:
     """A folder with the rules, the groups and nine forms, each as another spreadsheet or editor exports it: nothing is wrong."""
 
     def __init__(self, folder):
@@ -203,7 +203,7 @@ class Office:
         names = ("rules.csv", "forms", "groups.txt")
         self.files = self.rules, self.forms, self.groups = [folder / name for name in names]
 
-    def there(self):
+    def snapshot(self):
         """What is in the folder, how large it is, and when it was changed."""
         paths = {path: path.lstat() for path in self.folder.rglob("*")}
         return {path: (its.st_size, its.st_mtime_ns) for path, its in paths.items()}
@@ -219,10 +219,10 @@ class Office:
     def explain(self, *words):
         return run("explain", *self.files, *words).out.splitlines()
 
-    def refused(self, *words):
+    def list_faults(self, *words):
         """The lines of the faults, without the folder's path; the same of gather and of explain."""
         seen = self.gather(*words)
-        stopped(seen)
+        check_stopped(seen)
         *lines, _ = seen.err.splitlines()
         assert self.explain(*words)[: len(lines)] == lines
         return [line.replace(f"{self.folder}/", "") for line in lines]

@@ -7,23 +7,23 @@ sys.modules.update(dict.fromkeys(os.environ.get("WITHOUT_LIBRARIES", "").split()
 
 import pytest  # noqa: E402
 
-from commands import Auction, Office  # noqa: E402
+from commands import AuctionFolder, OfficeFolder  # noqa: E402
 
 
 @pytest.fixture
 def office(tmp_path):
-    return Office(tmp_path)
+    return OfficeFolder(tmp_path)
 
 
 @pytest.fixture
 def auction(tmp_path, wdp):
-    return Auction(tmp_path / "an auction's $(folder)", wdp)
+    return AuctionFolder(tmp_path / "an auction's $(folder)", wdp)
 
 
 @pytest.fixture(scope="session")
 def whole(tmp_path_factory, wdp):
-    auction = Auction(tmp_path_factory.mktemp("whole") / "auction", wdp)
-    auction.said("--ties")
+    auction = AuctionFolder(tmp_path_factory.mktemp("whole") / "auction", wdp)
+    auction.read_messages("--ties")
     return auction
 
 

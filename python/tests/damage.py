@@ -22,7 +22,7 @@ WORDS += [b"7" * 40, b"-" + b"9" * 40, b"0" * 31, b"0" * 29 + b"1", b""]
 LINES = b"|# a comment| # not one|\t \t|bound 0|bound 1|split 0|end|\r|\0".split(b"|")
 
 
-def changed(draw, pieces, others):
+def change_piece(draw, pieces, others):
     """One piece is another one, missing, doubled or new, or two have changed places."""
     pieces, at, other = list(pieces), *draw.choices(range(len(pieces) or 1), k=2)
     what, new = draw.randrange(5), draw.choice(others)
@@ -35,7 +35,7 @@ def changed(draw, pieces, others):
     return pieces
 
 
-def near(draw, text):
+def change_number(draw, text):
     """One number is one more or one less, or of another size."""
     found = draw.choice([*re.finditer(rb"-?[0-9]{1,100}", text)] or [None])
     if not found:
@@ -45,18 +45,18 @@ def near(draw, text):
     return text[: found.start()] + b"%d" % draw.choice(others) + text[found.end() :]
 
 
-def of_line(draw, text, separator, others):
+def change_line(draw, text, separator, others):
     lines = text.split(b"\n")
     at = draw.randrange(len(lines))
-    lines[at] = separator.join(changed(draw, lines[at].split(separator), others))
+    lines[at] = separator.join(change_piece(draw, lines[at].split(separator), others))
     return b"\n".join(lines)
 
 
 # (below the first sides of deep splits leaves want as many multipliers more)
 OF_CERTIFICATE = {
-    "number": near,
-    "word": lambda draw, text: of_line(draw, text, b" ", WORDS),
-    "line": lambda draw, text: b"\n".join(changed(draw, text.split(b"\n"), LINES)),
+    "number": change_number,
+    "word": lambda draw, text: change_line(draw, text, b" ", WORDS),
+    "line": lambda draw, text: b"\n".join(change_piece(draw, text.split(b"\n"), LINES)),
     "after": lambda draw, text: text + draw.choice(LINES) + b"\n",
     "spaces": lambda draw, text: text.replace(b" ", draw.choice([b"  ", b"\t", b" \t "]), 3),
     "deep": lambda draw, text: b"split 0\n" * draw.choice([1, 2, 50, 5000]) + text,
@@ -64,7 +64,7 @@ OF_CERTIFICATE = {
 }
 
 
-def damaged(text, seed, number):
+def damage_certificate(text, seed, number):
     """The damaged certificate of this number, and the names of its damages."""
     draw = random.Random(f"{seed} {number}")
     weights, count = (6, 6, 4, 1, 1, 1, 1), draw.choice([1, 1, 1, 2, 3])
@@ -74,17 +74,17 @@ def damaged(text, seed, number):
     return text, names
 
 
-def damaged_input(text, seed):
+def damage_input(text, seed):
     """An input with one to three damages: of its lines, of a line's fields, or of bytes; or it ends early."""
     draw = random.Random(seed)
     for _ in range(draw.randrange(1, 4)):
         what, lines = draw.randrange(7), text.splitlines(keepends=True)
         if what == 0:
-            text = b"".join(changed(draw, lines, lines or BYTES))
+            text = b"".join(change_piece(draw, lines, lines or BYTES))
         elif what < 6:
-            text = of_line(draw, text, b",", FIELDS)
+            text = change_line(draw, text, b",", FIELDS)
         else:
             at = draw.randrange(len(text) + 1)
-            piece = b"".join(changed(draw, [text[at : at + 1]], BYTES))
+            piece = b"".join(change_piece(draw, [text[at : at + 1]], BYTES))
             text = text[:at] + (piece + text[at + 1 :] if draw.randrange(16) else b"")
     return text

@@ -12,7 +12,7 @@ from decimal import Decimal
 
 import pytest
 import workbooks
-from commands import content, is_in, rows
+from commands import read_text, matches, parse_rows
 
 import wdp
 from wdp import example
@@ -39,7 +39,7 @@ ALPHA, BETA, GAMMA, ALL = ("Alpha", 1, 30), ("Beta", 1, 20), ("Gamma", 1, 12), (
 EXPECTED = [((), [ALPHA, BETA, GAMMA], 62, 0), (("Alpha",), [BETA, GAMMA], 32, 0)]
 EXPECTED += [(("Beta",), [ALL], 50, 8), (("Beta", "Gamma"), [ALL], 50, 20)]
 # docs/REFERENCE.md: cost -12 of bidder 3's bid, which is in the rows of its bidder and of the second category
-SMALLEST = re.search("```\n(NAME wdp\n.*?)```", content("docs", "REFERENCE.md"), re.DOTALL)[1]
+SMALLEST = re.search("```\n(NAME wdp\n.*?)```", read_text("docs", "REFERENCE.md"), re.DOTALL)[1]
 SOLUTIONS, CERTIFICATES = example.SOLUTIONS, example.CERTIFICATES
 FORGED = "Alpha,A,B\n30,1,0\n%form\nBeta,A,B\n99,1,0\n"
 auction, from_files = wdp.Auction.from_text(example.INPUT), wdp.Auction.from_files
@@ -67,7 +67,7 @@ def values_of(report):
 
 
 def assert_worked(auction):
-    assert auction.input().decode() == content("examples", "worked.txt")
+    assert auction.input().decode() == read_text("examples", "worked.txt")
     assert values_of(auction.report(SOLUTIONS)) == EXPECTED
 
 
@@ -80,7 +80,7 @@ def refused(call, names="kind bidder row column"):
     return [getattr(caught.value, name) for name in names.split()]
 
 
-@pytest.mark.parametrize("calls, wanted", rows(content("fixtures", "package", "calls.txt")))
+@pytest.mark.parametrize("calls, wanted", parse_rows(read_text("fixtures", "package", "calls.txt")))
 def test_calls(tmp_path, monkeypatch, calls, wanted):
     monkeypatch.chdir(tmp_path)
     parts = [part.partition("\n")[2] for part in example.INPUT.split("%")[1:3]]
@@ -90,8 +90,8 @@ def test_calls(tmp_path, monkeypatch, calls, wanted):
     for name, text in texts.items():
         (tmp_path / name).write_bytes(text.encode())
     lines = [[int(x) if x.isdecimal() else x for x in line.split(",")] for line in parts[1].split()]
-    (tmp_path / "Alpha.xlsx").write_bytes(workbooks.written(lines))
-    (tmp_path / "hidden.xlsx").write_bytes(workbooks.written(lines, workbooks.hide_row))
+    (tmp_path / "Alpha.xlsx").write_bytes(workbooks.write_rows(lines))
+    (tmp_path / "hidden.xlsx").write_bytes(workbooks.write_rows(lines, workbooks.hide_row))
     os.mkfifo("pipe")
     os.symlink("loop", "loop")
     for call in calls.split("; "):
@@ -100,7 +100,7 @@ def test_calls(tmp_path, monkeypatch, calls, wanted):
         except wdp.Refused as error:
             assert str(error).isprintable()
             found = f"{type(error).__name__}: {error}"
-        assert is_in(f"^{wanted}$", f"^{found}$"), (call, found)
+        assert matches(f"^{wanted}$", f"^{found}$"), (call, found)
 
 
 GIVEN = [
@@ -120,7 +120,7 @@ def test_auctions_of_texts_records_and_files(tmp_path):
     for path, text in zip(paths, parts):
         path.write_text(text)
     assert_worked(wdp.Auction.from_files(paths[0], paths[1:4], paths[4]))
-    wanted = content("examples", "worked_pool.txt").split("%form")[0]
+    wanted = read_text("examples", "worked_pool.txt").split("%form")[0]
     rules = [{"record": "rules", "version": 3, "step": 1}]
     for kind, *values in (line.split(",") for line in wanted.splitlines()[2:]):
         rules.append({"record": kind, "value": None, **dict(zip(FIELDS[kind].split(), values))})
@@ -141,11 +141,11 @@ def test_docstrings_and_the_example_are_of_the_tree():
             assert tried.failed == 0
             count += tried.attempted
     assert count > 10
-    assert example.INPUT == content("examples", "worked.txt")
-    first, *parts = content("examples", "verified.txt").split("%certificate\n")
+    assert example.INPUT == read_text("examples", "worked.txt")
+    first, *parts = read_text("examples", "verified.txt").split("%certificate\n")
     assert tuple(part[part.index("bound") :] for part in parts) == CERTIFICATES
     assert tuple(first.split("%solution\n")[1:]) == SOLUTIONS
-    unique = content("cases", "verify_worked_is_unique", "stdin").split("%unique\n")[1]
+    unique = read_text("cases", "verify_worked_is_unique", "stdin").split("%unique\n")[1]
     assert unique == example.UNIQUE
 
 
@@ -247,7 +247,7 @@ PIECES = "part number kind kind_number at record line field".split()
 def test_the_pieces_of_a_refusal():
     """(tests/test_cases.py has those of each line that docs/REFERENCE.md promises.)"""
     long = "form 1: 2 Header at record " + "9" * 5000, " ".join(["None"] * 8)
-    for line, values in [*rows(content("fixtures", "package", "refusals.txt")), long]:
+    for line, values in [*parse_rows(read_text("fixtures", "package", "refusals.txt")), long]:
         refused = wdp.Refused("wdp: " + line)
         assert " ".join(str(getattr(refused, name)) for name in PIECES) == values
     assert str(wdp.Refused("a\nb\x1b\u2028")) == "a\\nb\\x1b\\u2028"

@@ -4,7 +4,7 @@ import re
 import subprocess
 
 import pytest
-from commands import EXAMPLES, ROOT, content, environment, output, rows
+from commands import EXAMPLES, ROOT, read_text, make_environment, run_program, parse_rows
 
 BENCH = ROOT / "bench"
 # what isn't run: modules that scripts import, and what `hostile` compiles
@@ -26,7 +26,7 @@ near_target 4 6 4 5 --winners 4 --variant 2 | 24 5
 def run_script(wdp, words, status=0):
     ran = subprocess.run(
         [BENCH / words[0], *map(str, words[1:])],
-        env=environment(WDP=wdp),
+        env=make_environment(WDP=wdp),
         capture_output=True,
         text=True,
         timeout=600,
@@ -35,12 +35,12 @@ def run_script(wdp, words, status=0):
     return ran.stdout
 
 
-@pytest.mark.parametrize("words, size", rows(GENERATORS))
+@pytest.mark.parametrize("words, size", parse_rows(GENERATORS))
 def test_generators(wdp, words, size):
     text = run_script(wdp, words.split())
     assert text == run_script(wdp, words.split())
     most, groups = map(int, size.split())
-    programs = output(wdp, "compile", text.encode()).split(b"* program ")[1:]
+    programs = run_program(wdp, "compile", text.encode()).split(b"* program ")[1:]
     assert len(programs) == groups
     # (a bid that another one beats has no column)
     assert 1 <= programs[0].count(b" OBJ ") <= most + 1
@@ -72,7 +72,7 @@ def test_scripts_that_measure(wdp, name):
 
 
 def test_each_script_is_run():
-    run = {words.split()[0] for words, _ in rows(GENERATORS)} | {*MEASURING}
+    run = {words.split()[0] for words, _ in parse_rows(GENERATORS)} | {*MEASURING}
     assert run == {*os.listdir(BENCH)} - PARTS
     for name in run:
         assert os.access(BENCH / name, os.X_OK)
@@ -89,5 +89,5 @@ def test_each_kind_of_hostile_text_is_printed(wdp):
 
 
 def test_the_page_names_scripts_that_are_there():
-    named = re.findall(r"`bench/(\w+)", content("bench", "README.md"))
+    named = re.findall(r"`bench/(\w+)", read_text("bench", "README.md"))
     assert {*named} <= {*os.listdir(BENCH)}

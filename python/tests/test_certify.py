@@ -9,8 +9,8 @@ import re
 import subprocess
 
 import pytest
-from commands import content, rows, run, script, without
-from damage import OF_CERTIFICATE, damaged
+from commands import read_text, parse_rows, run, write_script, hide_library
+from damage import OF_CERTIFICATE, damage_certificate
 from oracle import Checker
 from tied_auctions import subsets
 
@@ -207,7 +207,7 @@ def test_limits():
         OnlySearch(Layout(program), [best], 1e-9, lambda text: None).certificate()
 
 
-SMALL = content("fixtures", "solvers", "three.mps").encode()
+SMALL = read_text("fixtures", "solvers", "three.mps").encode()
 BEST, WORSE = b"X1_1 1\nX2_1 1\nX3_1 1\n", b"X1_2 1\n"
 CHECKER = Checker(read_program(SMALL))
 
@@ -236,7 +236,7 @@ def test_the_command(folder):
 
 
 def test_a_missing_package(folder):
-    seen = run("certify", "p.mps", "best", **without("swiglpk", folder))
+    seen = run("certify", "p.mps", "best", **hide_library("swiglpk", folder))
     assert seen.status == 1 and "apt-get install -y python3-swiglpk" in seen.err
 
 
@@ -260,7 +260,7 @@ def test_sizes_depth_and_damages():
     for zeros, kind in ((depth, "NotShown"), (depth - 1, "Fields")):
         assert checker.verdict(-2, many + b"bound 1" + b" 0" * zeros).fault == (depth + 1, kind)
     for number in range(1500):
-        text, names = damaged(SHOWN, "kinds", number)
+        text, names = damage_certificate(SHOWN, "kinds", number)
         fault = checker.verdict(-2, text).fault
         kinds.update(names, [fault.kind if fault else "shown"])
         assert checker.verdict(-1, text).fault is not None, names
@@ -312,14 +312,14 @@ Optimal - objective value -62⏎  0 X1_1 1 | a line that isn't understood
 
 
 def test_answers_of_cbc():
-    for text, said in rows(OF_CBC):
+    for text, said in parse_rows(OF_CBC):
         with pytest.raises(Refused, match=said):
             solve.of_cbc(text.encode() + b"\n")
 
 
 def test_a_solver_that_does_not_end(tmp_path, monkeypatch):
     monkeypatch.setattr(solve, "LONGEST_GRACE", 1)
-    endless = f"'{script(tmp_path / 'a solver', 'sleep 7000')}' {{mps}}"
+    endless = f"'{write_script(tmp_path / 'a solver', 'sleep 7000')}' {{mps}}"
     with pytest.raises(NotSolved, match="overstepped its limit of 1 s and was ended") as failed:
         solve.point_of(SMALL, endless, 1)
     assert failed.value.status == solve.TIME_OUT

@@ -5,7 +5,7 @@ import signal
 import subprocess
 import sys
 
-from commands import ROOT, WORKED, content, ended, files_below, run, start
+from commands import ROOT, WORKED, read_text, finish, list_files, run, start
 
 import wdp
 from wdp import cli
@@ -43,12 +43,12 @@ def test_it_is_found_through_a_link_and_in_a_tree_at_a_strange_path(tmp_path):
     link, place = tmp_path / "a link", tmp_path / "a $(touch x) 'tree' {0}\n"
     link.symlink_to(TOOL)
     how = {"cwd": tmp_path, "env": {"PATH": "/usr/bin:/bin"}}
-    assert ended(start([link, "--version"], **how)) == (0, f"wdp-office {wdp.__version__}\n", "")
+    assert finish(start([link, "--version"], **how)) == (0, f"wdp-office {wdp.__version__}\n", "")
     link.unlink()
     place.symlink_to(ROOT)
     how = {"cwd": tmp_path, "stdin": subprocess.PIPE, "env": dict(os.environ)}
-    seen = ended(start([place / "wdp-office", "auction", "--solver", "highs"], **how), WORKED)
-    assert seen.out == content("examples", "worked.report.txt"), seen.err
+    seen = finish(start([place / "wdp-office", "auction", "--solver", "highs"], **how), WORKED)
+    assert seen.out == read_text("examples", "worked.report.txt"), seen.err
     assert os.listdir(tmp_path) == [place.name]
 
 
@@ -65,16 +65,16 @@ def test_standard_output_that_fails_and_an_interrupt_are_one_line(office):
         tool = start([TOOL, *words, office.folder / "never"])
         with open(office.folder / "never", "wb"):  # the command reads now
             tool.send_signal(signal.SIGINT)
-            assert ended(tool) == (130, "", f"{words[0]}: interrupted\n")
+            assert finish(tool) == (130, "", f"{words[0]}: interrupted\n")
 
 
-def functions(path):
+def list_functions(path):
     nodes = ast.walk(ast.parse(path.read_text()))
     return [each for each in nodes if isinstance(each, ast.FunctionDef)]
 
 
 def test_public_functions_have_docstrings():
-    for node in [each for name in PUBLIC for each in functions(SOURCE / f"{name}.py")]:
+    for node in [each for name in PUBLIC for each in list_functions(SOURCE / f"{name}.py")]:
         assert node.name.startswith("_") or ast.get_docstring(node), node.name
 
 
@@ -83,8 +83,8 @@ def test_pip_installs_it_without_a_network(tmp_path):
     words = "-m pip install -q --no-build-isolation --no-index --no-compile --target".split()
     how = {"PATH": "/usr/bin:/bin", "PIP_DISABLE_PIP_VERSION_CHECK": "1", "HOME": str(tmp_path)}
     made = start([sys.executable, *words, tmp_path / "to", tmp_path / "python"], env=how)
-    assert ended(made).status == 0
-    assert files_below(tmp_path / "to" / "wdp") == files_below(SOURCE)
+    assert finish(made).status == 0
+    assert list_files(tmp_path / "to" / "wdp") == list_files(SOURCE)
     text = "import wdp, wdp.program; print(wdp.__version__, wdp.program._find_tree())\n"
     text += "wdp.Auction.from_text('').check('ENDATA')"
     how = {"cwd": tmp_path, "env": {**os.environ, "PYTHONPATH": str(tmp_path / "to")}}

@@ -5,7 +5,7 @@ import subprocess
 import sys
 
 import pytest
-from commands import ROOT, content
+from commands import ROOT, read_text
 
 BLOCK = re.compile(r"^```([a-z]*)(?: ([^\n]*))?\n(.*?)^```$", re.MULTILINE | re.DOTALL)
 A_COMMAND = re.compile(r"(\./|sed |mkdir |PATH=|apt-get |pip )")
@@ -36,7 +36,7 @@ def clone(tmp_path, wdp):
 def steps(page):
     """The commands of a page, each with what is shown of its output, if that is; and the files that it shows."""
     commands, pieces = [], []
-    for kind, _, text in BLOCK.findall(content(*page.split("/"))):
+    for kind, _, text in BLOCK.findall(read_text(*page.split("/"))):
         if text.startswith("$ "):
             shown = re.split(r"^\$ ", text, flags=re.MULTILINE)[1:]
             commands += [step.partition("\n")[::2] for step in shown]
@@ -67,11 +67,11 @@ def test_the_commands_of_a_page(clone, page, least):
     assert len(commands) >= least
     if page == "docs/OFFICE.md":
         for name, example in LEFT.items():
-            assert (folder / name).read_text() == content("examples", f"{example}.report.txt")
+            assert (folder / name).read_text() == read_text("examples", f"{example}.report.txt")
         assert "Optimal - objective value -50" in (folder / "solution.txt").read_text()
         assert not pieces
     else:
-        examples = [content("examples", f"worked{it}.txt") for it in ("", ".report")]
+        examples = [read_text("examples", f"worked{it}.txt") for it in ("", ".report")]
         assert [beside(piece) for piece in pieces] == examples
 
 
@@ -80,7 +80,7 @@ def test_python(clone):
     for name in ("numpy", "pandas", "scipy", "swiglpk"):
         pytest.importorskip(name, reason=f"{name} isn't there")
     folder, run = clone
-    blocks = BLOCK.findall(content("docs", "PYTHON.md"))
+    blocks = BLOCK.findall(read_text("docs", "PYTHON.md"))
     assert {kind for kind, _, _ in blocks} == {"csv", "python", "sh"}
     texts = [text for kind, _, text in blocks if kind == "python"]
     for name, text in ((name, text) for kind, name, text in blocks if kind == "csv"):

@@ -9,8 +9,8 @@ import shutil
 import subprocess
 
 import pytest
-from commands import EVIL, EXAMPLES, ROOT, content, rows, run, script, stopped
-from damage import ACCEPTED, damaged_input
+from commands import EVIL, EXAMPLES, ROOT, read_text, parse_rows, run, write_script, check_stopped
+from damage import ACCEPTED, damage_input
 
 from wdp import files
 from wdp.office.judge import explain, parse_finding
@@ -30,7 +30,7 @@ IN_BRACKETS = re.compile(r"\(wdp: (.*?)(?:, earlier bid \d+)?\)$")
 ALIKE = re.compile("nothing but zeros|s between (its|their) fields|more faults")
 
 
-def lines_of(folder, text):
+def explain_lines(folder, text):
     """What explain prints of an input, without its path."""
     path = folder / "input.txt"
     path.write_bytes(text)
@@ -39,11 +39,11 @@ def lines_of(folder, text):
     return seen.out.replace(str(path), "").splitlines()
 
 
-def by_hand(name):
+def read_by_hand(name):
     """An input made by hand, and the lines of its faults, which follow each line that has some. It has what spreadsheets write:
     CR LF, quotes, a field over two lines, empty lines, a byte order mark (⌂)."""
     text, faults = "", []
-    for line in content("fixtures", "office", name).splitlines():
+    for line in read_text("fixtures", "office", name).splitlines():
         if line.startswith("  ^ "):
             faults.append(f":{text.count(chr(10))}{line[4:]}")
         else:
@@ -52,16 +52,16 @@ def by_hand(name):
 
 
 def test_each_fault_of_an_input(tmp_path):
-    text, faults = by_hand("by_hand.txt")
+    text, faults = read_by_hand("by_hand.txt")
     # forms come before groups, which are in lines 1 to 5
     wanted = sorted(faults, key=lambda line: int(line.split(":")[1]) < 6)
-    assert lines_of(tmp_path, text) == [*wanted, f"{len(wanted)} faults"]
-    text, faults = by_hand("rules_by_hand.txt")
+    assert explain_lines(tmp_path, text) == [*wanted, f"{len(wanted)} faults"]
+    text, faults = read_by_hand("rules_by_hand.txt")
     for each in (text, b"%rules\n" + text[7:].replace(b"\n", b"\r")):
-        assert lines_of(tmp_path, each) == [*faults, AFTER, f"{len(faults)} faults"]
+        assert explain_lines(tmp_path, each) == [*faults, AFTER, f"{len(faults)} faults"]
 
 
-def assert_in_place(line, texts):
+def check_place(line, texts):
     """The value that a fault quotes is in the file at the place that the fault names."""
     assert line.isprintable() and len(line) < 1_000, line
     found = QUOTED.match(line)
@@ -75,8 +75,8 @@ def assert_in_place(line, texts):
 def test_damaged_inputs(tmp_path, wdp, version):
     """Each of the program's lines comes out once, unless rows are alike, and at its place."""
     for seed in range(DAMAGES):
-        text = damaged_input(ACCEPTED[version], seed)
-        *lines, _ = lines_of(tmp_path, text)
+        text = damage_input(ACCEPTED[version], seed)
+        *lines, _ = explain_lines(tmp_path, text)
         done = subprocess.run([wdp, "explain"], input=text, capture_output=True)
         found = OF_PROGRAM.findall(done.stdout.decode("ascii"))
         said = [refusal for line in lines for refusal in IN_BRACKETS.findall(line)]
@@ -86,19 +86,19 @@ def test_damaged_inputs(tmp_path, wdp, version):
         decoded = text.decode("utf-8", "replace")
         texts = {} if re.search("\r(?!\n)", decoded.partition("%groups")[2]) else {"": decoded}
         for line in lines:
-            assert_in_place(line, texts)
+            check_place(line, texts)
 
 
 def test_each_fault_of_each_file(office):
     (office.forms / "Bee.csv").unlink()
     shutil.copytree(ROOT / "fixtures/office/faulty", office.folder, dirs_exist_ok=True)
-    assert office.refused() == (office.folder / "faults.txt").read_text().splitlines()
+    assert office.list_faults() == (office.folder / "faults.txt").read_text().splitlines()
     rules = "sep=;\nrules;2;1,5;;;;\n;;;;;;\ncategory;Low;6;1000;2;;\nbidder;Ant;20;1;;;\n"
     office.write("rules.csv", rules.encode("utf-16"))
     comma, empty = "it has a comma; write digits alone", "the field is empty"
     faults = f"2:9: '1,5' isn't 1 to 18 digits: {comma}", f"4:23: '' isn't 1 to 18 digits: {empty}"
     assert office.explain() == [*(f"{office.rules}:{it}" for it in faults), AFTER, "2 faults"]
-    stopped(office.gather(), *faults)
+    check_stopped(office.gather(), *faults)
 
 
 NAMES = (
@@ -120,7 +120,7 @@ def damage(choice, folder):
         if what == 3:
             path.write_bytes(text[: choice.randrange(len(text))])
         if what > 3:
-            path.write_bytes(damaged_input(text, choice.randrange(10**9)))
+            path.write_bytes(damage_input(text, choice.randrange(10**9)))
 
 
 @pytest.mark.parametrize("seed", range(DAMAGES * 2))
@@ -139,9 +139,9 @@ def test_a_damaged_folder(tmp_path, seed):
             is_wide = (data := path.read_bytes())[:2] in (b"\xff\xfe", b"\xfe\xff")
             texts[str(path)] = data.decode("utf-16" if is_wide else "utf-8-sig", "replace")
     if seen.status:
-        stopped(seen, "nothing is written")
+        check_stopped(seen, "nothing is written")
         for line in seen.err.splitlines():
-            assert_in_place(line, texts)
+            check_place(line, texts)
     bids = [re.findall("[0-9]+", text) for text in texts.values()]
     for joined in seen.out.split("%groups")[0].split("%form\n")[1:]:
         assert re.findall("[0-9]+", joined) in bids
@@ -182,7 +182,7 @@ def test_a_line_break_in_a_name_forges_no_line(office):
 def test_an_older_program_and_odd_names(tmp_path):
     # one without details, and one that counts
     for said in ("input: wrong number of rules", "rules: 1 TooLarge; echo and 12 more"):
-        program = script(tmp_path / "wdp", f"echo {said}; exit 1")
+        program = write_script(tmp_path / "wdp", f"echo {said}; exit 1")
         found = explain(str(program), b"x" * 1_000_000)
         assert [each.refusal for each in found.findings] == [said.split(";")[0]]
         assert found.more == 12 * ("12" in said)
@@ -210,7 +210,7 @@ def test_an_accepted_input_is_read_however_it_is_written():
 
 
 def test_records_and_what_is_written_is_read_back():
-    for text, wanted in rows(content("fixtures", "office", "records.txt")):
+    for text, wanted in parse_rows(read_text("fixtures", "office", "records.txt")):
         fields = [line.split(" ") for line in wanted.split("/") if line]
         shown = [["" if it == "#" else it.replace("_", " ") for it in row] for row in fields]
         assert [row.values for row in Records(text)] == shown

@@ -11,7 +11,7 @@ from pathlib import Path
 import openpyxl
 import pytest
 import workbooks
-from commands import BIDDERS, BY_HAND, content, rows, run, small_files, stopped
+from commands import BIDDERS, BY_HAND, read_text, parse_rows, run, limit_files, check_stopped
 
 import wdp
 from wdp.files import Unreadable
@@ -59,10 +59,10 @@ def test_the_receipt_has_both_digests_and_parts_are_written(office):
     # it is written anew, but no other file is lost
     assert office.gather(*words).status == 0
     (parts / "mine.txt").write_text("kept")
-    stopped(office.gather(*words), "it has other files, as mine.txt")
+    check_stopped(office.gather(*words), "it has other files, as mine.txt")
     for folder in (office.forms, office.folder, office.forms / "parts", "-"):
         seen = office.gather("--parts", folder)
-        stopped(seen, "has other files, or is read in the next run; name a new folder", status=2)
+        check_stopped(seen, "has other files, or is read in the next run; name a new folder", status=2)
 
 
 PIECES = ["a", "1", "12", "%x", "\ufeff", ",", ";", "\t", '"', '""', '"a,b"', " ", "\n", "\r\n", "\r", "\n\n"]
@@ -90,9 +90,9 @@ def test_times_have_no_last_year():
 
 def test_both_files_are_written_or_neither_and_a_link_stays_one(office):
     words = "--output", office.write("input.txt", "older"), "--receipt", office.folder / "receipt"
-    before = office.there()
-    stopped(office.gather(*words, **small_files(2_000)), f"{words[3]}: File too large\n")
-    assert office.there() == before
+    before = office.snapshot()
+    check_stopped(office.gather(*words, **limit_files(2_000)), f"{words[3]}: File too large\n")
+    assert office.snapshot() == before
     words[3].symlink_to("elsewhere.txt")
     seen = office.gather(*words)
     assert (seen.status, words[1].read_text()) == (0, BY_HAND)
@@ -157,14 +157,14 @@ def test_workbooks(office, workbook):
     assert "1 formula taken by their stored values: A2" in seen.err
     workbook(SHEET, more=["Final"])
     why = "its sheet 'Final' begins as a form does, too; say --sheet NAME for the one that counts"
-    assert office.refused() == [f"forms/Fox.xlsx: {why}"]
+    assert office.list_faults() == [f"forms/Fox.xlsx: {why}"]
     for name in ("Bids", "Final"):
         assert office.gather("--sheet", name).out == BY_HAND
     why = "it has no sheet 'final', but 'Bids', 'Final'"
-    assert office.refused("--sheet", "final") == [f"forms/Fox.xlsx: {why}"]
+    assert office.list_faults("--sheet", "final") == [f"forms/Fox.xlsx: {why}"]
     for value, why in CELLS:
         workbook([SHEET[0], SHEET[1], [value, 4, 0]])
-        (line,) = office.refused()
+        (line,) = office.list_faults()
         assert line.startswith(f"forms/Fox.xlsx:Bids!A3: {why}")
 
 
@@ -180,33 +180,33 @@ HARM = [
 @pytest.mark.parametrize("old, new, why", HARM, ids=["bomb", "wide", "letters", "dash", "torn"])
 def test_a_workbook_made_to_harm(office, workbook, old, new, why):
     workbook(SHEET, old, new)
-    (line,) = office.refused()
+    (line,) = office.list_faults()
     place, words = why.rsplit(": ", 1)
     assert line.startswith(f"forms/Fox.xlsx{place}: ") and words in line
 
 
-@pytest.mark.parametrize("name, wanted", rows(content("fixtures", "office", "workbooks.txt")))
+@pytest.mark.parametrize("name, wanted", parse_rows(read_text("fixtures", "office", "workbooks.txt")))
 def test_workbooks_that_were_made(name, wanted):
     """Each is read as a spreadsheet shows it, or refused with the cell, in a moment."""
-    assert workbooks.outcome(workbooks.made(name)) == wanted
+    assert workbooks.read_outcome(workbooks.make_workbook(name)) == wanted
 
 
 def test_there_are_enough_of_each_kind():
-    listed = [name.rpartition("_")[0] for name, _ in rows(content("fixtures", "office", "workbooks.txt"))]
-    assert len(workbooks.all_names()) >= 300
+    listed = [name.rpartition("_")[0] for name, _ in parse_rows(read_text("fixtures", "office", "workbooks.txt"))]
+    assert len(workbooks.list_names()) >= 300
     for kind in workbooks.KINDS:
         assert listed.count(kind.__name__) >= 3, kind
 
 
 def test_a_hidden_sheet_is_settled_by_the_name_of_the_one_that_counts(office):
     (office.forms / "Fox.csv").unlink()
-    (office.forms / "Fox.xlsx").write_bytes(workbooks.made("hidden_00"))
+    (office.forms / "Fox.xlsx").write_bytes(workbooks.make_workbook("hidden_00"))
     assert office.gather("--sheet", "Final").out == BY_HAND
     why = "forms/Fox.xlsx: its sheet 'Bids' is hidden; show it if it counts"
-    assert office.refused("--sheet", "Bids") == [why]
+    assert office.list_faults("--sheet", "Bids") == [why]
 
 
-PAIRS = rows(content("fixtures", "office", "versions.txt"))
+PAIRS = parse_rows(read_text("fixtures", "office", "versions.txt"))
 
 
 @pytest.mark.parametrize("bidder, one, other, wanted", PAIRS, ids=[" ".join(it[1:3]) for it in PAIRS])
@@ -224,13 +224,13 @@ def test_rules_may_be_a_workbook(office, tmp_path):
     sheet = [[int(it) if it.isdecimal() else it or None for it in line] for line in lines]
     office.rules = office.folder / "rules.xlsx"
     office.files = office.rules, office.forms, office.groups
-    office.rules.write_bytes(workbooks.written(sheet))
+    office.rules.write_bytes(workbooks.write_rows(sheet))
     seen = office.gather()
     assert seen.out == BY_HAND and "; read from sheet Bids" in seen.err, seen.err
     assert run("form", office.rules, "--output", tmp_path / "blank").status == 0
-    office.rules.write_bytes(workbooks.written(sheet, workbooks.hide_row))
-    (line,) = office.refused()
+    office.rules.write_bytes(workbooks.write_rows(sheet, workbooks.hide_row))
+    (line,) = office.list_faults()
     assert line.startswith("rules.xlsx:Bids!A3: its row is hidden")
     sheet[1][2] = "4"
-    office.rules.write_bytes(workbooks.written(sheet))
-    assert office.refused() == ["rules.xlsx:Bids!C2: '4' is a text; turn it into a number"]
+    office.rules.write_bytes(workbooks.write_rows(sheet))
+    assert office.list_faults() == ["rules.xlsx:Bids!C2: '4' is a text; turn it into a number"]

@@ -5,7 +5,7 @@ import time
 from functools import partial
 
 import pytest
-from commands import ROOT, Auction, output, script, start
+from commands import ROOT, AuctionFolder, run_program, write_script, start
 from oracle import Checker
 from test_auction import HOW, OFFICE, SNAKEMAKE
 from test_problem import programs_of
@@ -81,24 +81,24 @@ def many(tmp_path, wdp):
     text = subprocess.run([ROOT / "bench/make_input", *map(str, size)], capture_output=True).stdout
     head, _, listed = text.partition(b"%groups\n")
     listed = b"-\n" + b"".join(listed.splitlines(keepends=True)[:0:-1])
-    return lambda name: Auction(tmp_path / name, wdp, head + b"%groups\n" + listed)
+    return lambda name: AuctionFolder(tmp_path / name, wdp, head + b"%groups\n" + listed)
 
 
 def test_the_same_bytes_with_any_number_of_jobs_and_by_snakemake(many, tmp_path):
     outcomes = []
     for jobs in (1, 4):
         auction = many(f"with {jobs} jobs")
-        auction.said("--no-prices", "--jobs", jobs)
-        outcomes.append(auction.outcome())
-    script(tmp_path / "wdp-office", OFFICE)
+        auction.read_messages("--no-prices", "--jobs", jobs)
+        outcomes.append(auction.read_outcome())
+    write_script(tmp_path / "wdp-office", OFFICE)
     auction = many("by snakemake")
-    path = f"{tmp_path}:{auction.surroundings()['PATH']}"
+    path = f"{tmp_path}:{auction.make_environment()['PATH']}"
     words = [*SNAKEMAKE, auction.where, *HOW[:-1], "words=--no-prices"]
-    made = start(words, env=auction.surroundings(PATH=path), cwd=tmp_path)
+    made = start(words, env=auction.make_environment(PATH=path), cwd=tmp_path)
     assert made.communicate(timeout=600) and made.returncode == 0
-    outcomes.append(auction.outcome())
+    outcomes.append(auction.read_outcome())
     assert outcomes[0] == outcomes[1] == outcomes[2]
     # a group of losers costs no solver
     asked = {path.name.split(".")[0] for path in (auction.where / "answers").iterdir()}
     assert len(asked) < len(auction.read("programs/names.txt").split())
-    assert output(auction.wdp, "verify", auction.read("audit.txt")).startswith(outcomes[0][0])
+    assert run_program(auction.wdp, "verify", auction.read("audit.txt")).startswith(outcomes[0][0])

@@ -10,13 +10,13 @@ from concurrent.futures import ThreadPoolExecutor
 from functools import partial
 
 import pytest
-from commands import EVIL, content, environment, output, rows, running, script, start, wait_for
+from commands import EVIL, read_text, make_environment, run_program, parse_rows, find_processes, write_script, start, wait_for
 
 import wdp
 from wdp import example
 from wdp.texts.answers import Asked, read_report
 
-WORKED = content("examples", "worked.report.txt")
+WORKED = read_text("examples", "worked.report.txt")
 REPORT = "group 1 -\nAlpha 1 30\ntotal 30\ncost 0\n"
 PRINTING = "printf '%s'" % REPORT.replace("\n", "\\n")
 ONE = example.INPUT.split("%groups")[0] + "%groups\n-\n"
@@ -29,25 +29,25 @@ def program(tmp_path):
     """A program that is a shell script, and an auction that asks it."""
 
     def made(lines, **how):
-        path = script(tmp_path / "program", lines)
+        path = write_script(tmp_path / "program", lines)
         return wdp.Auction.from_text(how.pop("text", ONE), program=path, **how)
 
     return made
 
 
-def fails(call, kind, pattern):
+def check_fails(call, kind, pattern):
     with pytest.raises(kind, match=pattern) as caught:
         call()
     text = str(caught.value)
     assert type(caught.value) is kind and text.isprintable() and len(text) < 2_000
 
 
-@pytest.mark.parametrize("text, pattern", rows(content("fixtures", "package", "answers.txt")))
+@pytest.mark.parametrize("text, pattern", parse_rows(read_text("fixtures", "package", "answers.txt")))
 def test_what_is_no_answer(program, text, pattern):
     asked = program(text)
     calls = asked.compile, partial(asked.report, [""]), partial(asked.verify, [""], [""])
     for call in (*calls, partial(asked.map, ""), partial(asked.check, "NAME"), asked.solve):
-        fails(call, wdp.Unclear, pattern)
+        check_fails(call, wdp.Unclear, pattern)
 
 
 FLOOD = "head -c 50000000 /dev/zero | tr '\\0' %s >&2\n"
@@ -56,59 +56,59 @@ LATE = "echo 'wdp: write failed after 3 bytes' >&2; exit 1"
 
 
 def test_what_is_on_standard_error(program):
-    fails(program(FLOOD % "x" + "exit 1").compile, wdp.Refused, "^x{400,}")
+    check_fails(program(FLOOD % "x" + "exit 1").compile, wdp.Refused, "^x{400,}")
     last = f"echo '{REFUSAL}' >&2; exit 1"
-    fails(program(FLOOD % "'\\n'" + last).compile, wdp.Refused, f"^{REFUSAL}$")
-    fails(program(FLOOD % "x").compile, wdp.Unclear, AS_DESCRIBED)
+    check_fails(program(FLOOD % "'\\n'" + last).compile, wdp.Refused, f"^{REFUSAL}$")
+    check_fails(program(FLOOD % "x").compile, wdp.Unclear, AS_DESCRIBED)
     # beside an answer it counts for nothing, unless the program is refused
     assert program(FLOOD % "x" + PRINTING).report([""])[0].total == 30
     late = partial(program(PRINTING + "; " + LATE).report, [""])
-    fails(late, wdp.Refused, "^wdp: write failed after 3 bytes$")
+    check_fails(late, wdp.Refused, "^wdp: write failed after 3 bytes$")
 
 
 def test_no_program_outlives_its_answer(program, monkeypatch, mark, tmp_path):
     late = program("exec sleep 7000", time_limit=0.2)
-    fails(late.compile, wdp.Unclear, "gave no answer in 0.2 s, and was ended$")
+    check_fails(late.compile, wdp.Unclear, "gave no answer in 0.2 s, and was ended$")
     monkeypatch.setattr("wdp.program._MOST_OF_MESSAGES", 1_000_000)
     large = "prints more than an answer to this can have, [0-9]+ bytes$"
-    fails(partial(program("yes").report, [""]), wdp.Unclear, large)
+    check_fails(partial(program("yes").report, [""]), wdp.Unclear, large)
     large = "prints more than 1000000 bytes on standard error$"
-    fails(partial(program("yes >&2").report, [""]), wdp.Unclear, large)
-    wait_for(lambda: not running(mark), 30)
+    check_fails(partial(program("yes >&2").report, [""]), wdp.Unclear, large)
+    wait_for(lambda: not find_processes(mark), 30)
     # what a program leaves running isn't waited for
     assert program("sleep 7000 &\n" + PRINTING).report([""])[0].total == 30
-    (left,) = running(mark)
+    (left,) = find_processes(mark)
     os.kill(int(left), signal.SIGKILL)
-    wait_for(lambda: not running(mark), 30)
+    wait_for(lambda: not find_processes(mark), 30)
     # an interrupt
-    asleep = script(tmp_path / "asleep", "sleep 7000 & wait")
+    asleep = write_script(tmp_path / "asleep", "sleep 7000 & wait")
     ask = f"import wdp; wdp.Auction.from_text({ONE!r}, program={str(asleep)!r}).compile()"
-    asking = start([sys.executable, "-c", ask], env=environment())
-    wait_for(lambda: len(running(mark)) == 3)
+    asking = start([sys.executable, "-c", ask], env=make_environment())
+    wait_for(lambda: len(find_processes(mark)) == 3)
     time.sleep(0.5)  # (the program runs before its caller knows of it)
     asking.send_signal(signal.SIGINT)
     assert asking.communicate(timeout=60)[1].endswith(b"\nKeyboardInterrupt\n")
-    wait_for(lambda: not running(mark), 30)
+    wait_for(lambda: not find_processes(mark), 30)
 
 
 def test_large_and_full(program, monkeypatch, tmp_path):
     deaf = "echo 'wdp: input: too large' >&2; exit 1"
     large = program(deaf, text=ONE + "%form\n" + "x" * 50_000_000)
-    fails(large.compile, wdp.Refused, "^wdp: input: too large$")
+    check_fails(large.compile, wdp.Refused, "^wdp: input: too large$")
     rules = example.INPUT.split("%rules\n")[1].split("%form")[0]
     large = wdp.Auction(rules=rules, forms=[("Alpha", [("9" * 50_000_000, 1, 0)])])
-    fails(large.compile, wdp.Refused, "^wdp: form 1: 1 TooLarge$")
+    check_fails(large.compile, wdp.Refused, "^wdp: form 1: 1 TooLarge$")
     (tmp_path / "rules.csv").write_text(rules)
     (tmp_path / "form.csv").write_bytes(b"Alpha,A,B\n" + b"30,1,0\n" * 7_000_000)
     large = lambda: wdp.Auction.from_files(tmp_path / "rules.csv", [tmp_path / "form.csv"])  # noqa: E731
-    fails(large, wdp.Refused, "^form 1: .*form.csv: it has more than 8,388,610 bytes$")
+    check_fails(large, wdp.Refused, "^form 1: .*form.csv: it has more than 8,388,610 bytes$")
     os.truncate(tmp_path / "form.csv", 2**40)
     sparse = lambda: wdp.Auction.from_files(tmp_path / "form.csv", [])  # noqa: E731
-    fails(sparse, wdp.Refused, "more than 8,388,610 bytes$")
+    check_fails(sparse, wdp.Refused, "more than 8,388,610 bytes$")
     full = lambda: open("/dev/full", "r+b", buffering=0)  # noqa: E731
     monkeypatch.setattr("wdp.program.tempfile.TemporaryFile", full)
     why = "can't be given its input, or its answer can't be read: No space left on device$"
-    fails(wdp.Auction.from_text(ONE).compile, wdp.Unclear, why)
+    check_fails(wdp.Auction.from_text(ONE).compile, wdp.Unclear, why)
 
 
 def test_threads():
@@ -150,7 +150,7 @@ def test_answers_that_are_nearly_right(answered):
     report = lambda auction: auction.report(given[0])  # noqa: E731
     verify = lambda auction: auction.verify(*given, unique="bound 1")  # noqa: E731
     answers = [WORKED[:cut] for cut in range(len(WORKED) + 1)]
-    answers += [WORKED.replace(old, new, 1) for old, new in rows(NEAR)]
+    answers += [WORKED.replace(old, new, 1) for old, new in parse_rows(NEAR)]
     beyond = ("unique\n", "tie\ntotal 62\n", "\n", "group 5 -\ntotal 0\ncost 0\n", EVIL)
     answers += [WORKED + more for more in beyond]
     assert answered(report, answers, example.INPUT) == [WORKED]
@@ -185,8 +185,8 @@ def test_answers_that_are_nearly_right(answered):
 
 def test_no_answer_is_taken_for_another(pytestconfig):
     """An answer that was changed is refused, or means something else: nothing of it is passed over."""
-    draw, taken, audit = random.Random(7), 0, content("examples", "prices.txt")
-    verified = output(pytestconfig.option.wdp, "verify", audit.encode())
+    draw, taken, audit = random.Random(7), 0, read_text("examples", "prices.txt")
+    verified = run_program(pytestconfig.option.wdp, "verify", audit.encode())
     own, prices, cover, rule = re.split("%(?:prices|cover|rule)\n", audit)
     more = {"prices": prices, "cover": cover, "rule": rule}
     report = wdp.Auction.from_text(own).verify([], [], **more)
@@ -209,7 +209,7 @@ def test_no_answer_is_taken_for_another(pytestconfig):
 def test_which_program_is_found(tmp_path, monkeypatch):
     total = lambda **how: wdp.Auction.from_text(ONE, **how).report([""])[0].total  # noqa: E731
     answers = enumerate((EVIL, "other", "wdp"), 1)
-    named = [script(tmp_path / name, PRINTING.replace("30", str(at))) for at, name in answers]
+    named = [write_script(tmp_path / name, PRINTING.replace("30", str(at))) for at, name in answers]
     monkeypatch.setenv("WDP", str(named[1]))
     assert (total(program=named[0]), total()) == (1, 2)
     monkeypatch.setenv("WDP", "")
@@ -218,18 +218,18 @@ def test_which_program_is_found(tmp_path, monkeypatch):
     monkeypatch.setattr("wdp.program._find_tree", lambda: None)
     assert total() == 3
     monkeypatch.setenv("PATH", str(tmp_path / "none"))
-    fails(total, wdp.NotFound, "^the program isn't found: wdp; make install")
+    check_fails(total, wdp.NotFound, "^the program isn't found: wdp; make install")
     # such as aren't there or can't be started
     (tmp_path / "plain").write_text("no program")
     for path in (tmp_path / f"{EVIL}none", "", "a\0b", tmp_path, tmp_path / "plain"):
-        fails(partial(total, program=path), wdp.NotFound, "^the program isn't found: ")
+        check_fails(partial(total, program=path), wdp.NotFound, "^the program isn't found: ")
     monkeypatch.setenv("WDP", str(tmp_path / "none"))
-    fails(total, wdp.NotFound, "^the program isn't found: ")
+    check_fails(total, wdp.NotFound, "^the program isn't found: ")
     (tmp_path / "garbage").write_bytes(b"\x7fELF" + b"\0" * 100)
     (tmp_path / EVIL).write_text("#!/nothing/x\n")
     for name in ("garbage", EVIL):
         (tmp_path / name).chmod(0o755)
         auction = wdp.Auction.from_text(ONE, program=tmp_path / name)
-        fails(auction.compile, wdp.NotFound, "can't be started: ")
+        check_fails(auction.compile, wdp.NotFound, "can't be started: ")
     (tmp_path / EVIL).unlink()
-    fails(auction.compile, wdp.NotFound, "can't be started: ")
+    check_fails(auction.compile, wdp.NotFound, "can't be started: ")

@@ -7,8 +7,8 @@ import sys
 import time
 
 import pytest
-from commands import COMMAND, ROOT, Auction, ended, environment, output, run, running
-from commands import solver, start, stopped, wait_for
+from commands import COMMAND, ROOT, AuctionFolder, finish, make_environment, run_program, run, find_processes
+from commands import write_solver, start, check_stopped, wait_for
 from wdp.files import Unreadable, read_rest
 
 MPS = ROOT / "fixtures/solvers/three.mps"
@@ -36,8 +36,8 @@ Beta
 
 def test_a_bidder_who_is_called_group(tmp_path, wdp):
     """A line of its winning bid isn't taken for the head of a group, and the digest is that of the complete report."""
-    auction = Auction(tmp_path / "auction", wdp, OF_GROUP.encode())
-    auction.said()
+    auction = AuctionFolder(tmp_path / "auction", wdp, OF_GROUP.encode())
+    auction.read_messages()
     report = auction.read("report.txt")
     assert report.startswith(b"group 1 -\ngroup 3 30\ntotal 30\n")
     assert hashlib.sha256(report).hexdigest().encode() in auction.read("results/results.html")
@@ -46,24 +46,24 @@ def test_a_bidder_who_is_called_group(tmp_path, wdp):
     assert run("results", *words, "--output", tmp_path / "out").status == 0
     cut = report.splitlines(True)[0]
     (tmp_path / "report.txt").write_bytes(cut)
-    stopped(run("results", *words, "--output", tmp_path / "cut"), "isn't the report")
+    check_stopped(run("results", *words, "--output", tmp_path / "cut"), "isn't the report")
 
 
 @pytest.mark.parametrize("name", ["100%", "a%sb", "-x", "{mps}", "a b'c\"d", "é\udcff"])
 def test_folders_of_any_name(tmp_path, wdp, name):
-    auction = Auction(tmp_path / name, wdp)
-    auction.said("--solver", "cbc", "--no-prices", TMPDIR=str(tmp_path))
+    auction = AuctionFolder(tmp_path / name, wdp)
+    auction.read_messages("--solver", "cbc", "--no-prices", TMPDIR=str(tmp_path))
     assert auction.read("report.txt") == REPORT
-    answer = run("solve", "--solver", "cbc", MPS, env=environment(WDP=wdp, TMPDIR=str(auction.where)))
+    answer = run("solve", "--solver", "cbc", MPS, env=make_environment(WDP=wdp, TMPDIR=str(auction.where)))
     assert answer == (0, POINT, "")
 
 
 def test_a_relative_folder_gives_solvers_a_whole_path(tmp_path, wdp):
-    auction = Auction(tmp_path / "auction", wdp)
-    _, command = solver(tmp_path, 'mktemp -d > /dev/null && rest "$@"')
+    auction = AuctionFolder(tmp_path / "auction", wdp)
+    _, command = write_solver(tmp_path, 'mktemp -d > /dev/null && rest "$@"')
     words = ["--solver-command", command, "--jobs", "1", "--no-prices"]
     call = [sys.executable, COMMAND, "auction", "auction", *words]
-    seen = ended(start(call, cwd=tmp_path, env=auction.surroundings()))
+    seen = finish(start(call, cwd=tmp_path, env=auction.make_environment()))
     assert seen.status == 0 and auction.read("report.txt") == REPORT, seen
 
 
@@ -72,18 +72,18 @@ NESTED = "i=0; while [ $i -lt 3000 ]; do mkdir d; cd -P d; i=$((i+1)); done"
 
 def test_nested_folders_are_taken_away(tmp_path, wdp):
     """A solver that leaves three thousand, one within the other, in its folder, in the temporary one and in the auction's."""
-    auction = Auction(tmp_path / "auction", wdp)
+    auction = AuctionFolder(tmp_path / "auction", wdp)
     for place in (".", "$TMPDIR", auction.where):
         nest = f'own=$PWD; (cd "{place}" && {NESTED}); cd "$own"; rest "$@"'
-        auction.said(*solver(tmp_path, nest), "--jobs", "1", "--no-prices", TMPDIR=str(tmp_path))
+        auction.read_messages(*write_solver(tmp_path, nest), "--jobs", "1", "--no-prices", TMPDIR=str(tmp_path))
         assert auction.read("report.txt") == REPORT and not auction.has(".running")
         subprocess.run(["rm", "-rf", auction.where / "solutions/1.txt", auction.where / "answers/1.txt"])
         subprocess.run(["rm", "-rf", auction.where / "certificates/1.txt"])
     subprocess.run(["rm", "-rf", auction.where], check=True)
-    words = solver(tmp_path, NESTED + '; echo "#"')
+    words = write_solver(tmp_path, NESTED + '; echo "#"')
     where = tmp_path / "temporary"
     where.mkdir()
-    seen = run("solve", *words, MPS, env=environment(WDP=wdp, TMPDIR=str(where)))
+    seen = run("solve", *words, MPS, env=make_environment(WDP=wdp, TMPDIR=str(where)))
     assert seen.status == 1 and os.listdir(where) == []
 
 
@@ -100,14 +100,14 @@ def test_files_of_the_kernel_or_that_are_no_text(tmp_path, wdp, office):
     (office.forms / "Fox.csv").unlink()
     (office.forms / "Fox.csv").symlink_to("/proc/kmsg")
     # it has what the kernel said since it was last read, or gives nothing
-    stopped(office.gather(), "forms/Fox.csv:")
-    auction = Auction(tmp_path / "auction", wdp)
-    auction.said("--no-prices")
+    check_stopped(office.gather(), "forms/Fox.csv:")
+    auction = AuctionFolder(tmp_path / "auction", wdp)
+    auction.read_messages("--no-prices")
     for data in (b"-\nAl\xffpha\nBeta\nBeta+Gamma\n", b"\xef\xbb\xbf-\nAlpha\nBeta\nBeta+Gamma\n"):
         line = f"{hashlib.sha256(data).hexdigest()}  programs/names.txt\n"
         auction.put("programs/names.txt", data)
         auction.put("sums/programs/names.txt.sha256", line.encode())
-        said = auction.said("--no-prices", status=1)
+        said = auction.read_messages("--no-prices", status=1)
         assert "names.txt isn't what was left there" in said and said.count("\n") == 1
 
 
@@ -115,13 +115,13 @@ def test_files_of_the_kernel_or_that_are_no_text(tmp_path, wdp, office):
 def test_a_killed_solve_leaves_no_folder(tmp_path, wdp, mark, number):
     where = tmp_path / "temporary"
     where.mkdir()
-    words = solver(tmp_path, "sleep 7000")
-    started = start([sys.executable, COMMAND, "solve", *words, MPS], env=environment(WDP=wdp, TMPDIR=str(where)))
-    wait_for(lambda: list(where.glob("solve.*/free.mps")) and len(running(mark)) > 3)
+    words = write_solver(tmp_path, "sleep 7000")
+    started = start([sys.executable, COMMAND, "solve", *words, MPS], env=make_environment(WDP=wdp, TMPDIR=str(where)))
+    wait_for(lambda: list(where.glob("solve.*/free.mps")) and len(find_processes(mark)) > 3)
     time.sleep(0.3)
     started.send_signal(number)
-    ended(started)
-    wait_for(lambda: not running(mark), 30)
+    finish(started)
+    wait_for(lambda: not find_processes(mark), 30)
     wait_for(lambda: os.listdir(where) == [], 10)
 
 
@@ -131,7 +131,7 @@ def test_programs_without_columns(tmp_path, wdp, solver):
     for right, status in ((1, 3), (0, 0)):
         text = f"NAME x\nROWS\n N OBJ\n G LEAST\nCOLUMNS\nRHS\n RHS LEAST {right}\nENDATA\n"
         (tmp_path / "it.mps").write_text(text)
-        assert output(wdp, "check", text.encode()).startswith(b"rows 1 columns 0")
+        assert run_program(wdp, "check", text.encode()).startswith(b"rows 1 columns 0")
         seen = run("solve", "--solver", solver, tmp_path / "it.mps")
         assert (seen.status, seen.out) == (status, ""), seen
         assert ("the row LEAST is broken" in seen.err) == bool(status)
@@ -152,7 +152,7 @@ def test_highs_in_a_forked_child(wdp):
     """Its threads aren't there after a fork of a process that has used them."""
     for name in ("numpy", "scipy", "swiglpk"):
         pytest.importorskip(name, reason=f"{name} isn't there")
-    seen = subprocess.run([sys.executable, "-c", FORKED], env=environment(WDP=wdp), timeout=120)
+    seen = subprocess.run([sys.executable, "-c", FORKED], env=make_environment(WDP=wdp), timeout=120)
     assert seen.returncode == 0
 
 
@@ -160,7 +160,7 @@ def test_highs_is_ended_at_its_limit(tmp_path, wdp, mark, monkeypatch):
     """(A stand-in for scipy doesn't end.)"""
     (tmp_path / "scipy").mkdir()
     (tmp_path / "scipy/__init__.py").write_text("import time, sys\nif 'wdp.cli' not in sys.modules: time.sleep(7000)\n")
-    how = environment(WDP=wdp, PYTHONPATH=f"{tmp_path}:{ROOT}/python/src")
+    how = make_environment(WDP=wdp, PYTHONPATH=f"{tmp_path}:{ROOT}/python/src")
     seen = run("solve", "--solver", "highs", "--time-limit", "1", MPS, env=how)
-    stopped(seen, "HiGHS overstepped its limit of 1 s and was ended", status=4)
-    wait_for(lambda: not running(mark), 30)
+    check_stopped(seen, "HiGHS overstepped its limit of 1 s and was ended", status=4)
+    wait_for(lambda: not find_processes(mark), 30)

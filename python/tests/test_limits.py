@@ -69,7 +69,7 @@ def test_a_run_that_gives_up_and_goes_on(auction, tmp_path, monkeypatch):
     )
     monkeypatch.setattr("commands.COMMAND", nothing)
     auction.put("input.txt", (EXAMPLES / "twelve_bands.txt").read_bytes())
-    said = auction.said("--time-limit", "7", status=1)
+    said = auction.read_messages("--time-limit", "7", status=1)
     near = r"auction: group (\d+): within [\d.]+ % of the greatest total, not proved; "
     given_up = re.findall(near + "the search ended at its limit of 7 s\n", said)
     assert given_up
@@ -81,12 +81,12 @@ def test_a_run_that_gives_up_and_goes_on(auction, tmp_path, monkeypatch):
     for group in given_up:
         assert auction.has(f"unfinished/{group}.txt")
     monkeypatch.undo()
-    said = auction.said("--time-limit", "600", "--no-prices")
+    said = auction.read_messages("--time-limit", "600", "--no-prices")
     assert "not proved" not in said
     assert len(re.findall(rb"(?m)^total \d+$", auction.read("report.txt"))) == 13
 
 
-class Asked:
+class RecordedAsk:
     """A solver that answers with nobody, and what it was asked."""
 
     def __init__(self, answer):
@@ -103,7 +103,7 @@ def test_a_solver_gets_more_columns_in_turns(monkeypatch):
     monkeypatch.setattr("wdp.certify.settling.TURNS", [*short, TURNS[-1]])
     problem = Problem(Layout(wide_program(3)))
     best = problem.certified(b"").solution
-    asked = Asked(b"")
+    asked = RecordedAsk(b"")
     found = settle(problem, asked)
     assert problem.objective(found.solution) == problem.objective(best)
     sizes = [columns or problem.layout.count for _, columns in asked.turns]
@@ -111,14 +111,14 @@ def test_a_solver_gets_more_columns_in_turns(monkeypatch):
     assert sizes == sorted({*sizes})
     assert sizes[0] == 6 * 80
     # one that has no answer in time isn't asked again
-    asked = Asked(None)
+    asked = RecordedAsk(None)
     assert problem.objective(settle(problem, asked).solution) == problem.objective(best)
     assert len(asked.turns) == 1
 
 
 def test_a_small_program_goes_whole_to_the_solver():
     problem = Problem(Layout(wide_program(1, bids=20)))
-    asked = Asked(problem.certified(b"").solution)
+    asked = RecordedAsk(problem.certified(b"").solution)
     assert settle(problem, asked).gain == 0
     assert asked.turns == [(0, None)]
 
@@ -153,18 +153,18 @@ def test_a_run_with_little_memory(auction, monkeypatch, tmp_path):
         "from wdp import cli\nsys.exit(cli.main())\n"
     )
     monkeypatch.setattr("commands.COMMAND", little)
-    said = auction.said("--no-prices", "--jobs", "3")
+    said = auction.read_messages("--no-prices", "--jobs", "3")
     assert "4 groups, 0 done, 1 at a time, by cbc; 4 columns with nobody left out\n" in said
     assert "1 at a time and not 3, for which there isn't memory enough\n" in said
 
 
 def test_time_is_told(auction):
-    said = auction.said()
+    said = auction.read_messages()
     took = next(line for line in said.splitlines() if "it took" in line)
     assert re.fullmatch(r"auction: it took [\d.]+ s: .*; the longest, group \d: [\d.]+ s", took)
     for kind in ("programs", "groups", "prices", "report"):
         assert re.search(rf"[:,] {kind} [\d.]+ s[,;]", took), kind
-    assert "it took" not in auction.said("--quiet")
+    assert "it took" not in auction.read_messages("--quiet")
 
 
 def test_times_in_words():

@@ -15,8 +15,8 @@ from fractions import Fraction
 import priced_auctions
 import pytest
 import tied_auctions
-from commands import SCHEMA, TIED, WORKED, Auction, content, output, rows, run, solver
-from commands import stopped
+from commands import SCHEMA, TIED, WORKED, AuctionFolder, read_text, run_program, parse_rows, run, write_solver
+from commands import check_stopped
 from price_judge import printed
 from priced_auctions import Costs, drawn
 from tied_auctions import BIDDERS, Bid, Pool
@@ -59,7 +59,7 @@ def priced(wdp, auction, groups, ties=False):
 
 def shown(wdp, found):
     """What `wdp verify` prints of the prices."""
-    said = output(wdp, "verify", found.audit).decode()
+    said = run_program(wdp, "verify", found.audit).decode()
     return re.search(r"(?m)^prices\n(.*\n)*?(?=unique\n|tie\n|no other\n|\Z)", said)[0]
 
 
@@ -320,7 +320,7 @@ def test_many_winners_and_large_amounts():
 # (what a solver starts is ended by a process that is forked, which pytest isn't to be)
 office = functools.partial(run, stdin=subprocess.DEVNULL)
 # what docs/OFFICE.md shows of the prices of the worked example
-SHOWN = content("docs", "OFFICE.md").split("prices worked --quiet 2> printed.txt\n")[1]
+SHOWN = read_text("docs", "OFFICE.md").split("prices worked --quiet 2> printed.txt\n")[1]
 TABLE = SHOWN.split("```")[0]
 ADDED = """\
 group 5 Gamma
@@ -338,23 +338,23 @@ by the rule
 
 def test_of_an_award_that_is_there(auction, tmp_path):
     """The groups that are added come after those asked for; prices are the same, whether `auction` finds them or `prices`."""
-    auction.said("--no-prices")
-    report, audit = auction.outcome()
+    auction.read_messages("--no-prices")
+    report, audit = auction.read_outcome()
     assert b"%prices" not in audit and not auction.has("prices.txt")
     priced, place = tmp_path / "priced.txt", auction.where
     for given in (place / "audit.txt", priced):
         assert office("prices", given, "--output", priced)[:2] == (0, TABLE)
-        assert output(auction.wdp, "verify", priced.read_bytes()) == report + ADDED.encode()
+        assert run_program(auction.wdp, "verify", priced.read_bytes()) == report + ADDED.encode()
     assert priced.read_bytes().endswith(WORKED + b"Gamma\n")
     assert office("prices", place)[:2] == (0, TABLE)
-    assert auction.outcome() == (report, priced.read_bytes())
+    assert auction.read_outcome() == (report, priced.read_bytes())
     # what was left there is cut
     text = auction.read("prices.txt")
     auction.put("prices.txt", text[: len(text) // 2])
-    assert "prices.txt isn't what was left there" in auction.said(status=1)
+    assert "prices.txt isn't what was left there" in auction.read_messages(status=1)
     (place / "prices.txt").unlink()
-    auction.said()
-    assert (auction.read("prices.txt"), auction.outcome()) == (text, (report, priced.read_bytes()))
+    auction.read_messages()
+    assert (auction.read("prices.txt"), auction.read_outcome()) == (text, (report, priced.read_bytes()))
 
 
 # what an audit of version 1 has of prices
@@ -362,11 +362,11 @@ OF_VERSION_1 = b"%prices\nAlpha 10\nBeta 14\nGamma 6\n%cover\nbound 1\n%weights\
 
 
 def test_an_audit_of_version_1_gets_prices_of_the_rule(auction, tmp_path):
-    auction.said("--no-prices")
+    auction.read_messages("--no-prices")
     old, priced = tmp_path / "old.txt", tmp_path / "priced.txt"
     old.write_bytes(OF_VERSION_1 + auction.read("audit.txt"))
     assert office("prices", old, "--output", priced)[:2] == (0, TABLE)
-    assert output(auction.wdp, "verify", priced.read_bytes()).endswith(ADDED.encode())
+    assert run_program(auction.wdp, "verify", priced.read_bytes()).endswith(ADDED.encode())
 
 
 # a line of a group that prices have to cover
@@ -380,18 +380,18 @@ def test_a_run_that_was_cut_goes_on(auction, whole, tmp_path):
     # only raised programs have no bid of 20; the solver answers the first of them, and fails with the second
     count = f'echo >> {tmp_path}/raised; [ "$(wc -l < {tmp_path}/raised)" = 1 ] || exit 7'
     failing = f'grep -q "OBJ -20$" "$1" || {{ {count}; }}; rest "$@"'
-    said = auction.said(*solver(tmp_path, failing), status=1)
+    said = auction.read_messages(*write_solver(tmp_path, failing), status=1)
     before = re.findall(FOUND, said)
     assert len(before) == 1
     assert "no prices; the next run looks for them again" in said
     assert (auction.has("prices/1.txt"), auction.has("prices.txt")) == (True, False)
-    said = auction.said()
+    said = auction.read_messages()
     assert "auction: prices: 1 group found by an earlier run" in said
     after = re.findall(FOUND, said)
     assert len(after) > 1
-    again = Auction(tmp_path / "again", auction.wdp, auction.read("input.txt"))
-    assert re.findall(FOUND, again.said()) == before + after
-    assert again.outcome() == auction.outcome()
+    again = AuctionFolder(tmp_path / "again", auction.wdp, auction.read("input.txt"))
+    assert re.findall(FOUND, again.read_messages()) == before + after
+    assert again.read_outcome() == auction.read_outcome()
 
 
 COMMANDS = 30  # random auctions that the command is run on
@@ -402,9 +402,9 @@ def test_the_command_on_random_auctions(wdp, tmp_path, first):
     for number in range(first, first + 3):
         auction, groups = drawn(number)
         text = tied_auctions.input_text(auction, groups).encode()
-        run_of = Auction(tmp_path / str(number), wdp, text)
-        run_of.said("--quiet")
-        said = output(wdp, "verify", run_of.read("audit.txt")).decode()
+        run_of = AuctionFolder(tmp_path / str(number), wdp, text)
+        run_of.read_messages("--quiet")
+        said = run_program(wdp, "verify", run_of.read("audit.txt")).decode()
         page, figures = published(run_of)
         exact = {
             each["name"]: Fraction(each["exact_price"])
@@ -424,7 +424,7 @@ def test_what_has_no_prices(tmp_path):
     cut, priced = tmp_path / "cut.txt", tmp_path / "priced.txt"
     for data, why in ((WORKED, "wrong number of solutions"), (b"", "wrong number of rules")):
         cut.write_bytes(data)
-        stopped(office("prices", cut, "--output", priced), f"prices: wdp: input: {why}")
+        check_stopped(office("prices", cut, "--output", priced), f"prices: wdp: input: {why}")
     assert not priced.exists()
 
 
@@ -440,18 +440,18 @@ kill -9 $$ | none
 """
 
 
-@pytest.mark.parametrize("lie, outcome", rows(LIES))
+@pytest.mark.parametrize("lie, outcome", parse_rows(LIES))
 def test_liars(auction, whole, tmp_path, lie, outcome):
     """An award without prices is there, and the next run has them."""
     lying = f'if grep -q "X1_1 OBJ -20$" "$1"; then {lie}; else rest "$@"; fi'
-    said = auction.said("--ties", *solver(tmp_path, lying), status=int(outcome == "none"))
+    said = auction.read_messages("--ties", *write_solver(tmp_path, lying), status=int(outcome == "none"))
     if outcome == "none":
         assert "no prices; the next run looks for them again" in said
         assert b"%prices" not in auction.read("audit.txt")
         assert auction.read("report.txt") == whole.read("report.txt")
         assert json.loads(auction.read("results/results.json"))["prices"] is None
-        auction.said("--ties")
-    assert auction.outcome() == whole.outcome()
+        auction.read_messages("--ties")
+    assert auction.read_outcome() == whole.read_outcome()
 
 
 def published(auction):
@@ -484,7 +484,7 @@ def test_anyone_repeats_the_audit_with_added_groups(auction, wdp, is_first):
     if is_first:
         rest, head, groups = WORKED.partition(b"%groups")
         auction.put("input.txt", head + groups + rest.rstrip(b"\n"))
-    auction.said()
+    auction.read_messages()
     page, said = published(auction)
     assert said["audit"]["added_bytes"] == len("Gamma\n")
     listed = "<dt><code>(.*?)</code></dt><dd><code>(.*?)</code>"
@@ -502,17 +502,17 @@ BELONG = "They belong to the winners of this page"
 def test_prices_of_a_tie_belong_to_the_winners_of_the_page(auction, tmp_path):
     """Either bidder pays the 20 that the other one bids."""
     auction.put("input.txt", TIED)
-    assert "proved: these 2 awards, and no other, reach" in auction.said("--ties")
+    assert "proved: these 2 awards, and no other, reach" in auction.read_messages("--ties")
     assert auction.read("ties.txt").startswith(b"%tie\nX")
     assert auction.read("audit.txt").count(b"%tie\n") == 1 and published(auction)[1]["certified"]
-    verified = output(auction.wdp, "verify", auction.read("audit.txt"))
+    verified = run_program(auction.wdp, "verify", auction.read("audit.txt"))
     first = re.search(rb"prices\n(\w+) 20\nsum 20\nby the rule\n", verified)[1].decode()
     assert f"{BELONG}; by another award there are others, perhaps of another sum." in (
         published(auction)[0]
     )
     # the other one is drawn, whose prices aren't those of the first
     files = [auction.where / "input.txt", auction.where / "report.txt"]
-    drawn, priced = Auction(tmp_path / "drawn", auction.wdp), tmp_path / "priced.txt"
+    drawn, priced = AuctionFolder(tmp_path / "drawn", auction.wdp), tmp_path / "priced.txt"
     for audit, has_prices in ((auction.where / "audit.txt", False), (priced, True)):
         words = ["--audit", audit, "--drawn", 2, "--output", drawn.where / "results"]
         assert run("results", *files, *words).status == 0

@@ -3,7 +3,7 @@ import random
 
 import numpy as np
 import pytest
-from commands import EXAMPLES, content, output
+from commands import EXAMPLES, read_text, run_program
 
 from wdp.certify.layout import Bound, Layout, Node
 from wdp.certify.problem import MOST_OF_BLOCK, Problem
@@ -12,14 +12,14 @@ from wdp.solve import nothing
 from wdp.texts.refusals import Unclear
 from wdp.texts.zero_one import AT_MOST, Column, FastReader, Row, ZeroOne, format_program, read_program
 
-SMALL = content("fixtures", "solvers", "three.mps").encode()
+SMALL = read_text("fixtures", "solvers", "three.mps").encode()
 NAMES = ["worked", "worked_pool", "spectrum_cap", "twelve_bands"]
 
 
 def programs_of(wdp, data):
     """The bidders that each group of an input leaves out, by their numbers, and its program's text."""
     names = [line.split(b",")[1] for line in data.splitlines() if line.startswith(b"bidder,")]
-    for part in output(wdp, "compile", data).split(b"* program ")[1:]:
+    for part in run_program(wdp, "compile", data).split(b"* program ")[1:]:
         head, _, text = part.partition(b"\n")
         left_out = head.split()[1].split(b"+")
         yield [number for number, name in enumerate(names, 1) if name in left_out], text

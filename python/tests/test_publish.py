@@ -10,7 +10,7 @@ import subprocess
 from html import escape, unescape
 
 import pytest
-from commands import OFFICE, REPORTED, SCHEMA, content, output, run, small_files, stopped, without
+from commands import OFFICE, REPORTED, SCHEMA, read_text, run_program, run, limit_files, check_stopped, hide_library
 
 from wdp import files
 from wdp.publish.results import cell_text
@@ -22,7 +22,7 @@ TIE, TIE_REPORT, AUDIT, TIED = ((OFFICE / f"{name}.txt").read_text() for name in
 SOLUTIONS = "%solution\nX1_1 1\n%solution\nX2_1 1\n"
 CERTIFICATES = "%certificate\nbound 1 C1 10\n" * 2
 CELL = re.compile(r'<(t[hd])(?: scope="(\w+)")?[^>]*>(.*?)</t[hd]>', re.S)
-POOL_TEXT = content("fixtures", "office", "results.txt")
+POOL_TEXT = read_text("fixtures", "office", "results.txt")
 
 
 def plain(text):
@@ -83,13 +83,13 @@ def desk(tmp_path):
 
 
 def of_example(name):
-    return content("examples", f"{name}.txt"), content("examples", f"{name}.report.txt")
+    return read_text("examples", f"{name}.txt"), read_text("examples", f"{name}.report.txt")
 
 
 def of_audit(name):
     """The input at the end of an audit, the report, and the audit."""
-    audit = content("fixtures", "office", name)
-    verified = output(os.environ["WDP"], "verify", audit.encode()).decode()
+    audit = read_text("fixtures", "office", name)
+    verified = run_program(os.environ["WDP"], "verify", audit.encode()).decode()
     return audit[audit.index("%rules") :], re.split("(?m)^(?:tie|prices)$", verified)[0], audit
 
 
@@ -155,9 +155,9 @@ def test_an_award_with_unsold_lots_and_a_pool(desk):
     wanted = "cost 0 66.67, full 0 40, cost 0 26.67, full 0 50, open 50 50, full 0 50"
     assert ", ".join(" ".join(bar) for bar in bars if bar[2] != "100") == wanted
     # the text needs no library, the page does
-    bare = without("jinja2", desk.folder)
+    bare = hide_library("jinja2", desk.folder)
     assert desk.results(*POOL, *words, **bare).out == POOL_TEXT
-    stopped(desk.results(*POOL, **bare), "python3-jinja2")
+    check_stopped(desk.results(*POOL, **bare), "python3-jinja2")
 
 
 NO_TITLES = [b"\xff", b"a\nb", b"\x1b[2J", b"x" * 201, "\u202eevil".encode(), b""]
@@ -167,7 +167,7 @@ def test_titles_currencies_and_names_are_text(desk):
     for option in ("--title=", "--currency="):
         for word in NO_TITLES:
             seen = desk.results(*POOL, option + os.fsdecode(word))
-            stopped(seen, status=2)
+            check_stopped(seen, status=2)
             assert "\x1b" not in seen.err and not desk.out.exists()
     names = desk.write("names.csv", "code;name\r\nAlpha;Alpha <b>Mobile</b>, Ltd\r\nA;800 MHz\r\n")
     words = ["--title", "3 < 4 & <b>more</b>", "--currency", "GBP", "--names", names]
@@ -209,7 +209,7 @@ def test_nothing_but_an_audit_certifies(desk, wdp):
     for part in (digest(AUDIT), digest(TIE), digest(TIE_REPORT), tail, desk.json()["wdp"]):
         assert part in page.texts["audit"]
     assert (desk.out / "audit.txt").read_text() == AUDIT
-    assert output(wdp, "--version", b"").decode().strip() == desk.json()["wdp"]
+    assert run_program(wdp, "--version", b"").decode().strip() == desk.json()["wdp"]
 
 
 def test_that_nobody_else_wins_is_shown(desk):
@@ -221,7 +221,7 @@ def test_that_nobody_else_wins_is_shown(desk):
     assert page.texts["proof"].startswith("Proved: these are the only winners.")
     assert (desk.json()["proof"], len(desk.json()["awards"])) == ("all", 1)
     seen = desk.results(data, report, "--drawn", 2, audit=parts + data)
-    stopped(seen, "shows no tie, so that nothing was drawn", status=2)
+    check_stopped(seen, "shows no tie, so that nothing was drawn", status=2)
 
 
 HEADINGS = ["Award", "Bidders who don't win the same", "Opportunity costs"]
@@ -325,7 +325,7 @@ REFUSED = [
 @pytest.mark.parametrize("drawn, why, status", REFUSED)
 def test_an_award_that_cannot_be_drawn(desk, drawn, why, status):
     seen = desk.results(WIDER, WIDER_REPORT, "--drawn", drawn, audit=WIDER_AUDIT)
-    stopped(seen, why, status=status)
+    check_stopped(seen, why, status=status)
 
 
 def test_winners_who_do_not_change_are_left_out(desk):
@@ -339,19 +339,19 @@ def test_winners_who_do_not_change_are_left_out(desk):
 
 
 def test_a_full_disk(desk):
-    small = small_files(1_000)
-    stopped(desk.results(TIE, TIE_REPORT, **small), "File too large")
+    small = limit_files(1_000)
+    check_stopped(desk.results(TIE, TIE_REPORT, **small), "File too large")
     assert sorted(os.listdir(desk.folder)) == ["input.txt", "report.txt"]
     desk.audited(AUDIT)
     desk.page(TIE, TIE_REPORT)
     before = {name: (desk.out / name).read_bytes() for name in FILES}
-    stopped(desk.results(TIE, TIE_REPORT, "--title", "Other", **small), "File too large")
+    check_stopped(desk.results(TIE, TIE_REPORT, "--title", "Other", **small), "File too large")
     assert {name: (desk.out / name).read_bytes() for name in os.listdir(desk.out)} == before
 
 
 def test_the_schema_takes_each_field_of_its_kind_and_no_others():
     SCHEMA.check_schema(SCHEMA.schema)
-    text, objects = content("docs", "results.schema.json"), []
+    text, objects = read_text("docs", "results.schema.json"), []
     json.loads(text, object_hook=lambda each: objects.append(each) or each)
     listed = [each for each in objects if "properties" in each]
     # (numbers are whole ones)
@@ -406,7 +406,7 @@ def test_sums_are_at_the_end_of_a_printed_table_alone(desk):
 # widths in CSS pixels; of paper what a page shows of 1/96 inch: A4 upright is 210 mm, less margins of 12 mm
 KINDS = {"phone": 360, "tablet": 760, "screen": 1280, "paper": round((210 - 24) / 25.4 * 96)}
 FRAMED = ["twelve_bands", "spectrum_cap", "unsold_values", "tie", "long"]
-MEASURE = f"<script>{content('fixtures', 'office', 'measure.js')}</script></body>"
+MEASURE = f"<script>{read_text('fixtures', 'office', 'measure.js')}</script></body>"
 FRAME = '<pre id="{0}"></pre><iframe name="{0}" width="{1}" srcdoc="{2}"></iframe>'
 WORDS = "--headless --no-sandbox --disable-gpu --disable-dev-shm-usage --hide-scrollbars --dump-dom"
 

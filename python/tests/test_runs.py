@@ -6,9 +6,9 @@ import sys
 from pathlib import Path
 
 import pytest
-from commands import EXAMPLES, ROOT, content, environment, is_in, rows, run, running, wait_for
+from commands import EXAMPLES, ROOT, read_text, make_environment, matches, parse_rows, run, find_processes, wait_for
 
-RUNS = rows(content("fixtures", "office", "runs.txt"))
+RUNS = parse_rows(read_text("fixtures", "office", "runs.txt"))
 
 
 @pytest.mark.parametrize("change, words, status, said", RUNS)
@@ -17,15 +17,15 @@ def test_run(office, monkeypatch, mark, change, words, status, said):
     monkeypatch.chdir(office.folder)
     for path in (*EXAMPLES.glob("worked*"), ROOT / "fixtures/solvers/three.mps"):
         shutil.copy(path, office.folder)
-    how = {"cwd": office.forms, "env": environment(OFFICE=f"{sys.executable} -m wdp")}
+    how = {"cwd": office.forms, "env": make_environment(OFFICE=f"{sys.executable} -m wdp")}
     subprocess.run(["sh", "-ec", change], check=True, **how)
     if Path("wdp").exists():
         monkeypatch.setenv("WDP", str(office.folder / "wdp"))
-    given, before = shlex.split(words.replace("@", "rules.csv forms groups.txt")), office.there()
+    given, before = shlex.split(words.replace("@", "rules.csv forms groups.txt")), office.snapshot()
     seen = run(*given)
-    assert seen.status == int(status) and is_in(said, "^" + (seen.err or seen.out)), seen
-    assert office.there() == before and all(map(str.isprintable, seen.err.splitlines()))
-    wait_for(lambda: not running(mark), 30)
+    assert seen.status == int(status) and matches(said, "^" + (seen.err or seen.out)), seen
+    assert office.snapshot() == before and all(map(str.isprintable, seen.err.splitlines()))
+    wait_for(lambda: not find_processes(mark), 30)
     if seen.status:
         # (what explain is asked for are faults)
         is_listed = words.startswith("explain") and seen.err == ""

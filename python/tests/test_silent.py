@@ -5,15 +5,15 @@ import subprocess
 import sys
 
 import pytest
-from commands import COMMAND, ROOT, WORKED, ended, start, wait_for, running
+from commands import COMMAND, ROOT, WORKED, finish, start, wait_for, find_processes
 
 MPS = ROOT / "fixtures/solvers/three.mps"
 REPORT = (ROOT / "examples/worked.report.txt").read_bytes()
 
 
-def surroundings(auction):
+def make_environment(auction):
     """What a run has in its surroundings: its messages are kept back until a line is printed."""
-    return {name: text for name, text in auction.surroundings().items() if name != "PYTHONUNBUFFERED"}
+    return {name: text for name, text in auction.make_environment().items() if name != "PYTHONUNBUFFERED"}
 
 
 # how a shell has standard error closed, full, or cut off
@@ -25,11 +25,11 @@ UNREAD = ["2>&-", "2>/dev/full", "2>&1 >report | head -n 0", ">&- 2>&-"]
 def test_nobody_reads_standard_error(auction, tmp_path, how, words):
     line = f'set -o pipefail; "$@" {words} {how}'
     command = ["bash", "-c", line, "-", sys.executable, COMMAND, "auction", auction.where]
-    seen = ended(start(command, env=surroundings(auction), cwd=tmp_path))
+    seen = finish(start(command, env=make_environment(auction), cwd=tmp_path))
     assert (seen.status, seen.out) == (0, ""), seen
     name = "report.uncertified.txt" if "--no-certify" in words else "report.txt"
     assert auction.read(name) == REPORT and auction.has("results/results.html")
-    wait_for(lambda: not running(auction.mark))
+    wait_for(lambda: not find_processes(auction.mark))
 
 
 @pytest.mark.parametrize("how", UNREAD[:3])
@@ -37,36 +37,36 @@ def test_a_failing_step_says_so_to_nobody(auction, tmp_path, how):
     auction.put("input.txt", WORKED.replace(b"30,1,0", b"x,1,0"))
     line = f'set -o pipefail; "$@" {how}'
     command = ["bash", "-c", line, "-", sys.executable, COMMAND, "auction", auction.where]
-    seen = ended(start(command, env=surroundings(auction), cwd=tmp_path))
+    seen = finish(start(command, env=make_environment(auction), cwd=tmp_path))
     assert (seen.status, seen.out) == (1, ""), seen
     assert not auction.has("report.txt")
 
 
-def ignoring():
+def ignore_children():
     signal.signal(signal.SIGCHLD, signal.SIG_IGN)
 
 
 @pytest.mark.parametrize("words", [["auction"], ["auction", "--solver", "highs"]])
 def test_a_parent_that_ignores_the_ends_of_children(auction, words):
     command = [sys.executable, COMMAND, words[0], auction.where, *words[1:]]
-    seen = ended(start(command, env=surroundings(auction), preexec_fn=ignoring))
+    seen = finish(start(command, env=make_environment(auction), preexec_fn=ignore_children))
     assert seen.status == 0 and auction.read("report.txt") == REPORT, seen
 
 
 def test_solvers_of_a_parent_that_ignores_the_ends_of_children(wdp):
     for solver in ("cbc", "highs"):
         command = [sys.executable, COMMAND, "solve", "--solver", solver, MPS]
-        seen = ended(start(command, env={**os.environ, "WDP": wdp}, preexec_fn=ignoring))
+        seen = finish(start(command, env={**os.environ, "WDP": wdp}, preexec_fn=ignore_children))
         assert (seen.status, seen.out) == (0, "X1_1 1\nX2_1 1\nX3_1 1\n"), seen
     command = [sys.executable, COMMAND, "solve", "--solver-command", "false {mps}", MPS]
-    seen = ended(start(command, env={**os.environ, "WDP": wdp}, preexec_fn=ignoring))
+    seen = finish(start(command, env={**os.environ, "WDP": wdp}, preexec_fn=ignore_children))
     assert (seen.status, seen.out) == (1, "") and "ended with status 1" in seen.err
 
 
 def test_a_library_call_in_a_process_that_ignores_the_ends_of_children(wdp):
     """Nobody can know then how the program ended."""
     call = "import wdp; from wdp import example; wdp.Auction.from_text(example.INPUT).compile()"
-    how = {"preexec_fn": ignoring, "capture_output": True, "text": True, "timeout": 60}
+    how = {"preexec_fn": ignore_children, "capture_output": True, "text": True, "timeout": 60}
     how["env"] = {**os.environ, "WDP": wdp, "PYTHONPATH": f"{ROOT}/python/src"}
     seen = subprocess.run([sys.executable, "-c", call], **how)
     why = "wdp.Unclear: this process ignores SIGCHLD, so that nobody knows how a program ends"

@@ -5,7 +5,7 @@ import random
 
 import pytest
 import tied_auctions
-from commands import SCHEMA, Auction, output, rows, run
+from commands import SCHEMA, AuctionFolder, run_program, parse_rows, run
 from tied_auctions import BIDDERS
 from trials.judging import row
 
@@ -54,7 +54,7 @@ def assert_all_awards(wdp, auction):
     awards = [winners_in(award) for award in found.report.awards]
     assert found.report.has_all_awards
     assert sorted(awards) == sorted(tied_auctions.greatest(auction))
-    printed = output(wdp, "verify", found.audit).decode()
+    printed = run_program(wdp, "verify", found.audit).decode()
     assert ending_of(printed) == ending(auction, awards)
 
 
@@ -122,8 +122,9 @@ def test_the_command_lists_all_awards(tmp_path, wdp, number):
     """The bytes are the same whatever the number of jobs."""
     tied = drawn(number)
     data = tied_auctions.input_text(tied, [()]).encode()
-    one, four = Auction(tmp_path / "one", wdp, data), Auction(tmp_path / "four", wdp, data)
-    one.said("--ties", "--jobs", 1)
+    one = AuctionFolder(tmp_path / "one", wdp, data)
+    four = AuctionFolder(tmp_path / "four", wdp, data)
+    one.read_messages("--ties", "--jobs", 1)
     said = published(one)
     awards = [
         tuple((BIDDERS.index(won["name"]) + 1, won["bid"]) for won in award["winners"])
@@ -134,8 +135,8 @@ def test_the_command_lists_all_awards(tmp_path, wdp, number):
     assert [award["number"] for award in said["awards"]] == list(range(1, len(awards) + 1))
     costs = [group["cost"] for group in said["groups"]]
     assert said["awards"][0]["costs"] == costs
-    four.said("--ties", "--jobs", 4)
-    assert four.outcome() == one.outcome()
+    four.read_messages("--ties", "--jobs", 4)
+    assert four.read_outcome() == one.read_outcome()
 
 
 # One lot, for which three offer 20, and another one, for which Delta offers 7 alone, as for both.
@@ -168,24 +169,24 @@ Delta
 
 @pytest.fixture
 def three(tmp_path, wdp):
-    auction = Auction(tmp_path / "three", wdp, THREE)
-    assert "proved: these 3 awards, and no other, reach" in auction.said("--ties")
+    auction = AuctionFolder(tmp_path / "three", wdp, THREE)
+    assert "proved: these 3 awards, and no other, reach" in auction.read_messages("--ties")
     return auction
 
 
 def test_an_award_that_is_made_the_first(three):
     """Delta wins in each, and pays the reserve; the other winner pays what another one offers."""
-    before = three.outcome()
+    before = three.read_outcome()
     awards = published(three)["awards"]
     for number, award in enumerate(awards, 1):
-        said = three.said("--award", number)
-        assert three.outcome() == before
+        said = three.read_messages("--award", number)
+        assert three.read_outcome() == before
         if number == 1:
             continue
         assert f"award {number} is the first of" in said
         audit = three.read(f"awards/{number}/audit.txt")
         winner = next(won["name"] for won in award["winners"] if won["name"] != "Delta")
-        printed = output(three.wdp, "verify", audit).decode()
+        printed = run_program(three.wdp, "verify", audit).decode()
         first = printed.split("total ")[0]
         assert first == f"group 1 -\n{winner} 1 20\nDelta 1 7\n"
         assert f"prices\n{winner} 20\nDelta 1\nsum 21\nby the rule\n" in printed
@@ -197,7 +198,7 @@ def test_prices_are_found_without_a_search_for_ties(three):
     """Only the winners and what they pay are printed."""
     for name in ("ties.txt", "ties/1.txt", "ties/2.txt"):
         (three.where / name).unlink()
-    seen = run("prices", three.where, "--quiet", env=three.surroundings())
+    seen = run("prices", three.where, "--quiet", env=three.make_environment())
     assert seen.status == 0
     assert [line.split()[0] for line in seen.out.splitlines()][0::3] == ["Winner", "All"]
     assert not three.has("ties.txt")
@@ -206,14 +207,14 @@ def test_prices_are_found_without_a_search_for_ties(three):
 def test_prices_of_an_audit_with_ties(three):
     audit = three.where / "audit.txt"
     output_path = three.where / "priced.txt"
-    seen = run("prices", audit, "--output", output_path, "--quiet", env=three.surroundings())
+    seen = run("prices", audit, "--output", output_path, "--quiet", env=three.make_environment())
     assert seen.status == 0
     assert "Award" not in seen.out
     assert output_path.read_bytes() == audit.read_bytes()
 
 
 def test_a_drawn_award_is_published_with_its_prices(three):
-    three.said("--award", 3)
+    three.read_messages("--award", 3)
     files = [three.where / "input.txt", three.where / "report.txt"]
     for audit, has_prices in (("audit.txt", False), ("awards/3/audit.txt", True)):
         words = ["--audit", three.where / audit, "--drawn", 3, "--output", three.where / "drawn"]
@@ -228,12 +229,12 @@ def test_a_drawn_award_is_published_with_its_prices(three):
 
 def test_awards_that_a_run_found_are_kept(three):
     """A run that was cut goes on from them, and leaves the same bytes."""
-    before = three.outcome()
+    before = three.read_outcome()
     for kept in ((), ("ties/1.txt",), ("ties/1.txt", "ties/2.txt")):
         for name in {"ties.txt", "ties/1.txt", "ties/2.txt"} - set(kept):
             (three.where / name).unlink()
-        three.said("--ties")
-        assert three.outcome() == before
+        three.read_messages("--ties")
+        assert three.read_outcome() == before
         assert three.has("ties/2.txt")
 
 
@@ -244,8 +245,8 @@ def test_more_awards_than_an_audit_lists(tmp_path, wdp):
     for name in names:
         lines += ["%form", f"{name},A", "10,1"]
     data = "".join(f"{line}\n" for line in [*lines, "%groups", "-"]).encode()
-    auction = Auction(tmp_path / "many", wdp, data)
-    said = auction.said("--ties", "--no-prices")
+    auction = AuctionFolder(tmp_path / "many", wdp, data)
+    said = auction.read_messages("--ties", "--no-prices")
     assert "at least these 65 awards reach the total of group 1: don't draw from these alone" in said
     assert "the search for ties ended at the limit of an audit, 64 beside the first" in said
     assert (published(auction)["proof"], len(published(auction)["awards"])) == ("some", 65)
@@ -256,7 +257,7 @@ def test_more_awards_than_an_audit_lists(tmp_path, wdp):
 def test_awards_of_a_search_that_did_not_end_may_not_be_all(three):
     (three.where / "ties.txt").unlink()
     (three.where / "ties/2.txt").unlink()
-    said = three.said()
+    said = three.read_messages()
     assert "at least these 2 awards reach the total of group 1: don't draw from these alone" in said
     assert published(three)["proof"] == "some"
     assert three.read("audit.txt").count(b"%tie\n") == 1
@@ -291,16 +292,16 @@ REFUSED = """
 """
 
 
-@pytest.mark.parametrize("number, why, status", rows(REFUSED))
+@pytest.mark.parametrize("number, why, status", parse_rows(REFUSED))
 def test_an_award_that_cannot_be_the_first(tmp_path, wdp, number, why, status):
-    auction = Auction(tmp_path / "four", wdp, FOUR_LOTS)
-    assert why in auction.said("--award", number, status=int(status))
+    auction = AuctionFolder(tmp_path / "four", wdp, FOUR_LOTS)
+    assert why in auction.read_messages("--award", number, status=int(status))
     assert not auction.has("awards")
 
 
 def test_the_awards_of_four_lots(tmp_path, wdp):
-    auction = Auction(tmp_path / "four", wdp, FOUR_LOTS)
-    said = auction.said("--ties")
+    auction = AuctionFolder(tmp_path / "four", wdp, FOUR_LOTS)
+    said = auction.read_messages("--ties")
     assert "proved: these 4 awards, and no other, reach the total of group 1" in said
     awards = published(auction)["awards"]
     bids = [[won["bid"] for won in award["winners"]] for award in awards]
@@ -315,15 +316,15 @@ WRONG = """
 """
 
 
-@pytest.mark.parametrize("words, why", rows(WRONG))
+@pytest.mark.parametrize("words, why", parse_rows(WRONG))
 def test_words_that_do_not_go_together(tmp_path, wdp, words, why):
-    auction = Auction(tmp_path / "four", wdp, FOUR_LOTS)
-    assert why in auction.said(*words.split(), status=2)
+    auction = AuctionFolder(tmp_path / "four", wdp, FOUR_LOTS)
+    assert why in auction.read_messages(*words.split(), status=2)
 
 
 def test_an_award_of_no_folder(tmp_path, wdp):
-    auction = Auction(tmp_path / "four", wdp, FOUR_LOTS)
-    said = auction.said("--award", 2, folder=False, status=2)
+    auction = AuctionFolder(tmp_path / "four", wdp, FOUR_LOTS)
+    said = auction.read_messages("--award", 2, folder=False, status=2)
     assert "--award goes with DIR, and not with --step" in said
 
 
@@ -336,7 +337,7 @@ split 0 X1_1 1 | split 0 X1_1 1
 """
 
 
-@pytest.mark.parametrize("line, wanted", rows(LINES))
+@pytest.mark.parametrize("line, wanted", parse_rows(LINES))
 def test_multipliers_of_points_in_another_order(line, wanted):
     assert audits.with_points(f"{line}\n".encode(), [1, 0]) == f"{wanted}\n".encode()
 

@@ -41,7 +41,7 @@ DIGITS = re.compile("[0-9]{0,18}")
 FORM = [["Fox", "Low", "High"], [5000, 2, 1], [9900, 4, 0], [3000, 0, 3]]
 
 
-def cell(value, name=None, more=""):
+def make_cell(value, name=None, more=""):
     """A cell in XML; a text is within it."""
     at = f' r="{name}"' if name else ""
     if isinstance(value, str):
@@ -49,24 +49,24 @@ def cell(value, name=None, more=""):
     return f"<c{at}{more}/>" if value is None else f"<c{at}{more}><v>{value}</v></c>"
 
 
-def row_of(number, values, more="", of_cells=""):
+def make_row(number, values, more="", of_cells=""):
     cells = "".join(
-        cell(value, f"{get_column_letter(at)}{number}", of_cells if number > 1 else "")
+        make_cell(value, f"{get_column_letter(at)}{number}", of_cells if number > 1 else "")
         for at, value in enumerate(values, 1)
     )
     return f'<row r="{number}"{more}>{cells}</row>'
 
 
-def body(rows, of_cells=""):
-    lines = [row_of(number, values, of_cells=of_cells) for number, values in enumerate(rows, 1)]
+def make_body(rows, of_cells=""):
+    lines = [make_row(number, values, of_cells=of_cells) for number, values in enumerate(rows, 1)]
     return f"<sheetData>{''.join(lines)}</sheetData>"
 
 
-def sheet_xml(inner):
+def make_sheet(inner):
     return f'{HEAD}<worksheet xmlns="{MAIN}">{inner}</worksheet>'
 
 
-class Raw:
+class RawWorkbook:
     """A workbook from XML: its sheets as pairs of a name, perhaps with attributes after it, and what is in the sheet."""
 
     def __init__(self, *sheets, formats=(), texts=None, about=""):
@@ -83,7 +83,7 @@ class Raw:
             links.append((f"rId{number}", "worksheet", f"worksheets/sheet{number}.xml"))
             name, _, more = name.partition("|")
             names.append(f'<sheet name="{name}" sheetId="{number}" {more} r:id="rId{number}"/>')
-            yield part, sheet_xml(inner)
+            yield part, make_sheet(inner)
         if self.formats:
             kinds["xl/styles.xml"] = STYLES_TYPE
             links.append(("rIdS", "styles", "styles.xml"))
@@ -129,11 +129,11 @@ class Raw:
         data = io.BytesIO()
         with zipfile.ZipFile(data, "w", zipfile.ZIP_DEFLATED) as archive:
             for name, text in [*self.parts.items(), *again]:
-                with_warning(archive.writestr, name, text)
+                call_with_warning(archive.writestr, name, text)
         return data.getvalue()
 
 
-def with_warning(call, *given):
+def call_with_warning(call, *given):
     import warnings
 
     with warnings.catch_warnings():
@@ -141,11 +141,11 @@ def with_warning(call, *given):
         call(*given)
 
 
-def one(inner, **how):
-    return Raw(("Bids", inner), **how).bytes()
+def make_one(inner, **how):
+    return RawWorkbook(("Bids", inner), **how).bytes()
 
 
-def written(rows, change=lambda book, sheet: None):
+def write_rows(rows, change=lambda book, sheet: None):
     """A workbook by openpyxl, of which something was changed."""
     book = openpyxl.Workbook()
     sheet = book.active
@@ -166,7 +166,7 @@ def plain(turn, rows):
         lambda book, sheet: sheet.append([None, None, None]),
         lambda book, sheet: setattr(sheet.column_dimensions["A"], "width", 30),
     ]
-    return written(rows, more[turn % len(more)])
+    return write_rows(rows, more[turn % len(more)])
 
 
 def hide_column(book, sheet):
@@ -177,100 +177,100 @@ def hide_row(book, sheet):
     sheet.row_dimensions[3].hidden = True
 
 
-def narrow(book, sheet):
+def narrow_column(book, sheet):
     sheet.column_dimensions["C"].width = 0.2
 
 
-def low(book, sheet):
+def lower_row(book, sheet):
     sheet.row_dimensions[2].height = 0.5
 
 
 def hidden(turn, rows):
     other = [rows[0], [1, 1, 1]]
     made = [
-        lambda: Raw(('Bids|state="hidden"', body(other)), ("Final", body(rows))).bytes(),
-        lambda: written(rows, hide_row),
-        lambda: written(rows, hide_column),
-        lambda: Raw(("Bids", body(rows)), ('Lists|state="veryHidden"', body([["x"]]))).bytes(),
-        lambda: written(rows, narrow),
-        lambda: written(rows, low),
-        lambda: one(body(rows, ' s="1"'), formats=[";;;"]),
-        lambda: one('<sheetFormatPr defaultRowHeight="15" defaultColWidth="0"/>' + body(rows)),
-        lambda: written(rows, lambda book, sheet: setattr(sheet.column_dimensions["H"], "hidden", True)),
+        lambda: RawWorkbook(('Bids|state="hidden"', make_body(other)), ("Final", make_body(rows))).bytes(),
+        lambda: write_rows(rows, hide_row),
+        lambda: write_rows(rows, hide_column),
+        lambda: RawWorkbook(("Bids", make_body(rows)), ('Lists|state="veryHidden"', make_body([["x"]]))).bytes(),
+        lambda: write_rows(rows, narrow_column),
+        lambda: write_rows(rows, lower_row),
+        lambda: make_one(make_body(rows, ' s="1"'), formats=[";;;"]),
+        lambda: make_one('<sheetFormatPr defaultRowHeight="15" defaultColWidth="0"/>' + make_body(rows)),
+        lambda: write_rows(rows, lambda book, sheet: setattr(sheet.column_dimensions["H"], "hidden", True)),
     ]
     return made[turn % len(made)]()
 
 
 def merged(turn, rows):
     covers = ["A2:B2", "A1:A2", "B2:C4", "E1:G9", "A9:C9", "C4:D4", "A1:A1"]
-    inner = body(rows) + f'<mergeCells><mergeCell ref="{covers[turn % len(covers)]}"/></mergeCells>'
-    return one(inner) if turn % 2 else written(rows, lambda book, sheet: sheet.merge_cells("E2:F3"))
+    inner = make_body(rows) + f'<mergeCells><mergeCell ref="{covers[turn % len(covers)]}"/></mergeCells>'
+    return make_one(inner) if turn % 2 else write_rows(rows, lambda book, sheet: sheet.merge_cells("E2:F3"))
 
 
 def sparse(turn, rows):
-    gap = [row_of(at * 100 + 1, row) for at, row in enumerate(rows)]
-    unnamed = "".join("<row>" + "".join(map(cell, row)) + "</row>" for row in rows)
+    gap = [make_row(at * 100 + 1, row) for at, row in enumerate(rows)]
+    unnamed = "".join("<row>" + "".join(map(make_cell, row)) + "</row>" for row in rows)
     made = [
-        lambda: one(f"<sheetData>{''.join(gap)}</sheetData>"),
-        lambda: one(f"<sheetData>{unnamed}</sheetData>"),
-        lambda: one(f'<sheetData><row r="1"/>{row_of(1_000_000, rows[0])}</sheetData>'),
-        lambda: one(body([[*row, None, None] for row in rows])),
-        lambda: one(body([rows[0], [], *rows[1:], [None] * 3])),
-        lambda: one(body([[*row, *[None] * 20, "note"] for row in rows])),
-        lambda: one("<sheetData/>"),
+        lambda: make_one(f"<sheetData>{''.join(gap)}</sheetData>"),
+        lambda: make_one(f"<sheetData>{unnamed}</sheetData>"),
+        lambda: make_one(f'<sheetData><row r="1"/>{make_row(1_000_000, rows[0])}</sheetData>'),
+        lambda: make_one(make_body([[*row, None, None] for row in rows])),
+        lambda: make_one(make_body([rows[0], [], *rows[1:], [None] * 3])),
+        lambda: make_one(make_body([[*row, *[None] * 20, "note"] for row in rows])),
+        lambda: make_one("<sheetData/>"),
     ]
     return made[turn % len(made)]()
 
 
 def repeated(turn, rows):
-    lines = [row_of(number, row) for number, row in enumerate(rows, 1)]
-    twice = "".join([*lines, row_of(len(rows), [7000, 1, 1])])
-    cells = f'<row r="9">{cell(10, "A9")}{cell(20, "A9")}{cell(1, "B9")}</row>'
-    two = Raw(("Bids", body(rows)), ("bids", body(rows)))
-    other = ("xl/worksheets/sheet1.xml", sheet_xml(body([rows[0], [1, 1, 1]])))
+    lines = [make_row(number, row) for number, row in enumerate(rows, 1)]
+    twice = "".join([*lines, make_row(len(rows), [7000, 1, 1])])
+    cells = f'<row r="9">{make_cell(10, "A9")}{make_cell(20, "A9")}{make_cell(1, "B9")}</row>'
+    two = RawWorkbook(("Bids", make_body(rows)), ("bids", make_body(rows)))
+    other = ("xl/worksheets/sheet1.xml", make_sheet(make_body([rows[0], [1, 1, 1]])))
     upper = ("xl/Worksheets/Sheet1.xml", other[1])
     made = [
-        lambda: one(f"<sheetData>{twice}</sheetData>"),
-        lambda: one(f"<sheetData>{''.join(lines)}{cells}</sheetData>"),
-        lambda: Raw(("Bids", body(rows))).bytes(again=[other]),
+        lambda: make_one(f"<sheetData>{twice}</sheetData>"),
+        lambda: make_one(f"<sheetData>{''.join(lines)}{cells}</sheetData>"),
+        lambda: RawWorkbook(("Bids", make_body(rows))).bytes(again=[other]),
         lambda: two.bytes(),
-        lambda: one(body(rows) + body([[1, 2, 3]])),
-        lambda: one(body(rows).replace("</v>", "</v><v>1</v>", 1)),
-        lambda: Raw(("Bids", body(rows))).bytes(again=[upper]),
-        lambda: one('<cols><col min="1" max="3"/><col min="2" max="2" hidden="1"/></cols>' + body(rows)),
+        lambda: make_one(make_body(rows) + make_body([[1, 2, 3]])),
+        lambda: make_one(make_body(rows).replace("</v>", "</v><v>1</v>", 1)),
+        lambda: RawWorkbook(("Bids", make_body(rows))).bytes(again=[upper]),
+        lambda: make_one('<cols><col min="1" max="3"/><col min="2" max="2" hidden="1"/></cols>' + make_body(rows)),
     ]
     return made[turn % len(made)]()
 
 
 def order(turn, rows):
-    lines = [row_of(number, row) for number, row in enumerate(rows, 1)]
+    lines = [make_row(number, row) for number, row in enumerate(rows, 1)]
     swapped = "".join([lines[0], lines[2], lines[1], *lines[3:]])
-    cells = f'<row r="9">{cell(1, "B9")}{cell(10, "A9")}</row>'
-    lost = f'<row r="9">{cell(10, "A8")}</row>'
-    small = f'<row r="9">{cell(10, "a9")}</row>'
+    cells = f'<row r="9">{make_cell(1, "B9")}{make_cell(10, "A9")}</row>'
+    lost = f'<row r="9">{make_cell(10, "A8")}</row>'
+    small = f'<row r="9">{make_cell(10, "a9")}</row>'
     made = [
-        lambda: one(f"<sheetData>{swapped}</sheetData>"),
-        lambda: one(f"<sheetData>{''.join(lines)}{cells}</sheetData>"),
-        lambda: one(f"<sheetData>{''.join(lines)}{lost}</sheetData>"),
-        lambda: one(f"<sheetData>{''.join(lines)}{small}</sheetData>"),
+        lambda: make_one(f"<sheetData>{swapped}</sheetData>"),
+        lambda: make_one(f"<sheetData>{''.join(lines)}{cells}</sheetData>"),
+        lambda: make_one(f"<sheetData>{''.join(lines)}{lost}</sheetData>"),
+        lambda: make_one(f"<sheetData>{''.join(lines)}{small}</sheetData>"),
     ]
     return made[turn % len(made)]()
 
 
 def huge(turn, rows):
-    lines = body(rows).removesuffix("</sheetData>")
-    wide = f'<row r="9">{cell(1, "XFD9")}</row></sheetData>'
+    lines = make_body(rows).removesuffix("</sheetData>")
+    wide = f'<row r="9">{make_cell(1, "XFD9")}</row></sheetData>'
     long = "9" * 500
     made = [
-        lambda: one(lines + '<row r="2000000000"/></sheetData>'),
-        lambda: one(lines + row_of(1_048_577, [1]) + "</sheetData>"),
-        lambda: one(lines + wide),
-        lambda: one(lines + f'<row r="9">{cell(1, "ALM9")}</row></sheetData>'),
-        lambda: one(body([rows[0], [10**17, 1, 1]])),
-        lambda: one(body([rows[0], [9007199254740993, 1, 1]])),
-        lambda: one(body(rows).replace("<v>", f"<v>{long}", 1)),
-        lambda: one(lines + '<row r="9"><c r="XFE9"><v>1</v></c></row></sheetData>'),
-        lambda: one(lines + row_of(1_048_576, [7000, 1, 1]) + "</sheetData>"),
+        lambda: make_one(lines + '<row r="2000000000"/></sheetData>'),
+        lambda: make_one(lines + make_row(1_048_577, [1]) + "</sheetData>"),
+        lambda: make_one(lines + wide),
+        lambda: make_one(lines + f'<row r="9">{make_cell(1, "ALM9")}</row></sheetData>'),
+        lambda: make_one(make_body([rows[0], [10**17, 1, 1]])),
+        lambda: make_one(make_body([rows[0], [9007199254740993, 1, 1]])),
+        lambda: make_one(make_body(rows).replace("<v>", f"<v>{long}", 1)),
+        lambda: make_one(lines + '<row r="9"><c r="XFE9"><v>1</v></c></row></sheetData>'),
+        lambda: make_one(lines + make_row(1_048_576, [7000, 1, 1]) + "</sheetData>"),
     ]
     return made[turn % len(made)]()
 
@@ -292,18 +292,18 @@ def encrypted(turn, rows):
 
 
 def bombs(turn, rows):
-    inner = body(rows)
+    inner = make_body(rows)
     entities = '<!DOCTYPE x [<!ENTITY a "aaaaaaaaaa"><!ENTITY b "&a;&a;&a;&a;&a;&a;&a;&a;">]>'
-    book = Raw(("Bids", inner))
+    book = RawWorkbook(("Bids", inner))
     part = "xl/worksheets/sheet1.xml"
     made = [
-        lambda: one("<!--" + " " * 15_000_000 + "-->" + inner),
-        lambda: one("<!--" + " " * 60_000_000 + "-->" + inner),
-        lambda: one(" " * 2**27 + inner),
+        lambda: make_one("<!--" + " " * 15_000_000 + "-->" + inner),
+        lambda: make_one("<!--" + " " * 60_000_000 + "-->" + inner),
+        lambda: make_one(" " * 2**27 + inner),
         lambda: book.changed(part, "<worksheet", entities + "<worksheet").bytes(),
-        lambda: one("<a>" * 100_000 + "</a>" * 100_000 + inner),
-        lambda: one(f'<a b="{" " * 10_000_000}"/>' + inner),
-        lambda: Raw(("Bids", inner), texts="<si/>" * 2_000_000).bytes(),
+        lambda: make_one("<a>" * 100_000 + "</a>" * 100_000 + inner),
+        lambda: make_one(f'<a b="{" " * 10_000_000}"/>' + inner),
+        lambda: RawWorkbook(("Bids", inner), texts="<si/>" * 2_000_000).bytes(),
         lambda: book.bytes(again=[(f"x{n}", "") for n in range(5_000)]),
     ]
     return made[turn % len(made)]()
@@ -317,7 +317,7 @@ UNSEEN = [";;;", "&quot;many&quot;", "yyyy-mm-dd", "h:mm", "[h]:mm", "d. mmm"]
 
 def formats(turn, rows):
     code = [*SCALED, *FORMATS, *UNSEEN][turn % 19].replace('" pounds"', "&quot; pounds&quot;")
-    return one(body(rows, ' s="1"'), formats=[code])
+    return make_one(make_body(rows, ' s="1"'), formats=[code])
 
 
 VALUES = [
@@ -342,24 +342,24 @@ VALUES = [
 
 def values(turn, rows):
     value = VALUES[turn % len(VALUES)]
-    first = row_of(1, rows[0])
-    second = f'<row r="2">{value}{cell(2, "B2")}{cell(1, "C2")}</row>'
-    return one(f"<sheetData>{first}{second}</sheetData>")
+    first = make_row(1, rows[0])
+    second = f'<row r="2">{value}{make_cell(2, "B2")}{make_cell(1, "C2")}</row>'
+    return make_one(f"<sheetData>{first}{second}</sheetData>")
 
 
 def texts(turn, rows):
     """The heading by shared texts: of pieces, and with a word on how to say it."""
     rich = "<si><r><t>F</t></r><r><t>ox</t></r><rPh sb='0' eb='1'><t>x</t></rPh></si>"
     made = [rich, "<si><t>Fox</t></si>", "<si><t>fox</t></si>", "<si/>"]
-    first = f'<c r="A1" t="s"><v>0</v></c>{cell("Low", "B1")}{cell("High", "C1")}'
-    lines = "".join(row_of(number, row) for number, row in enumerate(rows[1:], 2))
+    first = f'<c r="A1" t="s"><v>0</v></c>{make_cell("Low", "B1")}{make_cell("High", "C1")}'
+    lines = "".join(make_row(number, row) for number, row in enumerate(rows[1:], 2))
     inner = f'<sheetData><row r="1">{first}</row>{lines}</sheetData>'
-    return one(inner, texts=made[turn % len(made)])
+    return make_one(inner, texts=made[turn % len(made)])
 
 
 def sheets(turn, rows):
     second = [[["Fox", "Low", "High"], [1, 1, 1]], [["Notes"]], [["fox"]], [[]], [["Ant", "Low", "High"]]]
-    odd = Raw(("Bids", body(rows)), ("Other", body(second[turn % len(second)])))
+    odd = RawWorkbook(("Bids", make_body(rows)), ("Other", make_body(second[turn % len(second)])))
     if turn % 3 == 1:
         odd.changed("xl/_rels/workbook.xml.rels", "sheet2.xml", "sheet1.xml")
     elif turn % 7 == 6:
@@ -372,11 +372,11 @@ KINDS = [plain, hidden, merged, sparse, repeated, order, huge, encrypted, bombs,
 KINDS += [texts, sheets]
 
 
-def all_names():
+def list_names():
     return [f"{kind.__name__}_{turn:02}" for kind in KINDS for turn in range(COUNT)]
 
 
-def made(name):
+def make_workbook(name):
     """The workbook of a name, as hidden_03."""
     kind, _, turn = name.rpartition("_")
     chosen = random.Random(int(turn) // 10 * 7)
@@ -386,7 +386,7 @@ def made(name):
     return globals()[kind](int(turn), rows)
 
 
-def outcome(data, sheet=None):
+def read_outcome(data, sheet=None):
     """What is read of a workbook, and what is said of it: of its rows, or of why they aren't read."""
     try:
         file = read_workbook("it", data, 4_002, sheet=sheet, heads=BIDDERS)
@@ -401,12 +401,12 @@ def outcome(data, sheet=None):
 SHOWN = 'csv:Text - txt - csv (StarCalc):44,34,76,1,,0,false,false,false,false,false,-1'
 
 
-def by_libreoffice(folder, kind, *paths):
+def run_libreoffice(folder, kind, *paths):
     words = ["soffice", "--headless", f"-env:UserInstallation=file://{folder}/profile", "--convert-to", kind]
     subprocess.run([*words, "--outdir", folder, *paths], capture_output=True, timeout=900, check=False)
 
 
-def shown_by_libreoffice(folder, name):
+def show_in_libreoffice(folder, name):
     """The rows of each sheet as LibreOffice shows them, without empty ones."""
     found = {}
     for path in folder.glob(f"{name}-*.csv"):
@@ -416,7 +416,7 @@ def shown_by_libreoffice(folder, name):
     return found
 
 
-def taken(path):
+def read_taken(path):
     """What is read of a workbook, or why it is refused."""
     try:
         file = read_workbook("it", path.read_bytes(), 4_002, heads=BIDDERS)
@@ -428,9 +428,9 @@ def taken(path):
     return file, ""
 
 
-def compared(folder, path, file):
+def compare(folder, path, file):
     """Whether what is read is what LibreOffice shows of the same sheet, or what the receipt names; and both."""
-    shown = shown_by_libreoffice(folder, path.stem)
+    shown = show_in_libreoffice(folder, path.stem)
     first = next(iter(file.rows)).places[0].rpartition("!")[0] if file.rows else "Bids"
     own = [",".join(row.values).rstrip(",") for row in file.rows]
     is_named = any("shown as another number" in change for change in file.changes)
@@ -442,23 +442,23 @@ def main():
     folder = Path(sys.argv[1] if sys.argv[1:] else tempfile.mkdtemp(prefix="workbooks."))
     folder.mkdir(exist_ok=True)
     paths = []
-    for name in all_names():
+    for name in list_names():
         paths.append(folder / f"{name}.xlsx")
-        paths[-1].write_bytes(made(name))
+        paths[-1].write_bytes(make_workbook(name))
     for turn in range(COUNT):
         lines = [["Fox", "Low", "High"], *([turn * 100 + at, at, 1] for at in range(1, 4))]
         lines[2:2] = [[]] * (turn % 3)
         text = "".join(",".join(map(str, line)) + "\n" for line in lines)
         (folder / f"libreoffice_{turn:02}.csv").write_text(text)
-    by_libreoffice(folder, "xlsx", *folder.glob("libreoffice_*.csv"))
+    run_libreoffice(folder, "xlsx", *folder.glob("libreoffice_*.csv"))
     paths += sorted(folder.glob("libreoffice_*.xlsx"))
-    found = {path: taken(path) for path in paths}
+    found = {path: read_taken(path) for path in paths}
     read = [path for path, (file, _) in found.items() if file]
     for at in range(0, len(read), 50):
-        by_libreoffice(folder, SHOWN, *read[at : at + 50])
+        run_libreoffice(folder, SHOWN, *read[at : at + 50])
     counts = {"same": 0, "refused": 0, "named": 0, "wrong": 0}
     for path, (file, why) in found.items():
-        kind, both = compared(folder, path, file) if file else ("refused", why)
+        kind, both = compare(folder, path, file) if file else ("refused", why)
         counts[kind] += 1
         print(f"{path.stem}: {kind}: {both[:300]}")
     print("{same} the same, {refused} refused, {named} named, {wrong} wrong".format(**counts))
