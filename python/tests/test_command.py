@@ -4,8 +4,9 @@ import os
 import signal
 import subprocess
 import sys
+from pathlib import Path
 
-from commands import ROOT, WORKED, read_text, finish, list_files, run, start
+from commands import ROOT, WORKED, OfficeFolder, read_text, finish, list_files, run, start
 
 import wdp
 from wdp import cli
@@ -16,30 +17,39 @@ PUBLIC = ["__init__", "api", "results", "texts/refusals"]
 STRANGE = ["", "-", "--", "--versions", "a\nb", "\x1b[1mgather", "x" * 100_000]
 
 
-def test_words_that_are_no_command_are_one_short_line():
+def test_words_that_are_no_command_are_one_short_line() -> None:
     for word in STRANGE:
         status, output, said = run(word)
-        assert (status, output, said.count("\n")) == (2, "", 1)
-        assert said[:-1].isprintable() and len(said) < 600
+        assert status == 2
+        assert output == ""
+        assert said.count("\n") == 1
+        assert said[:-1].isprintable()
+        assert len(said) < 600
 
 
-def test_version_and_help():
+def test_version_and_help() -> None:
     assert run("--version") == (0, f"wdp-office {wdp.__version__}\n", "")
     status, whole, said = run("--help")
     asked = run("help"), run("-h"), run("help", "help")
     assert (status, said, *asked) == (0, "", *[(0, whole, "")] * 3)
-    assert run() == (2, "", whole) and cli.COMMANDS
+    assert run() == (2, "", whole)
+    assert cli.COMMANDS
     for name in cli.COMMANDS:
-        assert f"\n    {name} " in whole and name in cli.build_parser().format_help()
+        assert f"\n    {name} " in whole
+        assert name in cli.build_parser().format_help()
         status, text, said = run("help", name)
-        assert (status, said) == (0, "") and text.startswith(f"usage: wdp-office {name} ")
+        assert status == 0
+        assert said == ""
+        assert text.startswith(f"usage: wdp-office {name} ")
         assert run(name, "--help") == (0, text, "")
         status, output, said = run(name, "--no-such-word")
-        assert (status, output, said.count("\n")) == (2, "", 1)
+        assert status == 2
+        assert output == ""
+        assert said.count("\n") == 1
         assert said.startswith(f"wdp-office {name}: error: ")
 
 
-def test_it_is_found_through_a_link_and_in_a_tree_at_a_strange_path(tmp_path):
+def test_it_is_found_through_a_link_and_in_a_tree_at_a_strange_path(tmp_path: Path) -> None:
     link, place = tmp_path / "a link", tmp_path / "a $(touch x) 'tree' {0}\n"
     link.symlink_to(TOOL)
     how = {"cwd": tmp_path, "env": {"PATH": "/usr/bin:/bin"}}
@@ -52,33 +62,35 @@ def test_it_is_found_through_a_link_and_in_a_tree_at_a_strange_path(tmp_path):
     assert os.listdir(tmp_path) == [place.name]
 
 
-def test_standard_output_that_fails_and_an_interrupt_are_one_line(office):
+def test_standard_output_that_fails_and_an_interrupt_are_one_line(office: OfficeFolder) -> None:
     none = "standard output: No space left on device\n"
     with open("/dev/full", "wb") as full:
         for words in (["--help"], ["--version"], ["help", "gather"]):
             assert run(*words, stdout=full) == (1, "", f"wdp-office: {none}")
         for command in ("gather", "explain"):
             seen = run(command, *office.files, stdout=full)
-            assert seen.status == 1 and seen.err.splitlines(True)[-1] == f"{command}: {none}"
+            assert seen.status == 1
+            assert seen.err.splitlines(True)[-1] == f"{command}: {none}"
     os.mkfifo(office.folder / "never")
-    for words in (["explain"], ["gather", office.rules, office.forms]):
+    commands: list[list[object]] = [["explain"], ["gather", office.rules, office.forms]]
+    for words in commands:
         tool = start([TOOL, *words, office.folder / "never"])
         with open(office.folder / "never", "wb"):  # the command reads now
             tool.send_signal(signal.SIGINT)
             assert finish(tool) == (130, "", f"{words[0]}: interrupted\n")
 
 
-def list_functions(path):
+def list_functions(path: Path) -> list[ast.FunctionDef]:
     nodes = ast.walk(ast.parse(path.read_text()))
     return [each for each in nodes if isinstance(each, ast.FunctionDef)]
 
 
-def test_public_functions_have_docstrings():
+def test_public_functions_have_docstrings() -> None:
     for node in [each for name in PUBLIC for each in list_functions(SOURCE / f"{name}.py")]:
         assert node.name.startswith("_") or ast.get_docstring(node), node.name
 
 
-def test_pip_installs_it_without_a_network(tmp_path):
+def test_pip_installs_it_without_a_network(tmp_path: Path) -> None:
     subprocess.run(["cp", "-r", ROOT / "python", tmp_path / "python"], check=True)
     words = "-m pip install -q --no-build-isolation --no-index --no-compile --target".split()
     how = {"PATH": "/usr/bin:/bin", "PIP_DISABLE_PIP_VERSION_CHECK": "1", "HOME": str(tmp_path)}
@@ -87,7 +99,12 @@ def test_pip_installs_it_without_a_network(tmp_path):
     assert list_files(tmp_path / "to" / "wdp") == list_files(SOURCE)
     text = "import wdp, wdp.program; print(wdp.__version__, wdp.program._find_tree())\n"
     text += "wdp.Auction.from_text('').check('ENDATA')"
-    how = {"cwd": tmp_path, "env": {**os.environ, "PYTHONPATH": str(tmp_path / "to")}}
-    done = subprocess.run([sys.executable, "-B", "-c", text], capture_output=True, text=True, **how)
+    done = subprocess.run(
+        [sys.executable, "-B", "-c", text],
+        capture_output=True,
+        text=True,
+        cwd=tmp_path,
+        env={**os.environ, "PYTHONPATH": str(tmp_path / "to")},
+    )
     assert done.stdout == f"{wdp.__version__} None\n", done.stderr
     assert done.stderr.endswith("wdp.Refused: wdp: program: 8 NoObjective at line 1\n"), done.stderr

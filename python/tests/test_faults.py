@@ -7,9 +7,20 @@ import random
 import re
 import shutil
 import subprocess
+from pathlib import Path
 
 import pytest
-from commands import EVIL, EXAMPLES, ROOT, read_text, parse_rows, run, write_script, check_stopped
+from commands import (
+    EVIL,
+    EXAMPLES,
+    ROOT,
+    OfficeFolder,
+    read_text,
+    parse_rows,
+    run,
+    write_script,
+    check_stopped,
+)
 from damage import ACCEPTED, damage_input
 
 from wdp import files
@@ -30,7 +41,7 @@ IN_BRACKETS = re.compile(r"\(wdp: (.*?)(?:, earlier bid \d+)?\)$")
 ALIKE = re.compile("nothing but zeros|s between (its|their) fields|more faults")
 
 
-def explain_lines(folder, text):
+def explain_lines(folder: Path, text: bytes) -> list[str]:
     """What explain prints of an input, without its path."""
     path = folder / "input.txt"
     path.write_bytes(text)
@@ -39,10 +50,11 @@ def explain_lines(folder, text):
     return seen.out.replace(str(path), "").splitlines()
 
 
-def read_by_hand(name):
+def read_by_hand(name: str) -> tuple[bytes, list[str]]:
     """An input made by hand, and the lines of its faults, which follow each line that has some. It has what spreadsheets write:
     CR LF, quotes, a field over two lines, empty lines, a byte order mark (⌂)."""
-    text, faults = "", []
+    text = ""
+    faults: list[str] = []
     for line in read_text("fixtures", "office", name).splitlines():
         if line.startswith("  ^ "):
             faults.append(f":{text.count(chr(10))}{line[4:]}")
@@ -51,7 +63,7 @@ def read_by_hand(name):
     return text.encode(), faults
 
 
-def test_each_fault_of_an_input(tmp_path):
+def test_each_fault_of_an_input(tmp_path: Path) -> None:
     text, faults = read_by_hand("by_hand.txt")
     # forms come before groups, which are in lines 1 to 5
     wanted = sorted(faults, key=lambda line: int(line.split(":")[1]) < 6)
@@ -61,27 +73,28 @@ def test_each_fault_of_an_input(tmp_path):
         assert explain_lines(tmp_path, each) == [*faults, AFTER, f"{len(faults)} faults"]
 
 
-def check_place(line, texts):
+def check_place(line: str, texts: dict[str, str]) -> None:
     """The value that a fault quotes is in the file at the place that the fault names."""
-    assert line.isprintable() and len(line) < 1_000, line
-    found = QUOTED.match(line)
-    if found and found["path"] in texts and found["value"]:
-        lines = re.split("\r\n|\r|\n", texts[found["path"]])
-        at = lines[int(found["line"]) - 1][int(found["column"]) - 1 :].replace('"', "")
-        assert at.startswith(found["value"].replace('"', "")), (line, at)
+    assert line.isprintable(), line
+    assert len(line) < 1_000, line
+    match = QUOTED.match(line)
+    if match and match["path"] in texts and match["value"]:
+        lines = re.split("\r\n|\r|\n", texts[match["path"]])
+        rest = lines[int(match["line"]) - 1][int(match["column"]) - 1 :].replace('"', "")
+        assert rest.startswith(match["value"].replace('"', "")), (line, rest)
 
 
 @pytest.mark.parametrize("version", range(len(ACCEPTED)))
-def test_damaged_inputs(tmp_path, wdp, version):
+def test_damaged_inputs(tmp_path: Path, wdp: str, version: int) -> None:
     """Each of the program's lines comes out once, unless rows are alike, and at its place."""
     for seed in range(DAMAGES):
         text = damage_input(ACCEPTED[version], seed)
         *lines, _ = explain_lines(tmp_path, text)
         done = subprocess.run([wdp, "explain"], input=text, capture_output=True)
-        found = OF_PROGRAM.findall(done.stdout.decode("ascii"))
-        said = [refusal for line in lines for refusal in IN_BRACKETS.findall(line)]
+        refusals = OF_PROGRAM.findall(done.stdout.decode("ascii"))
+        printed = [refusal for line in lines for refusal in IN_BRACKETS.findall(line)]
         if not ALIKE.search(str(lines)):
-            assert [each for each in said if not each.startswith("input")] == found, text
+            assert [each for each in printed if not each.startswith("input")] == refusals, text
         # (groups count no CR alone)
         decoded = text.decode("utf-8", "replace")
         texts = {} if re.search("\r(?!\n)", decoded.partition("%groups")[2]) else {"": decoded}
@@ -89,16 +102,17 @@ def test_damaged_inputs(tmp_path, wdp, version):
             check_place(line, texts)
 
 
-def test_each_fault_of_each_file(office):
+def test_each_fault_of_each_file(office: OfficeFolder) -> None:
     (office.forms / "Bee.csv").unlink()
     shutil.copytree(ROOT / "fixtures/office/faulty", office.folder, dirs_exist_ok=True)
     assert office.list_faults() == (office.folder / "faults.txt").read_text().splitlines()
-    rules = "sep=;\nrules;2;1,5;;;;\n;;;;;;\ncategory;Low;6;1000;2;;\nbidder;Ant;20;1;;;\n"
-    office.write("rules.csv", rules.encode("utf-16"))
-    comma, empty = "it has a comma; write digits alone", "the field is empty"
-    faults = f"2:9: '1,5' isn't 1 to 18 digits: {comma}", f"4:23: '' isn't 1 to 18 digits: {empty}"
-    assert office.explain() == [*(f"{office.rules}:{it}" for it in faults), AFTER, "2 faults"]
-    check_stopped(office.gather(), *faults)
+    text = "sep=;\nrules;2;1,5;;;;\n;;;;;;\ncategory;Low;6;1000;2;;\nbidder;Ant;20;1;;;\n"
+    office.write("rules.csv", text.encode("utf-16"))
+    comma = "2:9: '1,5' isn't 1 to 18 digits: it has a comma; write digits alone"
+    empty = "4:23: '' isn't 1 to 18 digits: the field is empty"
+    rules = office.rules
+    assert office.explain() == [f"{rules}:{comma}", f"{rules}:{empty}", AFTER, "2 faults"]
+    check_stopped(office.gather(), comma, empty)
 
 
 NAMES = (
@@ -107,37 +121,44 @@ NAMES = (
 WORDS = ["", "--last-wins name", "--last-wins time --any-file-name", "--allow-empty Wren"]
 
 
-def damage(choice, folder):
+def damage_folder(draw: random.Random, folder: Path) -> None:
     """Up to three files changed, renamed, doubled or taken away."""
-    for _ in range(choice.randrange(1, 4)):
-        path, what = choice.choice(sorted(folder.iterdir())), choice.randrange(8)
-        other = folder / choice.choice([name for name in NAMES.split("|") if name != path.name])
+    for _ in range(draw.randrange(1, 4)):
+        path = draw.choice(sorted(folder.iterdir()))
+        kind = draw.randrange(8)
+        other = folder / draw.choice([name for name in NAMES.split("|") if name != path.name])
         text = path.read_bytes() or b"x"
-        if what < 3:
+        if kind < 3:
             path.unlink()
-        if what in (1, 2):
+        if kind in (1, 2):
             other.write_bytes(text)
-        if what == 3:
-            path.write_bytes(text[: choice.randrange(len(text))])
-        if what > 3:
-            path.write_bytes(damage_input(text, choice.randrange(10**9)))
+        if kind == 3:
+            path.write_bytes(text[: draw.randrange(len(text))])
+        if kind > 3:
+            path.write_bytes(damage_input(text, draw.randrange(10**9)))
+
+
+def read_any(path: Path) -> str:
+    """The text of a file, in UTF-16 if it begins as that does."""
+    data = path.read_bytes()
+    is_wide = data[:2] in (b"\xff\xfe", b"\xfe\xff")
+    return data.decode("utf-16" if is_wide else "utf-8-sig", "replace")
 
 
 @pytest.mark.parametrize("seed", range(DAMAGES * 2))
-def test_a_damaged_folder(tmp_path, seed):
+def test_a_damaged_folder(tmp_path: Path, seed: int) -> None:
     """It is refused in lines, each at its place, or joined with no bid changed."""
-    choice, sample, forms = random.Random(seed), EXAMPLES / "office", tmp_path / "forms"
+    draw = random.Random(seed)
+    sample = EXAMPLES / "office"
+    forms = tmp_path / "forms"
     shutil.copytree(sample / "forms", forms)
-    damage(choice, forms)
-    words = "--last-wins name --allow-missing Teal --allow-unended Wren"
-    words = (words if choice.random() < 0.7 else choice.choice(WORDS)).split()
-    words += ["--expect", sample / "counts.csv"] if choice.random() < 0.2 else []
-    seen = run("gather", sample / "rules.csv", forms, sample / "groups.txt", *words)
-    texts = {}
-    for path in forms.iterdir():
-        if path.suffix != ".xlsx":
-            is_wide = (data := path.read_bytes())[:2] in (b"\xff\xfe", b"\xfe\xff")
-            texts[str(path)] = data.decode("utf-16" if is_wide else "utf-8-sig", "replace")
+    damage_folder(draw, forms)
+    usual = "--last-wins name --allow-missing Teal --allow-unended Wren"
+    options = (usual if draw.random() < 0.7 else draw.choice(WORDS)).split()
+    if draw.random() < 0.2:
+        options += ["--expect", str(sample / "counts.csv")]
+    seen = run("gather", sample / "rules.csv", forms, sample / "groups.txt", *options)
+    texts = {str(path): read_any(path) for path in forms.iterdir() if path.suffix != ".xlsx"}
     if seen.status:
         check_stopped(seen, "nothing is written")
         for line in seen.err.splitlines():
@@ -147,56 +168,76 @@ def test_a_damaged_folder(tmp_path, seed):
         assert re.findall("[0-9]+", joined) in bids
 
 
-def test_an_endless_input():
+def test_an_endless_input() -> None:
     with open("/dev/zero", "rb") as endless:
         seen = run("explain", "-", stdin=endless)
     assert "input: it has more than 134,217,728 bytes (wdp: input: too large)\n" in seen.out
 
 
-def test_a_file_that_becomes_a_pipe_or_grows_while_it_is_read(tmp_path, monkeypatch):
+def test_a_file_that_becomes_a_pipe_or_grows_while_it_is_read(
+    tmp_path: Path, monkeypatch: pytest.MonkeyPatch
+) -> None:
     file = tmp_path / "file"
     file.write_text("x")
     os.mkfifo(tmp_path / "pipe")
-    was, fstat = os.stat(file), os.fstat
-    grows = lambda number: (fstat(number), os.utime(file, (1, 1)))[0]  # noqa: E731
+    before = os.stat(file)
+    fstat = os.fstat
+
+    def grow(number: int) -> os.stat_result:
+        status = fstat(number)
+        os.utime(file, (1, 1))
+        return status
+
     with monkeypatch.context() as changed:
-        changed.setattr(files.os, "stat", lambda path: was)
+        changed.setattr("wdp.files.os.stat", lambda path: before)
         with pytest.raises(files.Unreadable, match="it is a pipe"):
             files.read(str(tmp_path / "pipe"), 100, regular=True)
-    monkeypatch.setattr(files.os, "fstat", grows)
+    monkeypatch.setattr("wdp.files.os.fstat", grow)
     with pytest.raises(files.Unreadable, match="it changed while it was read"):
         files.read(str(file), 100)
 
 
-def test_a_line_break_in_a_name_forges_no_line(office):
+def test_a_line_break_in_a_name_forges_no_line(office: OfficeFolder) -> None:
     """(runs.txt has such names in a folder.)"""
-    evil, files = office.folder / NAME, office.files
-    given = [evil, *files[1:]], [files[0], evil, files[2]], [*files, "--output", evil / "none"]
-    for words in (*given, [*files, "--allow-missing", NAME], []):
-        seen = run(*(["gather", *words] if words else ["explain", evil]))
-        said = seen.out + seen.err
-        assert seen.status in (1, 2) and "x\\ntotal 1\\x1b" in said
-        assert all(map(str.isprintable, said.split("\n")))
+    evil = office.folder / NAME
+    rules, forms, groups = office.files
+    commands: list[list[object]] = [
+        ["gather", evil, forms, groups],
+        ["gather", rules, evil, groups],
+        ["gather", *office.files, "--output", evil / "none"],
+        ["gather", *office.files, "--allow-missing", NAME],
+        ["explain", evil],
+    ]
+    for command in commands:
+        seen = run(*command)
+        printed = seen.out + seen.err
+        assert seen.status in (1, 2)
+        assert "x\\ntotal 1\\x1b" in printed
+        assert all(map(str.isprintable, printed.split("\n")))
 
 
-def test_an_older_program_and_odd_names(tmp_path):
+def test_an_older_program_and_odd_names(tmp_path: Path) -> None:
     # one without details, and one that counts
     for said in ("input: wrong number of rules", "rules: 1 TooLarge; echo and 12 more"):
         program = write_script(tmp_path / "wdp", f"echo {said}; exit 1")
         found = explain(str(program), b"x" * 1_000_000)
         assert [each.refusal for each in found.findings] == [said.split(";")[0]]
         assert found.more == 12 * ("12" in said)
-    odd = parse_finding("groups: 3 UnknownBidder at line 2, name 1: ', name 9: x' is no bidder's name")
-    assert (odd.field, odd.cause) == (1, "', name 9: x' is no bidder's name")
+    odd = parse_finding(
+        "groups: 3 UnknownBidder at line 2, name 1: ', name 9: x' is no bidder's name"
+    )
+    assert odd.field == 1
+    assert odd.cause == "', name 9: x' is no bidder's name"
 
 
-def test_an_accepted_input_is_read_however_it_is_written():
+def test_an_accepted_input_is_read_however_it_is_written() -> None:
     """Byte order marks, CR LF, quotes, empty lines, leading zeros, text in fields that aren't read, two forms of a bidder."""
     data = ACCEPTED[2].replace(b"\n50,2,1", b'\r\n\n0050,"2",1\r')
     data = data.replace(b"Low,2,", b'Low,02,"of\nMay"').replace(b"Alpha+Gamma", b"Gamma+Alpha\r")
     data = data.replace(b"%form\nAlpha", b'%form\nBeta,A,B\n99,1,0\n%form\n\xef\xbb\xbf"Alpha"')
     found = explain(find_program(), data, True)
-    assert not found.findings and ("Beta", "form 1 is replaced by form 3") in found.left_out
+    assert not found.findings
+    assert ("Beta", "form 1 is replaced by form 3") in found.left_out
     auction = accepted.read(data, "input")
     assert auction.rules == accepted.read(ACCEPTED[2], "input").rules
     assert auction.rules.categories[0] == Category("A", 2, 10, 1, 0)
@@ -209,11 +250,13 @@ def test_an_accepted_input_is_read_however_it_is_written():
             accepted.read(text, "input")
 
 
-def test_records_and_what_is_written_is_read_back():
+def test_records_and_what_is_written_is_read_back() -> None:
     for text, wanted in parse_rows(read_text("fixtures", "office", "records.txt")):
-        fields = [line.split(" ") for line in wanted.split("/") if line]
-        shown = [["" if it == "#" else it.replace("_", " ") for it in row] for row in fields]
-        assert [row.values for row in Records(text)] == shown
+        lines = [line.split(" ") for line in wanted.split("/") if line]
+        records = [
+            ["" if field == "#" else field.replace("_", " ") for field in line] for line in lines
+        ]
+        assert [row.values for row in Records(text)] == records
     assert [row.values for row in Records(" a , b")] == [[" a ", " b"]]
     draw = random.Random(5)
     for _ in range(2_000):

@@ -5,13 +5,23 @@ import os
 import random
 import re
 import zipfile
+from collections.abc import Callable, Sequence
 from datetime import date
 from pathlib import Path
 
 import openpyxl
 import pytest
 import workbooks
-from commands import BIDDERS, BY_HAND, read_text, parse_rows, run, limit_files, check_stopped
+from commands import (
+    BIDDERS,
+    BY_HAND,
+    OfficeFolder,
+    read_text,
+    parse_rows,
+    run,
+    limit_files,
+    check_stopped,
+)
 
 import wdp
 from wdp.files import Unreadable
@@ -21,40 +31,48 @@ from wdp.office.versions import find_last, format_time
 DIGITS = "; write digits alone"
 
 
-def test_nine_exports_join_to_the_text_made_by_hand(office):
+def test_nine_exports_join_to_the_text_made_by_hand(office: OfficeFolder) -> None:
     """As it is written, the receipt names each file and reads the rules back."""
     files = office.folder / "input.txt", office.folder / "receipt.txt"
     seen = office.gather("--output", files[0], "--receipt", files[1])
-    assert (seen.out, [file.read_text() for file in files]) == ("", [BY_HAND, seen.err])
-    assert office.gather().out == office.gather("--output", "-").out == BY_HAND
+    assert seen.out == ""
+    assert [file.read_text() for file in files] == [BY_HAND, seen.err]
+    assert office.gather().out == BY_HAND
+    assert office.gather("--output", "-").out == BY_HAND
     assert not Path("-").exists()
     assert office.explain() == ["nothing is wrong"]
     lines = seen.err.split("\n\n")[0].splitlines()
     assert [line.split(": ")[0] for line in lines] == ["rules", *BIDDERS, "groups", "input"]
-    winners = ["winners", office.folder / "report.txt"]
+    winners = ["winners", str(office.folder / "report.txt")]
     for rule, groups in ((["each"], BIDDERS), (winners, ["Bee", "Fox"])):
         joined = office.gather("--groups", *rule).out
         assert joined.split("%groups\n")[1].split() == ["-", *groups]
 
 
-LINE = re.compile(r"(\w+): file (.*?), .*?, SHA-256 (\w+); its part in the input SHA-256 (\w+)(?:; (.*))?")
+LINE = re.compile(
+    r"(\w+): file (.*?), .*?, SHA-256 (\w+); its part in the input SHA-256 (\w+)(?:; (.*))?"
+)
 
 
-def test_the_receipt_has_both_digests_and_parts_are_written(office):
+def test_the_receipt_has_both_digests_and_parts_are_written(office: OfficeFolder) -> None:
     """A part's bytes are those between the heads of the input, and differ from the file's only if a change is named."""
     parts = office.folder / "parts"
     words = ["--output", office.folder / "input.txt", "--parts", parts]
     seen = office.gather(*words)
     assert seen.status == 0, seen.err
     texts = re.split(rb"(?m)^%(?:rules|form|groups)\n", (office.folder / "input.txt").read_bytes())
-    lines = [LINE.fullmatch(line) for line in seen.err.split("\n\n")[0].splitlines()[:-1]]
+    lines = seen.err.split("\n\n")[0].splitlines()[:-1]
     for line, text in zip(lines, texts[1:], strict=True):
-        name, path, of_file, of_part, changes = line.groups()
+        match = LINE.fullmatch(line)
+        assert match
+        name, path, of_file, of_part, changes = match.groups()
         assert of_file == hashlib.sha256(Path(path).read_bytes()).hexdigest()
         assert of_part == hashlib.sha256(text).hexdigest()
         assert changes or of_file == of_part
         if name != "groups":
-            assert (parts / ("%rules.csv" if name == "rules" else f"{name}.csv")).read_bytes() == text
+            assert (
+                parts / ("%rules.csv" if name == "rules" else f"{name}.csv")
+            ).read_bytes() == text
     assert len(list(parts.iterdir())) == len(BIDDERS) + 1
     # it is written anew, but no other file is lost
     assert office.gather(*words).status == 0
@@ -62,13 +80,32 @@ def test_the_receipt_has_both_digests_and_parts_are_written(office):
     check_stopped(office.gather(*words), "it has other files, as mine.txt")
     for folder in (office.forms, office.folder, office.forms / "parts", "-"):
         seen = office.gather("--parts", folder)
-        check_stopped(seen, "has other files, or is read in the next run; name a new folder", status=2)
+        check_stopped(
+            seen, "has other files, or is read in the next run; name a new folder", status=2
+        )
 
 
-PIECES = ["a", "1", "12", "%x", "\ufeff", ",", ";", "\t", '"', '""', '"a,b"', " ", "\n", "\r\n", "\r", "\n\n"]
+PIECES = [
+    "a",
+    "1",
+    "12",
+    "%x",
+    "\ufeff",
+    ",",
+    ";",
+    "\t",
+    '"',
+    '""',
+    '"a,b"',
+    " ",
+    "\n",
+    "\r\n",
+    "\r",
+    "\n\n",
+]
 
 
-def test_no_change_of_a_table_goes_without_a_word():
+def test_no_change_of_a_table_goes_without_a_word() -> None:
     draw = random.Random(1)
     changed = 0
     for _ in range(20_000):
@@ -82,32 +119,36 @@ def test_no_change_of_a_table_goes_without_a_word():
     assert changed > 1000
 
 
-def test_times_have_no_last_year():
+def test_times_have_no_last_year() -> None:
     # (no file system here has such times; 400 years have 146,097 days)
     assert format_time(21 * 146_097 * 86_400 * 10**9) == "10370-01-01 00:00:00.000000000"
     assert format_time(10**40) == f"{10**31} s after 1970-01-01.000000000"
 
 
-def test_both_files_are_written_or_neither_and_a_link_stays_one(office):
+def test_both_files_are_written_or_neither_and_a_link_stays_one(office: OfficeFolder) -> None:
     words = "--output", office.write("input.txt", "older"), "--receipt", office.folder / "receipt"
     before = office.snapshot()
     check_stopped(office.gather(*words, **limit_files(2_000)), f"{words[3]}: File too large\n")
     assert office.snapshot() == before
     words[3].symlink_to("elsewhere.txt")
     seen = office.gather(*words)
-    assert (seen.status, words[1].read_text()) == (0, BY_HAND)
-    assert os.readlink(words[3]) == "elsewhere.txt" and words[3].read_text() == seen.err
+    assert seen.status == 0
+    assert words[1].read_text() == BY_HAND
+    assert os.readlink(words[3]) == "elsewhere.txt"
+    assert words[3].read_text() == seen.err
 
 
 SHEET = [["Fox", "Low", "High"], [5000, 2, 1], [9900, 4, 0], [3000, 0, 3]]
 
 
 @pytest.fixture
-def workbook(office):
+def workbook(office: OfficeFolder) -> Callable[..., None]:
     """Writes a workbook of Fox in the place of its form, whose first sheet is Bids; changes its text."""
     path = office.forms / "Fox.xlsx"
 
-    def write(sheet, old=b"", new=b"", more=()):
+    def write(
+        sheet: list[list[object]], old: bytes = b"", new: bytes = b"", more: Sequence[str] = ()
+    ) -> None:
         book = openpyxl.Workbook()
         book.active.title = "Bids"
         for title in more:
@@ -143,7 +184,7 @@ CELLS = [
 ]
 
 
-def test_workbooks(office, workbook):
+def test_workbooks(office: OfficeFolder, workbook: Callable[..., None]) -> None:
     floats = [9900.0, 4.0, 0]
     workbook([SHEET[0] + [None], [], SHEET[1], floats, [None] * 3, SHEET[3]], more=["Notes"])
     seen = office.gather()
@@ -178,27 +219,35 @@ HARM = [
 
 
 @pytest.mark.parametrize("old, new, why", HARM, ids=["bomb", "wide", "letters", "dash", "torn"])
-def test_a_workbook_made_to_harm(office, workbook, old, new, why):
+def test_a_workbook_made_to_harm(
+    office: OfficeFolder, workbook: Callable[..., None], old: bytes, new: bytes, why: str
+) -> None:
     workbook(SHEET, old, new)
     (line,) = office.list_faults()
     place, words = why.rsplit(": ", 1)
-    assert line.startswith(f"forms/Fox.xlsx{place}: ") and words in line
+    assert line.startswith(f"forms/Fox.xlsx{place}: ")
+    assert words in line
 
 
-@pytest.mark.parametrize("name, wanted", parse_rows(read_text("fixtures", "office", "workbooks.txt")))
-def test_workbooks_that_were_made(name, wanted):
+@pytest.mark.parametrize(
+    "name, wanted", parse_rows(read_text("fixtures", "office", "workbooks.txt"))
+)
+def test_workbooks_that_were_made(name: str, wanted: str) -> None:
     """Each is read as a spreadsheet shows it, or refused with the cell, in a moment."""
     assert workbooks.read_outcome(workbooks.make_workbook(name)) == wanted
 
 
-def test_there_are_enough_of_each_kind():
-    listed = [name.rpartition("_")[0] for name, _ in parse_rows(read_text("fixtures", "office", "workbooks.txt"))]
+def test_there_are_enough_of_each_kind() -> None:
+    listed = [
+        name.rpartition("_")[0]
+        for name, _ in parse_rows(read_text("fixtures", "office", "workbooks.txt"))
+    ]
     assert len(workbooks.list_names()) >= 300
     for kind in workbooks.KINDS:
         assert listed.count(kind.__name__) >= 3, kind
 
 
-def test_a_hidden_sheet_is_settled_by_the_name_of_the_one_that_counts(office):
+def test_a_hidden_sheet_is_settled_by_the_name_of_the_one_that_counts(office: OfficeFolder) -> None:
     (office.forms / "Fox.csv").unlink()
     (office.forms / "Fox.xlsx").write_bytes(workbooks.make_workbook("hidden_00"))
     assert office.gather("--sheet", "Final").out == BY_HAND
@@ -209,24 +258,32 @@ def test_a_hidden_sheet_is_settled_by_the_name_of_the_one_that_counts(office):
 PAIRS = parse_rows(read_text("fixtures", "office", "versions.txt"))
 
 
-@pytest.mark.parametrize("bidder, one, other, wanted", PAIRS, ids=[" ".join(it[1:3]) for it in PAIRS])
-def test_which_of_two_files_is_the_last_one_by_their_names(bidder, one, other, wanted):
+@pytest.mark.parametrize(
+    "bidder, one, other, wanted", PAIRS, ids=[" ".join(it[1:3]) for it in PAIRS]
+)
+def test_which_of_two_files_is_the_last_one_by_their_names(
+    bidder: str, one: str, other: str, wanted: str
+) -> None:
     try:
         found = str(1 + find_last([one, other], bidder, "name").place)
     except wdp.Refused:
         found = "?"
-    assert found == wanted and len(PAIRS) >= 200
+    assert found == wanted
+    assert len(PAIRS) >= 200
 
 
-def test_rules_may_be_a_workbook(office, tmp_path):
+def test_rules_may_be_a_workbook(office: OfficeFolder, tmp_path: Path) -> None:
     """Read like a form, also for blank forms; what is wrong has its cell."""
     lines = (line.split(",") for line in office.rules.read_text().split())
-    sheet = [[int(it) if it.isdecimal() else it or None for it in line] for line in lines]
+    sheet: list[list[int | str | None]] = [
+        [int(field) if field.isdecimal() else field or None for field in line] for line in lines
+    ]
     office.rules = office.folder / "rules.xlsx"
-    office.files = office.rules, office.forms, office.groups
+    office.files = [office.rules, office.forms, office.groups]
     office.rules.write_bytes(workbooks.write_rows(sheet))
     seen = office.gather()
-    assert seen.out == BY_HAND and "; read from sheet Bids" in seen.err, seen.err
+    assert seen.out == BY_HAND, seen.err
+    assert "; read from sheet Bids" in seen.err, seen.err
     assert run("form", office.rules, "--output", tmp_path / "blank").status == 0
     office.rules.write_bytes(workbooks.write_rows(sheet, workbooks.hide_row))
     (line,) = office.list_faults()

@@ -6,11 +6,24 @@ import re
 import signal
 import sys
 import time
+from collections.abc import Callable, Iterable
 from concurrent.futures import ThreadPoolExecutor
 from functools import partial
+from pathlib import Path
+from typing import Any
 
 import pytest
-from commands import EVIL, read_text, make_environment, run_program, parse_rows, find_processes, write_script, start, wait_for
+from commands import (
+    EVIL,
+    read_text,
+    make_environment,
+    run_program,
+    parse_rows,
+    find_processes,
+    write_script,
+    start,
+    wait_for,
+)
 
 import wdp
 from wdp import example
@@ -25,28 +38,39 @@ AS_DESCRIBED = "isn't as docs/REFERENCE.md says"
 
 
 @pytest.fixture
-def program(tmp_path):
+def program(tmp_path: Path) -> Callable[..., wdp.Auction]:
     """A program that is a shell script, and an auction that asks it."""
 
-    def made(lines, **how):
+    def made(lines: str, **how: Any) -> wdp.Auction:
         path = write_script(tmp_path / "program", lines)
         return wdp.Auction.from_text(how.pop("text", ONE), program=path, **how)
 
     return made
 
 
-def check_fails(call, kind, pattern):
+def check_fails(call: Callable[[], object], kind: type[Exception], pattern: str) -> None:
     with pytest.raises(kind, match=pattern) as caught:
         call()
     text = str(caught.value)
-    assert type(caught.value) is kind and text.isprintable() and len(text) < 2_000
+    assert type(caught.value) is kind
+    assert text.isprintable()
+    assert len(text) < 2_000
 
 
-@pytest.mark.parametrize("text, pattern", parse_rows(read_text("fixtures", "package", "answers.txt")))
-def test_what_is_no_answer(program, text, pattern):
+@pytest.mark.parametrize(
+    "text, pattern", parse_rows(read_text("fixtures", "package", "answers.txt"))
+)
+def test_what_is_no_answer(program: Callable[..., wdp.Auction], text: str, pattern: str) -> None:
     asked = program(text)
-    calls = asked.compile, partial(asked.report, [""]), partial(asked.verify, [""], [""])
-    for call in (*calls, partial(asked.map, ""), partial(asked.check, "NAME"), asked.solve):
+    calls: list[Callable[[], object]] = [
+        asked.compile,
+        partial(asked.report, [""]),
+        partial(asked.verify, [""], [""]),
+        partial(asked.map, ""),
+        partial(asked.check, "NAME"),
+        asked.solve,
+    ]
+    for call in calls:
         check_fails(call, wdp.Unclear, pattern)
 
 
@@ -55,7 +79,7 @@ REFUSAL = "wdp: form 1: 2 Header at record 1"
 LATE = "echo 'wdp: write failed after 3 bytes' >&2; exit 1"
 
 
-def test_what_is_on_standard_error(program):
+def test_what_is_on_standard_error(program: Callable[..., wdp.Auction]) -> None:
     check_fails(program(FLOOD % "x" + "exit 1").compile, wdp.Refused, "^x{400,}")
     last = f"echo '{REFUSAL}' >&2; exit 1"
     check_fails(program(FLOOD % "'\\n'" + last).compile, wdp.Refused, f"^{REFUSAL}$")
@@ -66,7 +90,9 @@ def test_what_is_on_standard_error(program):
     check_fails(late, wdp.Refused, "^wdp: write failed after 3 bytes$")
 
 
-def test_no_program_outlives_its_answer(program, monkeypatch, mark, tmp_path):
+def test_no_program_outlives_its_answer(
+    program: Callable[..., wdp.Auction], monkeypatch: pytest.MonkeyPatch, mark: str, tmp_path: Path
+) -> None:
     late = program("exec sleep 7000", time_limit=0.2)
     check_fails(late.compile, wdp.Unclear, "gave no answer in 0.2 s, and was ended$")
     monkeypatch.setattr("wdp.program._MOST_OF_MESSAGES", 1_000_000)
@@ -91,7 +117,9 @@ def test_no_program_outlives_its_answer(program, monkeypatch, mark, tmp_path):
     wait_for(lambda: not find_processes(mark), 30)
 
 
-def test_large_and_full(program, monkeypatch, tmp_path):
+def test_large_and_full(
+    program: Callable[..., wdp.Auction], monkeypatch: pytest.MonkeyPatch, tmp_path: Path
+) -> None:
     deaf = "echo 'wdp: input: too large' >&2; exit 1"
     large = program(deaf, text=ONE + "%form\n" + "x" * 50_000_000)
     check_fails(large.compile, wdp.Refused, "^wdp: input: too large$")
@@ -100,18 +128,19 @@ def test_large_and_full(program, monkeypatch, tmp_path):
     check_fails(large.compile, wdp.Refused, "^wdp: form 1: 1 TooLarge$")
     (tmp_path / "rules.csv").write_text(rules)
     (tmp_path / "form.csv").write_bytes(b"Alpha,A,B\n" + b"30,1,0\n" * 7_000_000)
-    large = lambda: wdp.Auction.from_files(tmp_path / "rules.csv", [tmp_path / "form.csv"])  # noqa: E731
-    check_fails(large, wdp.Refused, "^form 1: .*form.csv: it has more than 8,388,610 bytes$")
-    os.truncate(tmp_path / "form.csv", 2**40)
-    sparse = lambda: wdp.Auction.from_files(tmp_path / "form.csv", [])  # noqa: E731
-    check_fails(sparse, wdp.Refused, "more than 8,388,610 bytes$")
-    full = lambda: open("/dev/full", "r+b", buffering=0)  # noqa: E731
-    monkeypatch.setattr("wdp.program.tempfile.TemporaryFile", full)
+    form = tmp_path / "form.csv"
+    from_files = partial(wdp.Auction.from_files, tmp_path / "rules.csv", [form])
+    check_fails(from_files, wdp.Refused, "^form 1: .*form.csv: it has more than 8,388,610 bytes$")
+    os.truncate(form, 2**40)
+    from_sparse = partial(wdp.Auction.from_files, form, [])
+    check_fails(from_sparse, wdp.Refused, "more than 8,388,610 bytes$")
+    open_full = partial(open, "/dev/full", "r+b", buffering=0)
+    monkeypatch.setattr("wdp.program.tempfile.TemporaryFile", open_full)
     why = "can't be given its input, or its answer can't be read: No space left on device$"
     check_fails(wdp.Auction.from_text(ONE).compile, wdp.Unclear, why)
 
 
-def test_threads():
+def test_threads() -> None:
     auction = wdp.Auction.from_text(example.INPUT)
     with ThreadPoolExecutor(4) as pool:
         seen = list(pool.map(auction.report, [example.SOLUTIONS] * 4))
@@ -119,21 +148,25 @@ def test_threads():
 
 
 @pytest.fixture
-def answered(monkeypatch):
+def answered(monkeypatch: pytest.MonkeyPatch) -> Callable[..., Any]:
     """Which of some texts are taken for answers to a call, without a program that gives them."""
 
-    def taken(call, answers, text=ONE):
-        auction, found = wdp.Auction.from_text(text), []
+    def list_taken(
+        call: Callable[[wdp.Auction], object], answers: Iterable[str], text: str = ONE
+    ) -> list[str]:
+        auction = wdp.Auction.from_text(text)
+        taken = []
         for answer in answers:
             monkeypatch.setattr("wdp.api.ask", lambda *_: answer.encode())
             try:
                 call(auction)
-                found.append(answer)
+                taken.append(answer)
             except wdp.Unclear as unclear:
-                assert AS_DESCRIBED in str(unclear) and str(unclear).isprintable()
-        return found
+                assert AS_DESCRIBED in str(unclear)
+                assert str(unclear).isprintable()
+        return taken
 
-    return taken
+    return list_taken
 
 
 NEAR = """
@@ -145,13 +178,13 @@ cost 8 | cost 8␍
 """
 
 
-def test_answers_that_are_nearly_right(answered):
+def test_answers_that_are_nearly_right(answered: Callable[..., Any]) -> None:
     given = example.SOLUTIONS, example.CERTIFICATES
     report = lambda auction: auction.report(given[0])  # noqa: E731
     verify = lambda auction: auction.verify(*given, unique="bound 1")  # noqa: E731
     answers = [WORKED[:cut] for cut in range(len(WORKED) + 1)]
     answers += [WORKED.replace(old, new, 1) for old, new in parse_rows(NEAR)]
-    beyond = ("unique\n", "tie\ntotal 62\n", "\n", "group 5 -\ntotal 0\ncost 0\n", EVIL)
+    beyond = ["unique\n", "tie\ntotal 62\n", "\n", "group 5 -\ntotal 0\ncost 0\n", EVIL]
     answers += [WORKED + more for more in beyond]
     assert answered(report, answers, example.INPUT) == [WORKED]
     beyond = ["unique\n", "", "unique", "unique\nunique\n", "Unique\n", "tie\n", "tie\nBeta 1 20\n"]
@@ -183,14 +216,17 @@ def test_answers_that_are_nearly_right(answered):
     assert answered(lambda auction: auction.check(""), answers) == []
 
 
-def test_no_answer_is_taken_for_another(pytestconfig):
+def test_no_answer_is_taken_for_another(pytestconfig: pytest.Config) -> None:
     """An answer that was changed is refused, or means something else: nothing of it is passed over."""
-    draw, taken, audit = random.Random(7), 0, read_text("examples", "prices.txt")
+    draw = random.Random(7)
+    taken = 0
+    audit = read_text("examples", "prices.txt")
     verified = run_program(pytestconfig.option.wdp, "verify", audit.encode())
-    own, prices, cover, rule = re.split("%(?:prices|cover|rule)\n", audit)
-    more = {"prices": prices, "cover": cover, "rule": rule}
-    report = wdp.Auction.from_text(own).verify([], [], **more)
-    assert report == read_report(verified, Asked(audit.encode()), True) and report.is_certified
+    text, prices, cover, rule = re.split("%(?:prices|cover|rule)\n", audit)
+    auction = wdp.Auction.from_text(text)
+    report = auction.verify([], [], prices=prices, cover=cover, rule=rule)
+    assert report == read_report(verified, Asked(audit.encode()), True)
+    assert report.is_certified
     asked = Asked(f"{audit}%tie\n".encode())
     right = verified + b"tie\nAlpha 2 50\nGamma 1 12\ntotal 62\n"
     report = read_report(right, asked, True)
@@ -206,25 +242,30 @@ def test_no_answer_is_taken_for_another(pytestconfig):
     assert taken
 
 
-def test_which_program_is_found(tmp_path, monkeypatch):
-    total = lambda **how: wdp.Auction.from_text(ONE, **how).report([""])[0].total  # noqa: E731
-    answers = enumerate((EVIL, "other", "wdp"), 1)
-    named = [write_script(tmp_path / name, PRINTING.replace("30", str(at))) for at, name in answers]
-    monkeypatch.setenv("WDP", str(named[1]))
-    assert (total(program=named[0]), total()) == (1, 2)
+def test_which_program_is_found(tmp_path: Path, monkeypatch: pytest.MonkeyPatch) -> None:
+    def find_total(program: Path | str | None = None) -> int:
+        return wdp.Auction.from_text(ONE, program=program).report([""])[0].total
+
+    programs = [
+        write_script(tmp_path / name, PRINTING.replace("30", str(total)))
+        for total, name in enumerate((EVIL, "other", "wdp"), 1)
+    ]
+    monkeypatch.setenv("WDP", str(programs[1]))
+    assert find_total(programs[0]) == 1
+    assert find_total() == 2
     monkeypatch.setenv("WDP", "")
     assert wdp.Auction.from_text(ONE).report(["X1_1 1\nX2_1 1\nX3_1 1\n"])[0].total == 62
     monkeypatch.setenv("PATH", f"{tmp_path}:{os.environ['PATH']}")
     monkeypatch.setattr("wdp.program._find_tree", lambda: None)
-    assert total() == 3
+    assert find_total() == 3
     monkeypatch.setenv("PATH", str(tmp_path / "none"))
-    check_fails(total, wdp.NotFound, "^the program isn't found: wdp; make install")
+    check_fails(find_total, wdp.NotFound, "^the program isn't found: wdp; make install")
     # such as aren't there or can't be started
     (tmp_path / "plain").write_text("no program")
     for path in (tmp_path / f"{EVIL}none", "", "a\0b", tmp_path, tmp_path / "plain"):
-        check_fails(partial(total, program=path), wdp.NotFound, "^the program isn't found: ")
+        check_fails(partial(find_total, path), wdp.NotFound, "^the program isn't found: ")
     monkeypatch.setenv("WDP", str(tmp_path / "none"))
-    check_fails(total, wdp.NotFound, "^the program isn't found: ")
+    check_fails(find_total, wdp.NotFound, "^the program isn't found: ")
     (tmp_path / "garbage").write_bytes(b"\x7fELF" + b"\0" * 100)
     (tmp_path / EVIL).write_text("#!/nothing/x\n")
     for name in ("garbage", EVIL):

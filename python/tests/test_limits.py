@@ -1,8 +1,9 @@
 """Limits: a search that gives up and goes on later, how far a run is, how long it took, and how many steps memory has room for."""
 import re
+from pathlib import Path
 
 import pytest
-from commands import EXAMPLES
+from commands import EXAMPLES, AuctionFolder
 from oracle import Checker
 from test_problem import wide_program
 
@@ -18,7 +19,9 @@ from wdp.certify.unfinished import Unfinished
 
 @pytest.mark.parametrize("plain", [0, 5, 10**9])
 @pytest.mark.parametrize("seed", range(4))
-def test_a_search_goes_on_where_another_gave_up(monkeypatch, seed, plain):
+def test_a_search_goes_on_where_another_gave_up(
+    monkeypatch: pytest.MonkeyPatch, seed: int, plain: int
+) -> None:
     """After each limit of lines: the solution is never worse, and the lines together are a certificate."""
     monkeypatch.setattr(search, "PLAIN_LINES", plain)
     monkeypatch.setattr(search, "COLUMNS_OF_LINE", 10**9)
@@ -43,7 +46,7 @@ def test_a_search_goes_on_where_another_gave_up(monkeypatch, seed, plain):
     assert Checker(program).verdict(best, found.certificate) == (None, [])
 
 
-def test_an_unfinished_tree_as_a_text():
+def test_an_unfinished_tree_as_a_text() -> None:
     text = "row 2 C1 1 B3 1\nsplit 0 X1_1 1\nbound 1 0 C1 4\nvisit\nleaf bound 1 2\n"
     tree = Unfinished.read(text)
     assert tree == Unfinished(
@@ -52,14 +55,16 @@ def test_an_unfinished_tree_as_a_text():
     assert tree.text() == text
 
 
-def test_how_near_the_greatest_total_is():
+def test_how_near_the_greatest_total_is() -> None:
     for least, bound, part in ((-97, -100, 0.03), (-100, -100, 0), (0, -50, 1), (0, 0, 0)):
         assert LimitReached("", True, least, bound, "").part_missing() == part
     shown = [percent(part) for part in (0, 0.0001, 0.0031, 0.03, 1)]
     assert shown == ["0 %", "0.1 %", "0.4 %", "3 %", "100 %"]
 
 
-def test_a_run_that_gives_up_and_goes_on(auction, tmp_path, monkeypatch):
+def test_a_run_that_gives_up_and_goes_on(
+    auction: AuctionFolder, tmp_path: Path, monkeypatch: pytest.MonkeyPatch
+) -> None:
     """A search without time: each group is named with its gap, there is no report, and the next run takes the trees up."""
     nothing = tmp_path / "nothing.py"
     nothing.write_text(
@@ -89,16 +94,16 @@ def test_a_run_that_gives_up_and_goes_on(auction, tmp_path, monkeypatch):
 class RecordedAsk:
     """A solver that answers with nobody, and what it was asked."""
 
-    def __init__(self, answer):
+    def __init__(self, answer: bytes | None) -> None:
         self.answer = answer
-        self.turns = []
+        self.turns: list[tuple[int, int | None]] = []
 
-    def __call__(self, turn, text):
-        self.turns.append((turn, text and text.count(b" OBJ ")))
+    def __call__(self, turn: int, text: bytes | None) -> bytes | None:
+        self.turns.append((turn, None if text is None else text.count(b" OBJ ")))
         return self.answer
 
 
-def test_a_solver_gets_more_columns_in_turns(monkeypatch):
+def test_a_solver_gets_more_columns_in_turns(monkeypatch: pytest.MonkeyPatch) -> None:
     short = [turn._replace(lines=0) for turn in TURNS[:-1]]
     monkeypatch.setattr("wdp.certify.settling.TURNS", [*short, TURNS[-1]])
     problem = Problem(Layout(wide_program(3)))
@@ -116,14 +121,14 @@ def test_a_solver_gets_more_columns_in_turns(monkeypatch):
     assert len(asked.turns) == 1
 
 
-def test_a_small_program_goes_whole_to_the_solver():
+def test_a_small_program_goes_whole_to_the_solver() -> None:
     problem = Problem(Layout(wide_program(1, bids=20)))
     asked = RecordedAsk(problem.certified(b"").solution)
     assert settle(problem, asked).gain == 0
     assert asked.turns == [(0, None)]
 
 
-def test_memory_that_is_left(tmp_path):
+def test_memory_that_is_left(tmp_path: Path) -> None:
     meminfo = tmp_path / "meminfo"
     meminfo.write_text("MemTotal: 8000 kB\nMemFree: 1 kB\nMemAvailable: 5000 kB\n")
     assert memory.measure_free(meminfo, tmp_path) == 5000 * 1024
@@ -138,7 +143,7 @@ def test_memory_that_is_left(tmp_path):
     assert memory.measure_free() is not None
 
 
-def test_jobs_that_memory_has_room_for():
+def test_jobs_that_memory_has_room_for() -> None:
     one = memory.estimate_step(25_000)
     assert one < memory.estimate_step(100_000)
     rows = [(4, 100 * one, 4), (4, 2 * one, 2), (4, 2 * one - 1, 1), (4, 0, 1), (3, None, 3)]
@@ -146,7 +151,9 @@ def test_jobs_that_memory_has_room_for():
         assert memory.limit_jobs(jobs, 25_000, left) == fit
 
 
-def test_a_run_with_little_memory(auction, monkeypatch, tmp_path):
+def test_a_run_with_little_memory(
+    auction: AuctionFolder, monkeypatch: pytest.MonkeyPatch, tmp_path: Path
+) -> None:
     little = tmp_path / "little.py"
     little.write_text(
         "import sys\nfrom wdp import memory\nmemory.measure_free = lambda: 10 ** 6\n"
@@ -158,7 +165,7 @@ def test_a_run_with_little_memory(auction, monkeypatch, tmp_path):
     assert "1 at a time and not 3, for which there isn't memory enough\n" in said
 
 
-def test_time_is_told(auction):
+def test_time_is_told(auction: AuctionFolder) -> None:
     said = auction.read_messages()
     took = next(line for line in said.splitlines() if "it took" in line)
     assert re.fullmatch(r"auction: it took [\d.]+ s: .*; the longest, group \d: [\d.]+ s", took)
@@ -167,7 +174,7 @@ def test_time_is_told(auction):
     assert "it took" not in auction.read_messages("--quiet")
 
 
-def test_times_in_words():
+def test_times_in_words() -> None:
     rows = [
         (0, "0 s"),
         (0.049, "0 s"),

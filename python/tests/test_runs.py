@@ -6,25 +6,47 @@ import sys
 from pathlib import Path
 
 import pytest
-from commands import EXAMPLES, ROOT, read_text, make_environment, matches, parse_rows, run, find_processes, wait_for
+from commands import (
+    EXAMPLES,
+    ROOT,
+    OfficeFolder,
+    read_text,
+    make_environment,
+    matches,
+    parse_rows,
+    run,
+    find_processes,
+    wait_for,
+)
 
 RUNS = parse_rows(read_text("fixtures", "office", "runs.txt"))
 
 
 @pytest.mark.parametrize("change, words, status, said", RUNS)
-def test_run(office, monkeypatch, mark, change, words, status, said):
+def test_run(
+    office: OfficeFolder,
+    monkeypatch: pytest.MonkeyPatch,
+    mark: str,
+    change: str,
+    words: str,
+    status: str,
+    said: str,
+) -> None:
     """What is refused has no output, and nothing is changed or left at work; what gather says of faults, explain says, too."""
     monkeypatch.chdir(office.folder)
     for path in (*EXAMPLES.glob("worked*"), ROOT / "fixtures/solvers/three.mps"):
         shutil.copy(path, office.folder)
-    how = {"cwd": office.forms, "env": make_environment(OFFICE=f"{sys.executable} -m wdp")}
-    subprocess.run(["sh", "-ec", change], check=True, **how)
+    environment = make_environment(OFFICE=f"{sys.executable} -m wdp")
+    subprocess.run(["sh", "-ec", change], check=True, cwd=office.forms, env=environment)
     if Path("wdp").exists():
         monkeypatch.setenv("WDP", str(office.folder / "wdp"))
-    given, before = shlex.split(words.replace("@", "rules.csv forms groups.txt")), office.snapshot()
-    seen = run(*given)
-    assert seen.status == int(status) and matches(said, "^" + (seen.err or seen.out)), seen
-    assert office.snapshot() == before and all(map(str.isprintable, seen.err.splitlines()))
+    arguments = shlex.split(words.replace("@", "rules.csv forms groups.txt"))
+    before = office.snapshot()
+    seen = run(*arguments)
+    assert seen.status == int(status), seen
+    assert matches(said, "^" + (seen.err or seen.out)), seen
+    assert office.snapshot() == before
+    assert all(map(str.isprintable, seen.err.splitlines()))
     wait_for(lambda: not find_processes(mark), 30)
     if seen.status:
         # (what explain is asked for are faults)
@@ -36,4 +58,4 @@ def test_run(office, monkeypatch, mark, change, words, status, said):
         assert seen.out.startswith("%rules\n"), seen
     if words.startswith("gather @") and status == "1" and "--output" not in words:
         *faults, _ = seen.err.splitlines()
-        assert run("explain", *given[1:]).out.splitlines()[: len(faults)] == faults
+        assert run("explain", *arguments[1:]).out.splitlines()[: len(faults)] == faults

@@ -15,7 +15,9 @@ import subprocess
 import sys
 import tempfile
 import zipfile
+from collections.abc import Callable, Iterator, Sequence
 from pathlib import Path
+from typing import Any
 
 sys.dont_write_bytecode = True
 sys.path.insert(0, str(Path(__file__).resolve().parents[1] / "src"))
@@ -24,7 +26,11 @@ import openpyxl  # noqa: E402
 from openpyxl.utils import get_column_letter  # noqa: E402
 
 from wdp.files import Unreadable  # noqa: E402
+from wdp.office.sheets import File  # noqa: E402
 from wdp.office.workbooks import read_workbook  # noqa: E402
+
+Rows = Sequence[Sequence[Any]]
+Bytes = bytes  # (a method has that name)
 
 COUNT = 25  # workbooks of a kind
 BIDDERS = ["Ant", "Bee", "Fox"]
@@ -38,42 +44,51 @@ STYLES_TYPE = "application/vnd.openxmlformats-officedocument.spreadsheetml.style
 TEXTS_TYPE = "application/vnd.openxmlformats-officedocument.spreadsheetml.sharedStrings+xml"
 HEAD = '<?xml version="1.0" encoding="UTF-8" standalone="yes"?>\n'
 DIGITS = re.compile("[0-9]{0,18}")
-FORM = [["Fox", "Low", "High"], [5000, 2, 1], [9900, 4, 0], [3000, 0, 3]]
+FORM: list[list[Any]] = [["Fox", "Low", "High"], [5000, 2, 1], [9900, 4, 0], [3000, 0, 3]]
 
 
-def make_cell(value, name=None, more=""):
+def make_cell(value: object, name: str | None = None, more: str = "") -> str:
     """A cell in XML; a text is within it."""
-    at = f' r="{name}"' if name else ""
+    place = f' r="{name}"' if name else ""
     if isinstance(value, str):
-        return f'<c{at}{more} t="inlineStr"><is><t>{value}</t></is></c>'
-    return f"<c{at}{more}/>" if value is None else f"<c{at}{more}><v>{value}</v></c>"
+        return f'<c{place}{more} t="inlineStr"><is><t>{value}</t></is></c>'
+    return f"<c{place}{more}/>" if value is None else f"<c{place}{more}><v>{value}</v></c>"
 
 
-def make_row(number, values, more="", of_cells=""):
+def make_row(number: int, values: Sequence[object], more: str = "", of_cells: str = "") -> str:
     cells = "".join(
-        make_cell(value, f"{get_column_letter(at)}{number}", of_cells if number > 1 else "")
-        for at, value in enumerate(values, 1)
+        make_cell(value, f"{get_column_letter(column)}{number}", of_cells if number > 1 else "")
+        for column, value in enumerate(values, 1)
     )
     return f'<row r="{number}"{more}>{cells}</row>'
 
 
-def make_body(rows, of_cells=""):
+def make_body(rows: Rows, of_cells: str = "") -> str:
     lines = [make_row(number, values, of_cells=of_cells) for number, values in enumerate(rows, 1)]
     return f"<sheetData>{''.join(lines)}</sheetData>"
 
 
-def make_sheet(inner):
+def make_sheet(inner: str) -> str:
     return f'{HEAD}<worksheet xmlns="{MAIN}">{inner}</worksheet>'
 
 
 class RawWorkbook:
     """A workbook from XML: its sheets as pairs of a name, perhaps with attributes after it, and what is in the sheet."""
 
-    def __init__(self, *sheets, formats=(), texts=None, about=""):
-        self.sheets, self.formats, self.texts, self.about = sheets, formats, texts, about
-        self.parts = dict(self.made_parts())
+    def __init__(
+        self,
+        *sheets: tuple[str, str],
+        formats: Sequence[str] = (),
+        texts: str | None = None,
+        about: str = "",
+    ) -> None:
+        self.sheets = sheets
+        self.formats = formats
+        self.texts = texts
+        self.about = about
+        self.parts = dict(self.make_parts())
 
-    def made_parts(self):
+    def make_parts(self) -> Iterator[tuple[str, str]]:
         kinds = {"xl/workbook.xml": BOOK_TYPE}
         links = []
         names = []
@@ -96,35 +111,44 @@ class RawWorkbook:
         yield "xl/workbook.xml", f'{HEAD}<workbook xmlns="{MAIN}" xmlns:r="{OFFICE}">{book}</workbook>'
         yield "xl/_rels/workbook.xml.rels", self.links(links)
         yield "_rels/.rels", self.links([("rId1", "officeDocument", "xl/workbook.xml")])
-        over = "".join(f'<Override PartName="/{it}" ContentType="{kinds[it]}"/>' for it in kinds)
+        over = "".join(
+            f'<Override PartName="/{part}" ContentType="{kind}"/>' for part, kind in kinds.items()
+        )
         plain = '<Default Extension="rels" ContentType="application/vnd.openxmlformats-package.relationships+xml"/>'
         plain += '<Default Extension="xml" ContentType="application/xml"/>'
         yield "[Content_Types].xml", f'{HEAD}<Types xmlns="{TYPES}">{plain}{over}</Types>'
 
     @staticmethod
-    def links(links):
-        made = "".join(
+    def links(links: Sequence[tuple[str, str, str]]) -> str:
+        text = "".join(
             f'<Relationship Id="{link}" Type="{OFFICE}/{kind}" Target="{target}"/>'
             for link, kind, target in links
         )
-        return f'{HEAD}<Relationships xmlns="{LINKS}">{made}</Relationships>'
+        return f'{HEAD}<Relationships xmlns="{LINKS}">{text}</Relationships>'
 
-    def styles(self):
+    def styles(self) -> str:
         """Style 0 is plain, each other one has the next of the formats."""
         codes = "".join(
-            f'<numFmt numFmtId="{200 + n}" formatCode="{code}"/>' for n, code in enumerate(self.formats)
+            f'<numFmt numFmtId="{200 + n}" formatCode="{code}"/>'
+            for n, code in enumerate(self.formats)
         )
-        own = "".join(f'<xf numFmtId="{200 + n}" applyNumberFormat="1"/>' for n in range(len(self.formats)))
+        formats = "".join(
+            f'<xf numFmtId="{200 + n}" applyNumberFormat="1"/>' for n in range(len(self.formats))
+        )
         made = f'<numFmts count="{len(self.formats)}">{codes}</numFmts><fonts count="1"><font/></fonts>'
-        made += "<fills><fill/></fills><borders><border/></borders><cellStyleXfs><xf/></cellStyleXfs>"
-        return f'{HEAD}<styleSheet xmlns="{MAIN}">{made}<cellXfs><xf/>{own}</cellXfs></styleSheet>'
+        made += (
+            "<fills><fill/></fills><borders><border/></borders><cellStyleXfs><xf/></cellStyleXfs>"
+        )
+        return (
+            f'{HEAD}<styleSheet xmlns="{MAIN}">{made}<cellXfs><xf/>{formats}</cellXfs></styleSheet>'
+        )
 
-    def changed(self, part, old, new):
+    def change(self, part: str, old: str, new: str) -> "RawWorkbook":
         assert old in self.parts[part], (part, old)
         self.parts[part] = self.parts[part].replace(old, new, 1)
         return self
 
-    def bytes(self, again=()):
+    def bytes(self, again: Sequence[tuple[str, str]] = ()) -> "Bytes":
         """The archive; `again` are parts that are in it once more."""
         data = io.BytesIO()
         with zipfile.ZipFile(data, "w", zipfile.ZIP_DEFLATED) as archive:
@@ -133,19 +157,21 @@ class RawWorkbook:
         return data.getvalue()
 
 
-def call_with_warning(call, *given):
+def call_with_warning(call: Callable[..., object], *arguments: object) -> None:
     import warnings
 
     with warnings.catch_warnings():
         warnings.simplefilter("ignore")
-        call(*given)
+        call(*arguments)
 
 
-def make_one(inner, **how):
-    return RawWorkbook(("Bids", inner), **how).bytes()
+def make_one(inner: str, **options: Any) -> bytes:
+    return RawWorkbook(("Bids", inner), **options).bytes()
 
 
-def write_rows(rows, change=lambda book, sheet: None):
+def write_rows(
+    rows: Rows, change: Callable[[Any, Any], object] = lambda book, sheet: None
+) -> bytes:
     """A workbook by openpyxl, of which something was changed."""
     book = openpyxl.Workbook()
     sheet = book.active
@@ -158,7 +184,7 @@ def write_rows(rows, change=lambda book, sheet: None):
     return data.getvalue()
 
 
-def plain(turn, rows):
+def plain(turn: int, rows: list[list[Any]]) -> bytes:
     more = [
         lambda book, sheet: None,
         lambda book, sheet: book.create_sheet("Notes").append(["Anything", 1]),
@@ -169,45 +195,60 @@ def plain(turn, rows):
     return write_rows(rows, more[turn % len(more)])
 
 
-def hide_column(book, sheet):
+def hide_column(book: Any, sheet: Any) -> None:
     sheet.column_dimensions["B"].hidden = True
 
 
-def hide_row(book, sheet):
+def hide_row(book: Any, sheet: Any) -> None:
     sheet.row_dimensions[3].hidden = True
 
 
-def narrow_column(book, sheet):
+def narrow_column(book: Any, sheet: Any) -> None:
     sheet.column_dimensions["C"].width = 0.2
 
 
-def lower_row(book, sheet):
+def lower_row(book: Any, sheet: Any) -> None:
     sheet.row_dimensions[2].height = 0.5
 
 
-def hidden(turn, rows):
+def hidden(turn: int, rows: list[list[Any]]) -> bytes:
     other = [rows[0], [1, 1, 1]]
     made = [
-        lambda: RawWorkbook(('Bids|state="hidden"', make_body(other)), ("Final", make_body(rows))).bytes(),
+        lambda: RawWorkbook(
+            ('Bids|state="hidden"', make_body(other)), ("Final", make_body(rows))
+        ).bytes(),
         lambda: write_rows(rows, hide_row),
         lambda: write_rows(rows, hide_column),
-        lambda: RawWorkbook(("Bids", make_body(rows)), ('Lists|state="veryHidden"', make_body([["x"]]))).bytes(),
+        lambda: RawWorkbook(
+            ("Bids", make_body(rows)), ('Lists|state="veryHidden"', make_body([["x"]]))
+        ).bytes(),
         lambda: write_rows(rows, narrow_column),
         lambda: write_rows(rows, lower_row),
         lambda: make_one(make_body(rows, ' s="1"'), formats=[";;;"]),
-        lambda: make_one('<sheetFormatPr defaultRowHeight="15" defaultColWidth="0"/>' + make_body(rows)),
-        lambda: write_rows(rows, lambda book, sheet: setattr(sheet.column_dimensions["H"], "hidden", True)),
+        lambda: make_one(
+            '<sheetFormatPr defaultRowHeight="15" defaultColWidth="0"/>' + make_body(rows)
+        ),
+        lambda: write_rows(
+            rows, lambda book, sheet: setattr(sheet.column_dimensions["H"], "hidden", True)
+        ),
     ]
     return made[turn % len(made)]()
 
 
-def merged(turn, rows):
+def merged(turn: int, rows: list[list[Any]]) -> bytes:
     covers = ["A2:B2", "A1:A2", "B2:C4", "E1:G9", "A9:C9", "C4:D4", "A1:A1"]
-    inner = make_body(rows) + f'<mergeCells><mergeCell ref="{covers[turn % len(covers)]}"/></mergeCells>'
-    return make_one(inner) if turn % 2 else write_rows(rows, lambda book, sheet: sheet.merge_cells("E2:F3"))
+    inner = (
+        make_body(rows)
+        + f'<mergeCells><mergeCell ref="{covers[turn % len(covers)]}"/></mergeCells>'
+    )
+    return (
+        make_one(inner)
+        if turn % 2
+        else write_rows(rows, lambda book, sheet: sheet.merge_cells("E2:F3"))
+    )
 
 
-def sparse(turn, rows):
+def sparse(turn: int, rows: list[list[Any]]) -> bytes:
     gap = [make_row(at * 100 + 1, row) for at, row in enumerate(rows)]
     unnamed = "".join("<row>" + "".join(map(make_cell, row)) + "</row>" for row in rows)
     made = [
@@ -222,7 +263,7 @@ def sparse(turn, rows):
     return made[turn % len(made)]()
 
 
-def repeated(turn, rows):
+def repeated(turn: int, rows: list[list[Any]]) -> bytes:
     lines = [make_row(number, row) for number, row in enumerate(rows, 1)]
     twice = "".join([*lines, make_row(len(rows), [7000, 1, 1])])
     cells = f'<row r="9">{make_cell(10, "A9")}{make_cell(20, "A9")}{make_cell(1, "B9")}</row>'
@@ -237,12 +278,14 @@ def repeated(turn, rows):
         lambda: make_one(make_body(rows) + make_body([[1, 2, 3]])),
         lambda: make_one(make_body(rows).replace("</v>", "</v><v>1</v>", 1)),
         lambda: RawWorkbook(("Bids", make_body(rows))).bytes(again=[upper]),
-        lambda: make_one('<cols><col min="1" max="3"/><col min="2" max="2" hidden="1"/></cols>' + make_body(rows)),
+        lambda: make_one(
+            '<cols><col min="1" max="3"/><col min="2" max="2" hidden="1"/></cols>' + make_body(rows)
+        ),
     ]
     return made[turn % len(made)]()
 
 
-def order(turn, rows):
+def order(turn: int, rows: list[list[Any]]) -> bytes:
     lines = [make_row(number, row) for number, row in enumerate(rows, 1)]
     swapped = "".join([lines[0], lines[2], lines[1], *lines[3:]])
     cells = f'<row r="9">{make_cell(1, "B9")}{make_cell(10, "A9")}</row>'
@@ -257,7 +300,7 @@ def order(turn, rows):
     return made[turn % len(made)]()
 
 
-def huge(turn, rows):
+def huge(turn: int, rows: list[list[Any]]) -> bytes:
     lines = make_body(rows).removesuffix("</sheetData>")
     wide = f'<row r="9">{make_cell(1, "XFD9")}</row></sheetData>'
     long = "9" * 500
@@ -275,7 +318,7 @@ def huge(turn, rows):
     return made[turn % len(made)]()
 
 
-def encrypted(turn, rows):
+def encrypted(turn: int, rows: list[list[Any]]) -> bytes:
     data = bytearray(plain(turn, rows))
     if turn % 3 == 0:
         return b"\xd0\xcf\x11\xe0\xa1\xb1\x1a\xe1" + bytes(data)
@@ -291,7 +334,7 @@ def encrypted(turn, rows):
     return bytes(data)
 
 
-def bombs(turn, rows):
+def bombs(turn: int, rows: list[list[Any]]) -> bytes:
     inner = make_body(rows)
     entities = '<!DOCTYPE x [<!ENTITY a "aaaaaaaaaa"><!ENTITY b "&a;&a;&a;&a;&a;&a;&a;&a;">]>'
     book = RawWorkbook(("Bids", inner))
@@ -300,7 +343,7 @@ def bombs(turn, rows):
         lambda: make_one("<!--" + " " * 15_000_000 + "-->" + inner),
         lambda: make_one("<!--" + " " * 60_000_000 + "-->" + inner),
         lambda: make_one(" " * 2**27 + inner),
-        lambda: book.changed(part, "<worksheet", entities + "<worksheet").bytes(),
+        lambda: book.change(part, "<worksheet", entities + "<worksheet").bytes(),
         lambda: make_one("<a>" * 100_000 + "</a>" * 100_000 + inner),
         lambda: make_one(f'<a b="{" " * 10_000_000}"/>' + inner),
         lambda: RawWorkbook(("Bids", inner), texts="<si/>" * 2_000_000).bytes(),
@@ -315,7 +358,7 @@ SCALED = ["#,##0,", "0,,", "0%", "0&quot;000&quot;", "#,##0,&quot;k&quot;", "0\\
 UNSEEN = [";;;", "&quot;many&quot;", "yyyy-mm-dd", "h:mm", "[h]:mm", "d. mmm"]
 
 
-def formats(turn, rows):
+def formats(turn: int, rows: list[list[Any]]) -> bytes:
     code = [*SCALED, *FORMATS, *UNSEEN][turn % 19].replace('" pounds"', "&quot; pounds&quot;")
     return make_one(make_body(rows, ' s="1"'), formats=[code])
 
@@ -340,14 +383,14 @@ VALUES = [
 ]
 
 
-def values(turn, rows):
+def values(turn: int, rows: list[list[Any]]) -> bytes:
     value = VALUES[turn % len(VALUES)]
     first = make_row(1, rows[0])
     second = f'<row r="2">{value}{make_cell(2, "B2")}{make_cell(1, "C2")}</row>'
     return make_one(f"<sheetData>{first}{second}</sheetData>")
 
 
-def texts(turn, rows):
+def texts(turn: int, rows: list[list[Any]]) -> bytes:
     """The heading by shared texts: of pieces, and with a word on how to say it."""
     rich = "<si><r><t>F</t></r><r><t>ox</t></r><rPh sb='0' eb='1'><t>x</t></rPh></si>"
     made = [rich, "<si><t>Fox</t></si>", "<si><t>fox</t></si>", "<si/>"]
@@ -357,14 +400,20 @@ def texts(turn, rows):
     return make_one(inner, texts=made[turn % len(made)])
 
 
-def sheets(turn, rows):
-    second = [[["Fox", "Low", "High"], [1, 1, 1]], [["Notes"]], [["fox"]], [[]], [["Ant", "Low", "High"]]]
+def sheets(turn: int, rows: list[list[Any]]) -> bytes:
+    second = [
+        [["Fox", "Low", "High"], [1, 1, 1]],
+        [["Notes"]],
+        [["fox"]],
+        [[]],
+        [["Ant", "Low", "High"]],
+    ]
     odd = RawWorkbook(("Bids", make_body(rows)), ("Other", make_body(second[turn % len(second)])))
     if turn % 3 == 1:
-        odd.changed("xl/_rels/workbook.xml.rels", "sheet2.xml", "sheet1.xml")
+        odd.change("xl/_rels/workbook.xml.rels", "sheet2.xml", "sheet1.xml")
     elif turn % 7 == 6:
         other = '/worksheet" Target="worksheets/sheet2'
-        odd.changed("xl/_rels/workbook.xml.rels", other, other.replace("/work", "/chart", 1))
+        odd.change("xl/_rels/workbook.xml.rels", other, other.replace("/work", "/chart", 1))
     return odd.bytes()
 
 
@@ -372,21 +421,24 @@ KINDS = [plain, hidden, merged, sparse, repeated, order, huge, encrypted, bombs,
 KINDS += [texts, sheets]
 
 
-def list_names():
+def list_names() -> list[str]:
     return [f"{kind.__name__}_{turn:02}" for kind in KINDS for turn in range(COUNT)]
 
 
-def make_workbook(name):
+def make_workbook(name: str) -> bytes:
     """The workbook of a name, as hidden_03."""
     kind, _, turn = name.rpartition("_")
     chosen = random.Random(int(turn) // 10 * 7)
     rows = [list(row) for row in FORM]
     if int(turn) >= 10:
-        rows = [rows[0], *([chosen.randint(1, 99) * 100, *chosen.choices(range(9), k=2)] for _ in range(3))]
+        rows = [
+            rows[0],
+            *([chosen.randint(1, 99) * 100, *chosen.choices(range(9), k=2)] for _ in range(3)),
+        ]
     return globals()[kind](int(turn), rows)
 
 
-def read_outcome(data, sheet=None):
+def read_outcome(data: bytes, sheet: str | None = None) -> str:
     """What is read of a workbook, and what is said of it: of its rows, or of why they aren't read."""
     try:
         file = read_workbook("it", data, 4_002, sheet=sheet, heads=BIDDERS)
@@ -398,15 +450,23 @@ def read_outcome(data, sheet=None):
     return "; ".join([shown, *file.changes[1:]])
 
 
-SHOWN = 'csv:Text - txt - csv (StarCalc):44,34,76,1,,0,false,false,false,false,false,-1'
+SHOWN = "csv:Text - txt - csv (StarCalc):44,34,76,1,,0,false,false,false,false,false,-1"
 
 
-def run_libreoffice(folder, kind, *paths):
-    words = ["soffice", "--headless", f"-env:UserInstallation=file://{folder}/profile", "--convert-to", kind]
-    subprocess.run([*words, "--outdir", folder, *paths], capture_output=True, timeout=900, check=False)
+def run_libreoffice(folder: Path, kind: str, *paths: Path) -> None:
+    words = [
+        "soffice",
+        "--headless",
+        f"-env:UserInstallation=file://{folder}/profile",
+        "--convert-to",
+        kind,
+    ]
+    subprocess.run(
+        [*words, "--outdir", folder, *paths], capture_output=True, timeout=900, check=False
+    )
 
 
-def show_in_libreoffice(folder, name):
+def show_in_libreoffice(folder: Path, name: str) -> dict[str, list[str]]:
     """The rows of each sheet as LibreOffice shows them, without empty ones."""
     found = {}
     for path in folder.glob(f"{name}-*.csv"):
@@ -416,7 +476,7 @@ def show_in_libreoffice(folder, name):
     return found
 
 
-def read_taken(path):
+def read_taken(path: Path) -> tuple[File | None, str]:
     """What is read of a workbook, or why it is refused."""
     try:
         file = read_workbook("it", path.read_bytes(), 4_002, heads=BIDDERS)
@@ -428,17 +488,17 @@ def read_taken(path):
     return file, ""
 
 
-def compare(folder, path, file):
+def compare(folder: Path, path: Path, file: File) -> tuple[str, str]:
     """Whether what is read is what LibreOffice shows of the same sheet, or what the receipt names; and both."""
     shown = show_in_libreoffice(folder, path.stem)
     first = next(iter(file.rows)).places[0].rpartition("!")[0] if file.rows else "Bids"
-    own = [",".join(row.values).rstrip(",") for row in file.rows]
+    read = [",".join(row.values).rstrip(",") for row in file.rows]
     is_named = any("shown as another number" in change for change in file.changes)
-    kind = "same" if shown.get(first) == own else "named" if is_named else "wrong"
-    return kind, f"{own} {shown} {file.changes}"
+    kind = "same" if shown.get(first) == read else "named" if is_named else "wrong"
+    return kind, f"{read} {shown} {file.changes}"
 
 
-def main():
+def main() -> int:
     folder = Path(sys.argv[1] if sys.argv[1:] else tempfile.mkdtemp(prefix="workbooks."))
     folder.mkdir(exist_ok=True)
     paths = []
@@ -446,7 +506,7 @@ def main():
         paths.append(folder / f"{name}.xlsx")
         paths[-1].write_bytes(make_workbook(name))
     for turn in range(COUNT):
-        lines = [["Fox", "Low", "High"], *([turn * 100 + at, at, 1] for at in range(1, 4))]
+        lines = [["Fox", "Low", "High"], *([turn * 100 + row, row, 1] for row in range(1, 4))]
         lines[2:2] = [[]] * (turn % 3)
         text = "".join(",".join(map(str, line)) + "\n" for line in lines)
         (folder / f"libreoffice_{turn:02}.csv").write_text(text)
@@ -454,8 +514,8 @@ def main():
     paths += sorted(folder.glob("libreoffice_*.xlsx"))
     found = {path: read_taken(path) for path in paths}
     read = [path for path, (file, _) in found.items() if file]
-    for at in range(0, len(read), 50):
-        run_libreoffice(folder, SHOWN, *read[at : at + 50])
+    for begin in range(0, len(read), 50):
+        run_libreoffice(folder, SHOWN, *read[begin : begin + 50])
     counts = {"same": 0, "refused": 0, "named": 0, "wrong": 0}
     for path, (file, why) in found.items():
         kind, both = compare(folder, path, file) if file else ("refused", why)
