@@ -6,9 +6,8 @@ import subprocess
 import sys
 from pathlib import Path
 
-from commands import ROOT, WORKED, OfficeFolder, read_text, finish, list_files, run, start
-
 import wdp
+from commands import ROOT, WORKED, OfficeFolder, finish, list_files, read_text, run, start
 from wdp import cli
 
 TOOL, SOURCE = ROOT / "wdp-office", ROOT / "python/src/wdp"

@@ -10,19 +10,19 @@ import subprocess
 from pathlib import Path
 
 import pytest
+
 from commands import (
     EVIL,
     EXAMPLES,
     ROOT,
     OfficeFolder,
-    read_text,
+    check_stopped,
     parse_rows,
+    read_text,
     run,
     write_script,
-    check_stopped,
 )
 from damage import ACCEPTED, damage_input
-
 from wdp import files
 from wdp.office.judge import explain, parse_finding
 from wdp.program import find_program

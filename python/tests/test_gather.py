@@ -11,19 +11,19 @@ from pathlib import Path
 
 import openpyxl
 import pytest
+
+import wdp
 import workbooks
 from commands import (
     BIDDERS,
     BY_HAND,
     OfficeFolder,
-    read_text,
-    parse_rows,
-    run,
-    limit_files,
     check_stopped,
+    limit_files,
+    parse_rows,
+    read_text,
+    run,
 )
-
-import wdp
 from wdp.files import Unreadable
 from wdp.office.sheets import parse_table
 from wdp.office.versions import find_last, format_time

@@ -7,12 +7,12 @@ from functools import partial
 from pathlib import Path
 
 import pytest
-from commands import ROOT, AuctionFolder, run_program, write_script, start
+
+from commands import ROOT, AuctionFolder, run_program, start, write_script
 from oracle import Checker
 from test_auction import HOW, OFFICE, SNAKEMAKE
 from test_problem import programs_of
 from tied_auctions import input_text, random_auction, subsets
-
 from wdp import groups, solve, steps
 from wdp.certify.problem import Problem
 from wdp.texts.certificates import has_bid, remove_bidders

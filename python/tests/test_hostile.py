@@ -13,19 +13,19 @@ from pathlib import Path
 from typing import Any
 
 import pytest
-from commands import (
-    EVIL,
-    read_text,
-    make_environment,
-    run_program,
-    parse_rows,
-    find_processes,
-    write_script,
-    start,
-    wait_for,
-)
 
 import wdp
+from commands import (
+    EVIL,
+    find_processes,
+    make_environment,
+    parse_rows,
+    read_text,
+    run_program,
+    start,
+    wait_for,
+    write_script,
+)
 from wdp import example
 from wdp.texts.answers import Asked, read_report
 

@@ -8,18 +8,22 @@ import time
 from pathlib import Path
 
 import pytest
+
 from commands import (
     COMMAND,
     ROOT,
     AuctionFolder,
     OfficeFolder,
+    check_stopped,
+    find_processes,
     finish,
     make_environment,
-    run_program,
     run,
-    find_processes,
+    run_program,
+    start,
+    wait_for,
+    write_solver,
 )
-from commands import write_solver, start, check_stopped, wait_for
 from wdp.files import Unreadable, read_rest
 
 MPS = ROOT / "fixtures/solvers/three.mps"

@@ -3,10 +3,10 @@ import re
 from pathlib import Path
 
 import pytest
+
 from commands import EXAMPLES, AuctionFolder
 from oracle import Checker
 from test_problem import wide_program
-
 from wdp import memory, progress
 from wdp.auction import percent
 from wdp.certify import search

@@ -6,16 +6,17 @@ import sys
 from pathlib import Path
 
 import pytest
+
 from commands import (
     EXAMPLES,
     ROOT,
     OfficeFolder,
-    read_text,
+    find_processes,
     make_environment,
     matches,
     parse_rows,
+    read_text,
     run,
-    find_processes,
     wait_for,
 )
 

@@ -6,7 +6,8 @@ import sys
 from pathlib import Path
 
 import pytest
-from commands import COMMAND, ROOT, WORKED, AuctionFolder, finish, start, wait_for, find_processes
+
+from commands import COMMAND, ROOT, WORKED, AuctionFolder, find_processes, finish, start, wait_for
 
 MPS = ROOT / "fixtures/solvers/three.mps"
 REPORT = (ROOT / "examples/worked.report.txt").read_bytes()

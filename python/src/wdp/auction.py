@@ -20,7 +20,7 @@ from typing import TYPE_CHECKING
 from wdp import audits, certify, files, groups, memory, prices, solve, steps
 from wdp.cli import run_reporting
 from wdp.folder import INPUT, Folder
-from wdp.office.choices import make_type
+from wdp.commands.arguments import make_type
 from wdp.office.faults import format_count
 from wdp.office.judge import explain
 from wdp.program import Limits, ask, find_program

@@ -17,9 +17,9 @@ _NAME = "wdp-office"
 _EXPLAIN_HELP = "prints all that is wrong with an input, by file, line and column"
 # each command with its module in this package, and what it is for
 COMMANDS = {
-    "gather": ("office.gather", "joins an auction's files into one input of wdp"),
-    "explain": ("office.explain", _EXPLAIN_HELP),
-    "form": ("office.form", "writes a blank form for each bidder"),
+    "gather": ("commands.gather", "joins an auction's files into one input of wdp"),
+    "explain": ("commands.explain", _EXPLAIN_HELP),
+    "form": ("commands.form", "writes a blank form for each bidder"),
     "solve": ("solve", "solves a program by a solver"),
     "certify": ("certify", "certifies a solution as optimal, or as the only optimal one"),
     "auction": ("auction", "goes from the input to winners, opportunity costs and a page"),

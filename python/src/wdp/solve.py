@@ -14,7 +14,7 @@ import sys
 from pathlib import Path
 
 from wdp import files, steps
-from wdp.office.choices import make_type
+from wdp.commands.arguments import make_type
 from wdp.program import Limits, ask, find_program, run_process, format_signal
 from wdp.texts.refusals import NotFound, NotSolved, Refused, WrongArgument, need
 from wdp.texts.zero_one import ZeroOne, read_program, read_solution, format_solution

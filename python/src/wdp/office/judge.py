@@ -3,7 +3,7 @@ import re
 from collections import defaultdict
 from dataclasses import dataclass, field
 
-from wdp.office.faults import quote, decode_escapes
+from wdp.office.faults import decode_escapes, quote
 from wdp.program import Limits, run_process
 from wdp.texts.refusals import Refused
 

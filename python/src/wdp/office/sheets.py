@@ -10,7 +10,7 @@ from collections.abc import Collection, Iterable
 from dataclasses import dataclass, field
 
 from wdp.files import Unreadable, read
-from wdp.office.faults import Fault, format_count, suggest_name, quote
+from wdp.office.faults import Fault, format_count, quote, suggest_name
 from wdp.texts.parts import make_group_rows
 from wdp.texts.tables import LINE_END, Records, TableRow, decode, encode, format_record
 

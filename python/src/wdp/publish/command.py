@@ -18,7 +18,7 @@ from itertools import islice
 
 from wdp import audits
 from wdp.files import put, read, tell, write_folder
-from wdp.office import choices
+from wdp.commands import arguments
 from wdp.office.faults import quote
 from wdp.office.judge import explain
 from wdp.office.sheets import read_pairs
@@ -96,7 +96,7 @@ def line(name: str) -> Callable[[str], str]:
     """Reads a word as the title or currency of the page."""
     longest = LONGEST[name]
     what = f"text of 1 to {longest} printable characters in UTF-8"
-    return choices.make_type(what, lambda word: word.strip(" "), lambda it: is_line(it, longest))
+    return arguments.make_type(what, lambda word: word.strip(" "), lambda it: is_line(it, longest))
 
 
 def add_arguments(parser: argparse.ArgumentParser) -> None:
@@ -106,16 +106,16 @@ def add_arguments(parser: argparse.ArgumentParser) -> None:
     add(
         "--output",
         metavar="DIR",
-        type=choices.parse_path,
+        type=arguments.parse_path,
         help="a folder for these files and no others",
     )
     add("--text", action="store_true", help="print the tables, with aligned columns")
     add("--title", type=line("title"), default=TITLE, help="the page's heading")
     add("--currency", type=line("currency"), metavar="UNIT", help="of all amounts, such as GBP")
     names = "a file with a row `code,name` for each bidder or category that has another name"
-    add("--names", metavar="FILE", type=choices.parse_path, help=names)
+    add("--names", metavar="FILE", type=arguments.parse_path, help=names)
     add("--audit", metavar="FILE", help="what `wdp verify` reads, with INPUT at its end")
-    number = choices.make_type("number of an award", int, lambda number: number >= 1)
+    number = arguments.make_type("number of an award", int, lambda number: number >= 1)
     drawn = "publish this award of those that tie, since it was drawn"
     add("--drawn", type=number, metavar="N", help=drawn)
 

@@ -10,12 +10,12 @@ import argparse
 from collections.abc import Sequence
 from dataclasses import dataclass
 
+from wdp.commands.arguments import add_choices, read_choices
 from wdp.files import Unreadable, put, read
-from wdp.office import choices
-from wdp.office.faults import Fault, format_total, format_count, format_lines
+from wdp.office.auction_files import AuctionFiles
+from wdp.office.faults import Fault, format_count, format_lines, format_total
 from wdp.office.judge import explain
 from wdp.office.places import make_faults_of_input
-from wdp.office.auction_files import AuctionFiles
 from wdp.program import find_program
 from wdp.texts import accepted
 from wdp.texts.parts import MOST_OF_INPUT
@@ -28,7 +28,7 @@ def add_arguments(parser: argparse.ArgumentParser) -> None:
     """Adds the arguments of the command."""
     parser.add_argument("paths", metavar="INPUT | RULES FORMS_DIR [GROUPS]", nargs="+")
     parser.add_argument("--bids", action="store_true", help="print which bids are in no program")
-    choices.add_arguments(parser)
+    add_choices(parser)
 
 
 @dataclass(frozen=True)
@@ -78,7 +78,7 @@ def _explain_input(options: argparse.Namespace, program: str) -> _Explanation:
 def _explain_files(options: argparse.Namespace, program: str) -> _Explanation:
     """What is wrong with an auction's files."""
     rules, folder, *groups = options.paths
-    files = AuctionFiles(program, choices.Choices.of(options))
+    files = AuctionFiles(program, read_choices(options))
     files.read_all(rules, folder, groups)
     counts = {name: form.bids or 0 for name, form in files.forms.items()}
     return _Explanation(
@@ -100,7 +100,7 @@ def run(options: argparse.Namespace) -> int:
     is_one_input = len(options.paths) == 1
     if len(options.paths) > 3:
         raise WrongArgument("give INPUT, or RULES FORMS_DIR [GROUPS]")
-    if is_one_input and choices.Choices.of(options).has_any():
+    if is_one_input and read_choices(options).has_any():
         raise WrongArgument("one input has no files to choose from")
     explain_paths = _explain_input if is_one_input else _explain_files
     explanation = explain_paths(options, find_program(options.program))

@@ -7,10 +7,11 @@ import argparse
 import io
 import os
 
+from wdp.commands.arguments import parse_path
 from wdp.files import tell, write_folder
-from wdp.office import choices
-from wdp.office.faults import format_count, format_lines
 from wdp.office.auction_files import AuctionFiles
+from wdp.office.choices import Choices
+from wdp.office.faults import format_count, format_lines
 from wdp.program import find_program
 from wdp.texts.refusals import Refused, need
 from wdp.texts.tables import encode, format_record
@@ -22,7 +23,7 @@ def add_arguments(parser: argparse.ArgumentParser) -> None:
     parser.add_argument(
         "--output",
         metavar="DIR",
-        type=choices.parse_path,
+        type=parse_path,
         required=True,
         help="the folder for the forms, which must be empty or new",
     )
@@ -46,7 +47,7 @@ def _make_workbook(values: list[str]) -> bytes:
 def run(options: argparse.Namespace) -> int:
     """Writes the forms; the status."""
     program = find_program(options.program)
-    auction = AuctionFiles(program, choices.Choices())
+    auction = AuctionFiles(program, Choices())
     if not auction.read_rules(options.rules):
         raise Refused(format_lines(auction.faults).rstrip("\n"))
     if os.path.isdir(options.output) and os.listdir(options.output):

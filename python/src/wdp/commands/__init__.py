@@ -1,0 +1,1 @@
+"""The commands of wdp-office, a module for each: its arguments, and what it does with the library."""
