@@ -125,11 +125,7 @@ def make_faults(
 ) -> list[Fault]:
     """The faults of one part in the program's order; rows with the same fault, as a template leaves them, have one. The part has
     these rows of the file, in which it begins at `head`."""
-    numbers = {1} | {each.refused.at for each in findings if isinstance(each.refused.at, int)}
-    numbered = enumerate(islice(rows, max(numbers)), 1)
-    by_number: dict[object, TableRow] = {
-        number: row for number, row in numbered if number in numbers
-    }
+    by_number = _pick_rows(findings, rows)
     width = len(by_number[1].values) if by_number else 0
     groups: dict[object, list[Finding]] = {}  # those of rows that are alike are one
     for number, finding in enumerate(findings):
@@ -143,12 +139,20 @@ def make_faults(
         if row and first.refused.kind not in ("NoCategory", "NoBidder"):
             place = f"{path}:{row.place((first.field or 1) - 1)}"
         if isinstance(key, _Alike):
-            lines = {by_number[finding.refused.at].line for finding in group}
-            text = key.describe(lines)
+            text = key.describe({by_number[finding.refused.at].line for finding in group})
         else:
             text = _describe(first, row, bidders)
         faults.append(Fault(place, text, refusal=first.refusal))
     return faults
+
+
+def _pick_rows(
+    findings: Sequence[Finding], rows: Iterable[TableRow]
+) -> dict[int | str | None, TableRow]:
+    """The first row and those that findings are about, by their numbers from 1."""
+    numbers = {1} | {each.refused.at for each in findings if isinstance(each.refused.at, int)}
+    numbered = enumerate(islice(rows, max(numbers)), 1)
+    return {number: row for number, row in numbered if number in numbers}
 
 
 def limit_faults(faults: list[Fault], path: str, more: int = 0) -> list[Fault]:

@@ -104,6 +104,7 @@ class _XmlParser:
         self.parser.StartDoctypeDeclHandler = self.refuse_type
 
     def begin(self, name: str, attributes: dict[str, str]) -> None:
+        """Takes the beginning of an element; the parser calls this, and what follows."""
         self.count += 1
         self.depth += 1
         if self.count > _MOST_ELEMENTS or self.depth > _MOST_NESTED:
@@ -114,6 +115,7 @@ class _XmlParser:
         self.found.append(_Element(is_begin=True, name=local_name, attributes=attributes))
 
     def end(self, name: str) -> None:
+        """Takes the end of an element."""
         self.depth -= 1
         text = "".join(self.texts)
         self.texts.clear()
@@ -121,6 +123,7 @@ class _XmlParser:
         self.found.append(_Element(is_begin=False, name=local_name, attributes={}, text=text))
 
     def refuse_type(self, *_: object) -> None:
+        """Refuses a document type, by which a small text may become a large one."""
         raise _BadWorkbook("its XML has a document type, as no spreadsheet writes")
 
     def elements(self, data: bytes) -> Iterator[_Element]:
@@ -338,24 +341,91 @@ class _Cell:
 
 
 @dataclass
+class _Hidden:
+    """What a sheet says of rows and columns that nobody sees."""
+
+    columns: set[int] = field(default_factory=set)
+    last_column: int = 0
+    are_columns_small: bool = False
+    are_rows_small: bool = False
+    is_row_hidden: bool = False
+
+    def take_sizes(self, attributes: Mapping[str, str]) -> None:
+        """Takes the sizes of rows and columns of which nothing else is said."""
+        self.are_rows_small |= _is_small(attributes.get("defaultRowHeight"))
+        self.are_columns_small |= _is_small(attributes.get("defaultColWidth"))
+
+    def take_columns(self, attributes: Mapping[str, str]) -> None:
+        """Takes what is said of some columns."""
+        first_text = attributes.get("min", "")
+        last_text = attributes.get("max", "")
+        if not _ROW.fullmatch(first_text) or not _ROW.fullmatch(last_text):
+            raise _BadWorkbook("its columns aren't understood")
+        first = int(first_text)
+        last = int(last_text)
+        if not self.last_column < first <= last:
+            place = f"{_format_column(first)}1"
+            raise _BadWorkbook("its column isn't in order, or is there twice", place)
+        self.last_column = last
+        if attributes.get("hidden", "0") not in _OFF or _is_small(attributes.get("width")):
+            self.columns.update(range(first, min(last, _MOST_CELLS) + 1))
+
+    def take_row(self, attributes: Mapping[str, str]) -> None:
+        """Takes what is said of the next row."""
+        height = attributes.get("ht")
+        is_row_small = _is_small(height) if height else self.are_rows_small
+        self.is_row_hidden = attributes.get("hidden", "0") not in _OFF or is_row_small
+
+    def find_reason(self, column: int) -> str:
+        """Why a cell of this row isn't seen; nothing if it is."""
+        if self.is_row_hidden:
+            return "its row is hidden"
+        is_hidden = column in self.columns
+        if column > self.last_column:
+            is_hidden = self.are_columns_small
+        return "its column is hidden" if is_hidden else ""
+
+
+@dataclass
+class _Remarks:
+    """What is to be said of the cells of a sheet: formulas, numbers that are shown as others, and what isn't shown, with the reason."""
+
+    formulas: list[str] = field(default_factory=list)
+    scaled: list[str] = field(default_factory=list)
+    unseen: list[tuple[str, str]] = field(default_factory=list)
+
+    def add_to(self, file: File) -> None:
+        """Adds what is hidden to the faults, and what the receipt says to the changes."""
+        if self.unseen:
+            place, why = self.unseen[0]
+            rest = len(self.unseen) - 1
+            if rest:
+                verb = "is" if rest == 1 else "are"
+                why += f", and {format_count(rest, 'more cell')} {verb} hidden"
+            file.add_fault(place, f"{why}; show what counts, and delete the rest")
+        if self.formulas:
+            count = format_count(len(self.formulas), "formula")
+            cells = ", ".join(self.formulas[:_MOST_NAMED])
+            file.changes.append(f"{count} taken by their stored values: {cells}")
+        if self.scaled:
+            count = format_count(len(self.scaled), "number")
+            cells = ", ".join(self.scaled[:_MOST_NAMED])
+            file.changes.append(f"{count} shown as another number by its format: {cells}")
+
+
+@dataclass
 class _SheetReader:
     """Reads the cells of one sheet. What is wrong with a cell is a fault of `file`."""
 
     book: _Workbook
     sheet: _Sheet
     file: File
-    formulas: list[str] = field(default_factory=list)
-    scaled: list[str] = field(default_factory=list)
-    # the columns that have a value in each row; and each cell that has one and isn't shown, with the reason
+    hidden: _Hidden = field(default_factory=_Hidden)
+    remarks: _Remarks = field(default_factory=_Remarks)
+    # the columns that have a value in each row
     columns: dict[int, list[int]] = field(default_factory=dict)
-    unseen: list[tuple[str, str]] = field(default_factory=list)
-    hidden_columns: set[int] = field(default_factory=set)
-    last_hidden: int = 0
-    are_columns_small: bool = False
-    are_rows_small: bool = False
     merged: int = 0
     row: int = 0
-    is_row_hidden: bool = False
     column: int = 0
     cells: list[_Cell] = field(default_factory=list)
     pieces: _TextPieces = field(default_factory=_TextPieces)
@@ -363,7 +433,7 @@ class _SheetReader:
     is_begun: bool = False
 
     def rows(self) -> Iterator[TableRow]:
-        """The rows that have a value; a formula's cell is added to `formulas`."""
+        """The rows that have a value."""
         last = 0
         for element in _parse_xml(self.book.package.read(self.sheet.part)):
             if element.is_begin:
@@ -395,10 +465,9 @@ class _SheetReader:
                 if " " in name and not self.is_begun:
                     why = f"before its rows it has {quote(name)}, which isn't understood"
                     raise _BadWorkbook(why)
-                self.are_rows_small |= _is_small(attributes.get("defaultRowHeight"))
-                self.are_columns_small |= _is_small(attributes.get("defaultColWidth"))
+                self.hidden.take_sizes(attributes)
             case ["worksheet", "cols"], "col":
-                self.begin_columns(attributes)
+                self.hidden.take_columns(attributes)
             case ["worksheet", "mergeCells"], "mergeCell":
                 self.check_merged(attributes.get("ref", ""))
             case ["worksheet", "sheetData", *within], _:
@@ -425,21 +494,6 @@ class _SheetReader:
                 place = self.cells[-1].place if self.cells else f"A{self.row or 1}"
                 raise _BadWorkbook(f"there is {quote(element.name)}, which isn't understood", place)
 
-    def begin_columns(self, attributes: Mapping[str, str]) -> None:
-        """Takes what is said of some columns."""
-        first_text = attributes.get("min", "")
-        last_text = attributes.get("max", "")
-        if not _ROW.fullmatch(first_text) or not _ROW.fullmatch(last_text):
-            raise _BadWorkbook("its columns aren't understood")
-        first = int(first_text)
-        last = int(last_text)
-        if not self.last_hidden < first <= last:
-            place = f"{_format_column(first)}1"
-            raise _BadWorkbook("its column isn't in order, or is there twice", place)
-        self.last_hidden = last
-        if attributes.get("hidden", "0") not in _OFF or _is_small(attributes.get("width")):
-            self.hidden_columns.update(range(first, min(last, _MOST_CELLS) + 1))
-
     def begin_row(self, attributes: Mapping[str, str]) -> None:
         """Takes the number of a row, and whether it is shown."""
         number = attributes.get("r", str(self.row + 1))
@@ -454,9 +508,7 @@ class _SheetReader:
         self.row = int(number)
         self.column = 0
         self.cells = []
-        height = attributes.get("ht")
-        is_row_small = _is_small(height) if height else self.are_rows_small
-        self.is_row_hidden = attributes.get("hidden", "0") not in _OFF or is_row_small
+        self.hidden.take_row(attributes)
 
     def begin_cell(self, attributes: Mapping[str, str]) -> None:
         """Takes the place of a cell, and the kind of its value."""
@@ -521,23 +573,19 @@ class _SheetReader:
         for cell in self.cells:
             index = cell.column - 1
             values[index] = self.format_cell(cell, places[index])
-            self.check_cell(cell, places[index], values[index])
+            self.check_cell(cell, places[index])
             if not is_first:
                 self.check_kind(cell, places[index], values[index])
         return TableRow(values, self.row, places)
 
-    def check_cell(self, cell: _Cell, place: str, value: str) -> None:
+    def check_cell(self, cell: _Cell, place: str) -> None:
         """Adds what is wrong with a cell, or hidden."""
         if cell.is_formula:
-            self.formulas.append(cell.place)
+            self.remarks.formulas.append(cell.place)
             if cell.value is None:
                 self.file.add_fault(place, NOT_STORED)
-        is_column_hidden = cell.column in self.hidden_columns
-        if cell.column > self.last_hidden:
-            is_column_hidden = self.are_columns_small
-        if self.is_row_hidden or is_column_hidden:
-            what = "row" if self.is_row_hidden else "column"
-            self.unseen.append((place, f"its {what} is hidden"))
+        if reason := self.hidden.find_reason(cell.column):
+            self.remarks.unseen.append((place, reason))
 
     def check_kind(self, cell: _Cell, place: str, value: str) -> None:
         """Adds a fault if a cell has a number as a text."""
@@ -567,9 +615,9 @@ class _SheetReader:
             return _format_date(number, is_of_1904=self.book.is_of_1904) or text
         if number and not number_format.is_seen:
             code = quote(number_format.code)
-            self.unseen.append((place, f"its format {code} doesn't show its number"))
+            self.remarks.unseen.append((place, f"its format {code} doesn't show its number"))
         elif number and number_format.is_scaled:
-            self.scaled.append(f"{cell.place} ({number_format.code})")
+            self.remarks.scaled.append(f"{cell.place} ({number_format.code})")
         is_exact = number.is_integer() and abs(number) < 2**53
         return str(int(number)) if is_exact else str(number)
 
@@ -600,25 +648,6 @@ class _SheetReader:
             if first < len(columns) and columns[first] <= right:
                 why = f"it is covered by the merged cells {ref}; unmerge them"
                 raise _BadWorkbook(why, f"{_format_column(columns[first])}{row}")
-
-    def finish(self) -> None:
-        """Adds what is hidden to the faults, and what the receipt says to the changes."""
-        if self.unseen:
-            place, why = self.unseen[0]
-            rest = len(self.unseen) - 1
-            if rest:
-                why += (
-                    f", and {format_count(rest, 'more cell')} {'is' if rest == 1 else 'are'} hidden"
-                )
-            self.file.add_fault(place, f"{why}; show what counts, and delete the rest")
-        if self.formulas:
-            count = format_count(len(self.formulas), "formula")
-            cells = ", ".join(self.formulas[:_MOST_NAMED])
-            self.file.changes.append(f"{count} taken by their stored values: {cells}")
-        if self.scaled:
-            count = format_count(len(self.scaled), "number")
-            cells = ", ".join(self.scaled[:_MOST_NAMED])
-            self.file.changes.append(f"{count} shown as another number by its format: {cells}")
 
 
 def _format_date(number: float, *, is_of_1904: bool) -> str:
@@ -676,7 +705,7 @@ def _fill_from_sheet(file: File, most: int, name: str | None, heads: Collection[
     except _BadWorkbook as bad:
         place = f"{file.path}:{sheet.name}!{bad.cell}" if bad.cell else file.path
         raise Unreadable(place, bad.why) from None
-    reader.finish()
+    reader.remarks.add_to(file)
 
 
 def read_workbook(
