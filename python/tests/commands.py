@@ -1,4 +1,6 @@
-"""The tree, the commands of wdp-office in this process or in one of their own, and folders as offices and auctions have them."""
+"""The tree, the commands of wdp-office in this process or in one of their own, and folders as
+offices and auctions have them.
+"""
 import contextlib
 import io
 import json
@@ -36,7 +38,9 @@ class CommandResult(NamedTuple):
 
 
 def parse_rows(table: str) -> list[tuple[str, ...]]:
-    """The rows of a table that is a text, a line each with cells between `|`; ⏎ is LF there, ␍ CR, and a line `# ..` a comment."""
+    """The rows of a table that is a text, a line each with cells between `|`; ⏎ is LF there, ␍ CR,
+    and a line `# ..` a comment.
+    """
     ends = str.maketrans("⏎␍", "\n\r")
     lines = [line for line in table.strip("\n").split("\n") if not line.startswith("# ")]
     return [tuple(cell.strip().translate(ends) for cell in line.split(" |")) for line in lines]
@@ -90,7 +94,10 @@ def start(words: Iterable[object], **how: Any) -> subprocess.Popen[bytes]:
 def finish(
     started: subprocess.Popen[bytes], data: bytes | None = None, own: str = "Traceback"
 ) -> CommandResult:
-    """What a process comes to. Whatever it is given, it ends in no traceback; `own` is what one of ours would print."""
+    """What a process comes to.
+
+    Whatever it is given, it ends in no traceback; `own` is what one of ours would print.
+    """
     out, err = (text or b"" for text in started.communicate(data, timeout=900))
     seen = CommandResult(started.returncode, out.decode(), err.decode())
     assert own not in seen.out + seen.err, seen.out + seen.err
@@ -160,7 +167,9 @@ REST = """rest() { cbc "$1" -solve -solu cbc.txt > /dev/null \\
 
 
 def write_solver(folder: Path, text: str) -> list[str]:
-    """A solver that is a script: $1 is the program, which has Beta's bid X2_1 in groups 1 and 2 alone, $2 the answer."""
+    """A solver that is a script: $1 is the program, which has Beta's bid X2_1 in groups 1 and 2
+    alone, $2 the answer.
+    """
     path = write_script(folder / "solver", REST + text)
     return ["--solver-command", f"{path} {{free}} {{out}}"]
 
@@ -220,7 +229,9 @@ BY_HAND = (OFFICE / "joined.txt").read_text()
 
 
 class OfficeFolder:
-    """A folder with the rules, the groups and nine forms, each as another spreadsheet or editor exports it: nothing is wrong."""
+    """A folder with the rules, the groups and nine forms, each as another spreadsheet or editor
+    exports it: nothing is wrong.
+    """
 
     def __init__(self, folder: Path) -> None:
         shutil.copytree(OFFICE, folder, dirs_exist_ok=True)

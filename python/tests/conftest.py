@@ -1,4 +1,6 @@
-"""Hides the libraries that WITHOUT_LIBRARIES names, as if they weren't there, and makes folders for tests."""
+"""Hides the libraries that WITHOUT_LIBRARIES names, as if they weren't there, and makes folders for
+tests.
+"""
 import os
 import sys
 import time

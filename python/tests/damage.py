@@ -1,7 +1,10 @@
-"""Damaged certificates and inputs, to be judged beside right ones. The same text and seed give the same damages.
+"""Damaged certificates and inputs, to be judged beside right ones.
 
-Numbers are near to those of the text and words are what typing, copying and exporting make of them, so most damaged lines can be
-read and are wrong in what they say; some certificates still show the bound, as a multiplier that was raised may.
+The same text and seed give the same damages.
+
+Numbers are near to those of the text and words are what typing, copying and exporting make of them,
+so most damaged lines can be read and are wrong in what they say; some certificates still show the
+bound, as a multiplier that was raised may.
 """
 import random
 import re
@@ -11,7 +14,8 @@ from pathlib import Path
 TEXTS = Path(__file__).resolve().parents[2] / "fixtures/damaged"
 # accepted inputs of each version of the rules
 ACCEPTED = [(TEXTS / f"version_{version}.txt").read_bytes() for version in (1, 2, 3)]
-# what may come in the place of a field of an input, of one of its bytes, and of a word and a line of a certificate
+# what may come in the place of a field of an input, of one of its bytes, and of a word and a line
+# of a certificate
 _FIELDS = b'|0|1|00| 1|1 |-1|+1|1,5|1.5|10000|10001|1000000|1000001|1000000000000|1000000000001|x|Alpha|Delta|A|C|"1"|"|\xef\xbb\xbf|-|+'
 _FIELDS += b"|999999999999999999|1000000000000000000|rules|category|bidder|pool|member|lot|2|3|4|%form|Low|High|a1|1a"
 FIELDS = [*_FIELDS.split(b"|"), b"ABCDEFGHIJKLMNOP", b"ABCDEFGHIJKLMNOPQ"]
@@ -90,7 +94,9 @@ def damage_certificate(text: bytes, seed: int, number: int) -> tuple[bytes, list
 
 
 def damage_input(text: bytes, seed: int | str) -> bytes:
-    """An input with one to three damages: of its lines, of a line's fields, or of bytes; or it ends early."""
+    """An input with one to three damages: of its lines, of a line's fields, or of bytes; or it ends
+    early.
+    """
     draw = random.Random(seed)
     for _ in range(draw.randrange(1, 4)):
         kind = draw.randrange(7)

@@ -1,4 +1,6 @@
-"""The office's commands as one tree, wdp-office, and what holds for the source: sizes, docstrings, and that it installs."""
+"""The office's commands as one tree, wdp-office, and what holds for the source: sizes, docstrings,
+and that it installs.
+"""
 import ast
 import os
 import signal

@@ -1,4 +1,5 @@
-"""Each line of `wdp explain` comes out once, in words and at its place, of inputs and files made by hand and of damaged ones.
+"""Each line of `wdp explain` comes out once, in words and at its place, of inputs and files made by
+hand and of damaged ones.
 
 DAMAGES in the environment is how many are tried of each kind, by default 60.
 """
@@ -34,7 +35,8 @@ from wdp.texts.tables import Records, format_record
 DAMAGES = int(os.environ.get("DAMAGES", "60"))
 AFTER = "the forms and groups are read once the parts and the rules are right"
 NAME = EVIL + "\udcff Heron.csv"
-# a fault of a value that is quoted; a line of the program, and how it comes after a fault; rows that are alike have one
+# a fault of a value that is quoted; a line of the program, and how it comes after a fault; rows
+# that are alike have one
 QUOTED = re.compile(r"(?P<path>.*?):(?P<line>[0-9]+):(?P<column>[0-9]+): '(?P<value>[^'\\]*)' ")
 OF_PROGRAM = re.compile(r"(?m)^((?:rules|groups|form \d+): \d+ \w+(?: at \w+ \d+)?)")
 IN_BRACKETS = re.compile(r"\(wdp: (.*?)(?:, earlier bid \d+)?\)$")
@@ -51,8 +53,11 @@ def explain_lines(folder: Path, text: bytes) -> list[str]:
 
 
 def read_by_hand(name: str) -> tuple[bytes, list[str]]:
-    """An input made by hand, and the lines of its faults, which follow each line that has some. It has what spreadsheets write:
-    CR LF, quotes, a field over two lines, empty lines, a byte order mark (⌂)."""
+    """An input made by hand, and the lines of its faults, which follow each line that has some.
+
+    It has what spreadsheets write: CR LF, quotes, a field over two lines, empty lines, a byte order
+    mark (⌂).
+    """
     text = ""
     faults: list[str] = []
     for line in read_text("fixtures", "office", name).splitlines():
@@ -231,7 +236,9 @@ def test_an_older_program_and_odd_names(tmp_path: Path) -> None:
 
 
 def test_an_accepted_input_is_read_however_it_is_written() -> None:
-    """Byte order marks, CR LF, quotes, empty lines, leading zeros, text in fields that aren't read, two forms of a bidder."""
+    """Byte order marks, CR LF, quotes, empty lines, leading zeros, text in fields that aren't read,
+    two forms of a bidder.
+    """
     data = ACCEPTED[2].replace(b"\n50,2,1", b'\r\n\n0050,"2",1\r')
     data = data.replace(b"Low,2,", b'Low,02,"of\nMay"').replace(b"Alpha+Gamma", b"Gamma+Alpha\r")
     data = data.replace(b"%form\nAlpha", b'%form\nBeta,A,B\n99,1,0\n%form\n\xef\xbb\xbf"Alpha"')

@@ -1,4 +1,6 @@
-"""An office's files joined into one input, and the receipt. (test_runs.py has what is asked of the office, and what is refused.)"""
+"""An office's files joined into one input, and the receipt. (test_runs.py has what is asked of the
+office, and what is refused.)
+"""
 import contextlib
 import hashlib
 import os
@@ -55,7 +57,9 @@ LINE = re.compile(
 
 
 def test_the_receipt_has_both_digests_and_parts_are_written(office: OfficeFolder) -> None:
-    """A part's bytes are those between the heads of the input, and differ from the file's only if a change is named."""
+    """A part's bytes are those between the heads of the input, and differ from the file's only if a
+    change is named.
+    """
     parts = office.folder / "parts"
     words = ["--output", office.folder / "input.txt", "--parts", parts]
     seen = office.gather(*words)
@@ -143,7 +147,9 @@ SHEET = [["Fox", "Low", "High"], [5000, 2, 1], [9900, 4, 0], [3000, 0, 3]]
 
 @pytest.fixture
 def workbook(office: OfficeFolder) -> Callable[..., None]:
-    """Writes a workbook of Fox in the place of its form, whose first sheet is Bids; changes its text."""
+    """Writes a workbook of Fox in the place of its form, whose first sheet is Bids; changes its
+    text.
+    """
     path = office.forms / "Fox.xlsx"
 
     def write(

@@ -1,4 +1,6 @@
-"""Groups that take over what shows a smaller one: it holds, and the bytes don't depend on what is done first."""
+"""Groups that take over what shows a smaller one: it holds, and the bytes don't depend on what is
+done first.
+"""
 import random
 import subprocess
 import time

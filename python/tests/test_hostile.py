@@ -1,4 +1,6 @@
-"""Answers as they have to be, and programs that answer something else, or nothing, or are ended: one clear exception, no hang."""
+"""Answers as they have to be, and programs that answer something else, or nothing, or are ended:
+one clear exception, no hang.
+"""
 import contextlib
 import os
 import random

@@ -1,4 +1,6 @@
-"""Solvers, folders and files that are odd in some way: each is worked with or refused in one line, nothing hangs or is left."""
+"""Solvers, folders and files that are odd in some way: each is worked with or refused in one line,
+nothing hangs or is left.
+"""
 import hashlib
 import os
 import signal
@@ -29,7 +31,8 @@ from wdp.files import Unreadable, read_rest
 MPS = ROOT / "fixtures/solvers/three.mps"
 REPORT = (ROOT / "examples/worked.report.txt").read_bytes()
 POINT = "X1_1 1\nX2_1 1\nX3_1 1\n"
-# as many bids of a bidder called `group` as groups, and one, of which the last one wins: its line is `group 3 30`
+# as many bids of a bidder called `group` as groups, and one, of which the last one wins: its line
+# is `group 3 30`
 OF_GROUP = """%rules
 rules,1,1,,
 category,A,3,1,1
@@ -50,7 +53,9 @@ Beta
 
 
 def test_a_bidder_who_is_called_group(tmp_path: Path, wdp: str) -> None:
-    """A line of its winning bid isn't taken for the head of a group, and the digest is that of the complete report."""
+    """A line of its winning bid isn't taken for the head of a group, and the digest is that of the
+    complete report.
+    """
     auction = AuctionFolder(tmp_path / "auction", wdp, OF_GROUP.encode())
     auction.read_messages()
     report = auction.read("report.txt")
@@ -94,7 +99,9 @@ NESTED = "i=0; while [ $i -lt 3000 ]; do mkdir d; cd -P d; i=$((i+1)); done"
 
 
 def test_nested_folders_are_taken_away(tmp_path: Path, wdp: str) -> None:
-    """A solver that leaves three thousand, one within the other, in its folder, in the temporary one and in the auction's."""
+    """A solver that leaves three thousand, one within the other, in its folder, in the temporary
+    one and in the auction's.
+    """
     auction = AuctionFolder(tmp_path / "auction", wdp)
     for place in (".", "$TMPDIR", auction.where):
         nest = f'own=$PWD; (cd "{place}" && {NESTED}); cd "$own"; rest "$@"'

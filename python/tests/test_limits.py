@@ -1,4 +1,6 @@
-"""Limits: a search that gives up and goes on later, how far a run is, how long it took, and how many steps memory has room for."""
+"""Limits: a search that gives up and goes on later, how far a run is, how long it took, and how
+many steps memory has room for.
+"""
 import re
 from pathlib import Path
 
@@ -22,7 +24,9 @@ from wdp.certify.unfinished import Unfinished
 def test_a_search_goes_on_where_another_gave_up(
     monkeypatch: pytest.MonkeyPatch, seed: int, plain: int
 ) -> None:
-    """After each limit of lines: the solution is never worse, and the lines together are a certificate."""
+    """After each limit of lines: the solution is never worse, and the lines together are a
+    certificate.
+    """
     monkeypatch.setattr(search, "PLAIN_LINES", plain)
     monkeypatch.setattr(search, "COLUMNS_OF_LINE", 10**9)
     program = wide_program(seed, bidders=4, bids=12)
@@ -65,7 +69,9 @@ def test_how_near_the_greatest_total_is() -> None:
 def test_a_run_that_gives_up_and_goes_on(
     auction: AuctionFolder, tmp_path: Path, monkeypatch: pytest.MonkeyPatch
 ) -> None:
-    """A search without time: each group is named with its gap, there is no report, and the next run takes the trees up."""
+    """A search without time: each group is named with its gap, there is no report, and the next run
+    takes the trees up.
+    """
     nothing = tmp_path / "nothing.py"
     nothing.write_text(
         "import sys\nfrom wdp.certify import search\n"

@@ -33,7 +33,9 @@ def test_run(
     status: str,
     said: str,
 ) -> None:
-    """What is refused has no output, and nothing is changed or left at work; what gather says of faults, explain says, too."""
+    """What is refused has no output, and nothing is changed or left at work; what gather says of
+    faults, explain says, too.
+    """
     monkeypatch.chdir(office.folder)
     for path in (*EXAMPLES.glob("worked*"), ROOT / "fixtures/solvers/three.mps"):
         shutil.copy(path, office.folder)

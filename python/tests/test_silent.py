@@ -1,4 +1,6 @@
-"""Runs whose messages nobody reads, or whose parent ignores that they end: they do their work, end, and leave nothing."""
+"""Runs whose messages nobody reads, or whose parent ignores that they end: they do their work, end,
+and leave nothing.
+"""
 import os
 import signal
 import subprocess

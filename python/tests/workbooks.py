@@ -3,9 +3,9 @@
 
 usage: python/tests/workbooks.py [FOLDER]
 
-Has LibreOffice read those that aren't refused, and some that it makes itself, and compares: what is read is what LibreOffice
-shows of the sheet, or the receipt names the cell. The last line is 'N the same, M refused, L named, K wrong'. The files stay in
-FOLDER.
+Has LibreOffice read those that aren't refused, and some that it makes itself, and compares: what is
+read is what LibreOffice shows of the sheet, or the receipt names the cell. The last line is 'N the
+same, M refused, L named, K wrong'. The files stay in FOLDER.
 """
 import csv
 import io
@@ -73,7 +73,9 @@ def make_sheet(inner: str) -> str:
 
 
 class RawWorkbook:
-    """A workbook from XML: its sheets as pairs of a name, perhaps with attributes after it, and what is in the sheet."""
+    """A workbook from XML: its sheets as pairs of a name, perhaps with attributes after it, and
+    what is in the sheet.
+    """
 
     def __init__(
         self,
@@ -489,7 +491,9 @@ def read_taken(path: Path) -> tuple[File | None, str]:
 
 
 def compare(folder: Path, path: Path, file: File) -> tuple[str, str]:
-    """Whether what is read is what LibreOffice shows of the same sheet, or what the receipt names; and both."""
+    """Whether what is read is what LibreOffice shows of the same sheet, or what the receipt names;
+    and both.
+    """
     shown = show_in_libreoffice(folder, path.stem)
     first = next(iter(file.rows)).places[0].rpartition("!")[0] if file.rows else "Bids"
     read = [",".join(row.values).rstrip(",") for row in file.rows]

@@ -52,7 +52,9 @@ class _Parser(argparse.ArgumentParser):
 
 
 def build_parser(only: str | None = None) -> _Parser:
-    """The parser of all commands, with the arguments of each, or of one alone, whose module is then the only one read."""
+    """The parser of all commands, with the arguments of each, or of one alone, whose module is then
+    the only one read.
+    """
     parser = _Parser(prog=_NAME, description=__doc__)
     parser.add_argument("--version", action="version", version=f"{_NAME} {VERSION}")
     commands = parser.add_subparsers(dest="command", metavar="COMMAND", title="commands")
@@ -106,7 +108,9 @@ def run_reporting(say: Callable[[str], None], label: str, step: Step) -> int:
 
 
 def main(arguments: list[str] | None = None) -> int:
-    """Does what the arguments ask for, and gives the status; whatever goes wrong is one line on standard error."""
+    """Does what the arguments ask for, and gives the status; whatever goes wrong is one line on
+    standard error.
+    """
     if arguments is None:
         arguments = sys.argv[1:]
     files.open_standard_streams()

@@ -1,7 +1,7 @@
 """The worked example: two lots of A and one of B, three bidders, and what is left out in turn.
 
-`INPUT` is its input, `SOLUTIONS` has a solution for each group, `CERTIFICATES` one that shows each of them optimal, and
-`UNIQUE` one that shows the winners of group 1 to be the only ones.
+`INPUT` is its input, `SOLUTIONS` has a solution for each group, `CERTIFICATES` one that shows each
+of them optimal, and `UNIQUE` one that shows the winners of group 1 to be the only ones.
 """
 
 INPUT = """\

@@ -69,7 +69,10 @@ def check_kind(path: str, status: os.stat_result) -> None:
 
 
 def read_rest(file: BinaryIO, path: str, most: int) -> bytes:
-    """The rest of a file, at most so many bytes. One that has too much by its size isn't read; Unreadable has the path."""
+    """The rest of a file, at most so many bytes.
+
+    One that has too much by its size isn't read; Unreadable has the path.
+    """
     before = os.fstat(file.fileno())
     data: bytes | None = file.read(most + 1) if before.st_size <= most else b""
     if data is None:
@@ -83,7 +86,10 @@ def read_rest(file: BinaryIO, path: str, most: int) -> bytes:
 
 
 def write_all(texts: Mapping[str, bytes]) -> None:
-    """Writes files by their paths, all of them or none. None replaces what isn't a file, as a device. Raises Unreadable."""
+    """Writes files by their paths, all of them or none.
+
+    None replaces what isn't a file, as a device. Raises Unreadable.
+    """
     written: dict[str, str] = {}
     try:
         for path, text in texts.items():
@@ -102,7 +108,9 @@ def write_all(texts: Mapping[str, bytes]) -> None:
 
 
 def remove(path: str | Path) -> None:
-    """Takes away what has this name, and all that is in it, however deep; what can't be taken away stays."""
+    """Takes away what has this name, and all that is in it, however deep; what can't be taken away
+    stays.
+    """
     with contextlib.suppress(OSError):
         subprocess.run(
             ["rm", "-rf", "--", os.path.abspath(path)],
@@ -129,7 +137,8 @@ def _make_hidden_path(path: str) -> str:
 
 
 def write_folder(folder: str, texts: Mapping[str, bytes], ours: Iterable[str] = ()) -> None:
-    """Writes a folder with files by their names, all or none, in the place of one that has no others than `ours`.
+    """Writes a folder with files by their names, all or none, in the place of one that has no
+    others than `ours`.
 
     By default `ours` are the names of these files. Raises Unreadable.
     """
@@ -165,7 +174,10 @@ def _replace_folder(place: str, made: str) -> None:
 
 
 def put(data: bytes, path: str | None = None) -> None:
-    """Writes a file, or if none is named to standard output. Raises Unreadable if that is closed, or full."""
+    """Writes a file, or if none is named to standard output.
+
+    Raises Unreadable if that is closed, or full.
+    """
     if path:
         write_all({path: data})
         return
@@ -184,7 +196,10 @@ def put(data: bytes, path: str | None = None) -> None:
 
 
 def tell(text: str) -> None:
-    """Prints a text on standard error. If nobody reads it, the work goes on, and what comes later is told to nobody."""
+    """Prints a text on standard error.
+
+    If nobody reads it, the work goes on, and what comes later is told to nobody.
+    """
     # Python prints to standard output if standard error is closed
     if sys.stderr is None:
         return
@@ -197,7 +212,8 @@ def tell(text: str) -> None:
 
 
 def open_standard_streams() -> None:
-    """Opens what is closed of the standard streams for nothing, so that no file gets the number by which they are known.
+    """Opens what is closed of the standard streams for nothing, so that no file gets the number by
+    which they are known.
 
     They stay closed to Python.
     """

@@ -1,4 +1,6 @@
-"""A folder that keeps what steps leave: each file complete or not at all, with its SHA-256 in `sums/`."""
+"""A folder that keeps what steps leave: each file complete or not at all, with its SHA-256 in
+`sums/`.
+"""
 import contextlib
 import fcntl
 import hashlib
@@ -49,15 +51,21 @@ class Folder:
         return data
 
     def leave(self, name: str, data: bytes) -> None:
-        """Writes what a step leaves. Its sum comes first: a step that is ended between them is done again."""
+        """Writes what a step leaves.
+
+        Its sum comes first: a step that is ended between them is done again.
+        """
         for path, text in ((self.sum_path(name), _format_sum(name, data)), (self.path(name), data)):
             with files.map_errors(str(path.parent)):
                 path.parent.mkdir(parents=True, exist_ok=True)
             files.write_all({str(path): text})
 
     def take_input(self, data: bytes | None) -> None:
-        """Takes an input, or the `input.txt` that is there. A folder that belongs to another one is refused: one in which a step
-        left more than that, or nothing yet."""
+        """Takes an input, or the `input.txt` that is there.
+
+        A folder that belongs to another one is refused: one in which a step left more than that, or
+        nothing yet.
+        """
         path = self.path(INPUT)
         sums = [*self.path("sums").glob("*.sha256"), *self.path("sums").glob("*/*.sha256")]
         has_others = bool(set(sums) - {self.sum_path(INPUT)})
@@ -81,7 +89,9 @@ class Folder:
 
     @contextlib.contextmanager
     def lock(self, *, alone: bool) -> Iterator[None]:
-        """One run at a time has the folder, or any number of steps of Snakemake, until the last of its processes ends."""
+        """One run at a time has the folder, or any number of steps of Snakemake, until the last of
+        its processes ends.
+        """
         kind = fcntl.LOCK_EX if alone else fcntl.LOCK_SH
         path = str(self.path(".lock"))
         end = time.monotonic() + _PATIENCE
@@ -100,7 +110,10 @@ class Folder:
 
     @contextlib.contextmanager
     def scratch(self) -> Iterator[None]:
-        """Takes away what a run that was killed didn't finish. What is temporary then goes into the folder."""
+        """Takes away what a run that was killed didn't finish.
+
+        What is temporary then goes into the folder.
+        """
         scratch = self.path(".running").absolute()
         files.remove(scratch)
         # (a file is written in the folder, in one in it, or in one of `sums`)

@@ -1,4 +1,6 @@
-"""Groups by the bidders that they leave out, and from which one another may take over what shows it."""
+"""Groups by the bidders that they leave out, and from which one another may take over what shows
+it.
+"""
 from collections.abc import Mapping
 
 Names = frozenset[str]
@@ -14,7 +16,8 @@ def parse_names(line: str) -> Names:
 
 
 def find_smaller(groups: Mapping[int, Names], group: int) -> list[int]:
-    """The groups that leave out fewer of the same bidders, the smallest first, and of the same size in their order.
+    """The groups that leave out fewer of the same bidders, the smallest first, and of the same size
+    in their order.
 
     >>> find_smaller({1: parse_names("-"), 2: parse_names("A+B"), 3: parse_names("B"), 4: parse_names("C")}, 2)
     [1, 3]

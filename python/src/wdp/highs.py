@@ -1,9 +1,10 @@
-"""HiGHS, as scipy has it, in a process of its own: its threads don't outlive a fork, and nothing else ends them.
+"""HiGHS, as scipy has it, in a process of its own: its threads don't outlive a fork, and nothing
+else ends them.
 
 usage: python3 highs.py PROGRAM.mps SOLUTION [SECONDS]
 
-Writes the best point that is found. The status is that of `wdp-office solve`, and the last line on standard error says why
-there is no point.
+Writes the best point that is found. The status is that of `wdp-office solve`, and the last line on
+standard error says why there is no point.
 """
 import os
 import sys
@@ -20,7 +21,10 @@ from wdp.texts.zero_one import read_program, format_solution  # noqa: E402
 
 
 def solve(program: ZeroOne, seconds: float) -> set[int]:
-    """The places of the columns at 1 of the best point that is found in so many seconds. NotSolved if there is none."""
+    """The places of the columns at 1 of the best point that is found in so many seconds.
+
+    NotSolved if there is none.
+    """
     import numpy as np
     from scipy.optimize import Bounds, LinearConstraint, milp
 

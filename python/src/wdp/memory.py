@@ -2,7 +2,8 @@
 from pathlib import Path
 
 _MEGABYTE = 1_000_000
-# of a step that certifies: Python with its libraries, and each column of the program; a solver takes less
+# of a step that certifies: Python with its libraries, and each column of the program; a solver
+# takes less
 _BYTES_OF_STEP = 110 * _MEGABYTE
 _BYTES_OF_COLUMN = 2_500
 _MEMINFO = Path("/proc/meminfo")
@@ -15,7 +16,9 @@ def estimate_step(columns: int) -> int:
 
 
 def measure_free(meminfo: Path = _MEMINFO, control_group: Path = _CONTROL_GROUP) -> int | None:
-    """The bytes that this machine has left, and the control group of this process; None where neither is known."""
+    """The bytes that this machine has left, and the control group of this process; None where
+    neither is known.
+    """
     counts = [_measure_machine(meminfo), _measure_control_group(control_group)]
     return min((count for count in counts if count is not None), default=None)
 
@@ -43,7 +46,8 @@ def _measure_control_group(control_group: Path) -> int | None:
 
 
 def limit_jobs(jobs: int, columns: int, free: int | None) -> int:
-    """How many of these jobs, each for a program with so many columns, there are free bytes for, and one in any case.
+    """How many of these jobs, each for a program with so many columns, there are free bytes for,
+    and one in any case.
 
     >>> limit_jobs(4, 100_000, 1_000_000_000), limit_jobs(4, 100_000, 0), limit_jobs(4, 100_000, None)
     (2, 1, 4)

@@ -40,9 +40,10 @@ def _find_beside() -> str:
 
 
 def find_program(program: StrPath | None = None) -> str:
-    """The path of the program: the one that is named, else $WDP, else ./wdp of the package's tree, else the one that was
-    installed with the package, else `wdp` on the PATH. Raises NotFound if the one that is named isn't there; no other one is
-    then taken, and WrongArgument if it is no path."""
+    """The path of the program: the one that is named, else $WDP, else ./wdp of the package's tree,
+    else the one that was installed with the package, else `wdp` on the PATH. Raises NotFound if the
+    one that is named isn't there; no other one is then taken, and WrongArgument if it is no path.
+    """
     beside = _find_beside()
     usual = os.environ.get("WDP") or (beside if os.path.isfile(beside) else "wdp")
     try:
@@ -58,7 +59,9 @@ def find_program(program: StrPath | None = None) -> str:
 
 @dataclass(frozen=True)
 class ProcessResult:
-    """How a program ended: its status, below 0 for a signal, None if its time was over; its output; the end of its messages."""
+    """How a program ended: its status, below 0 for a signal, None if its time was over; its output;
+    the end of its messages.
+    """
 
     status: int | None
     output: bytes
@@ -73,7 +76,9 @@ class ProcessResult:
 
 @dataclass(frozen=True)
 class Limits:
-    """How many bytes an answer may have, how many seconds it may take, and the signal that ends a program beyond them."""
+    """How many bytes an answer may have, how many seconds it may take, and the signal that ends a
+    program beyond them.
+    """
 
     most: int
     seconds: float | None = None
@@ -89,7 +94,9 @@ class _Streams:
     messages: IO[bytes]
 
     def check_sizes(self, name: str, most: int) -> None:
-        """Raises Unclear if the program of this name prints more than so many bytes, or too many messages."""
+        """Raises Unclear if the program of this name prints more than so many bytes, or too many
+        messages.
+        """
         if _measure_file(self.output) > most:
             raise Unclear(f"{name} prints more than an answer to this can have, {most} bytes")
         if _measure_file(self.messages) > _MOST_OF_MESSAGES:
@@ -106,9 +113,12 @@ def run_process(
     messages: IO[bytes] | None = None,
     folder: StrPath | None = None,
 ) -> ProcessResult:
-    """Runs a program to its end on these data, in a folder. What it prints goes to the files that are named. Its three streams are
-    files: none can fill, as a pipe can, and nothing that the program left running is waited for. Raises NotFound if it can't be
-    started, and Unclear if it prints too much or a file can't be written."""
+    """Runs a program to its end on these data, in a folder.
+
+    What it prints goes to the files that are named. Its three streams are files: none can fill, as
+    a pipe can, and nothing that the program left running is waited for. Raises NotFound if it can't
+    be started, and Unclear if it prints too much or a file can't be written.
+    """
     temporary = tempfile.TemporaryFile
     try:
         with temporary() as source, temporary() as printed, temporary() as errors:
@@ -132,7 +142,10 @@ def run_process(
 def _run_to_end(
     command: Sequence[str], limits: Limits, *, streams: _Streams, folder: StrPath | None
 ) -> int | None:
-    """Starts a program and waits for its end. Gives its status, None if its time is over; Unclear if it prints too much."""
+    """Starts a program and waits for its end.
+
+    Gives its status, None if its time is over; Unclear if it prints too much.
+    """
     if signal.getsignal(signal.SIGCHLD) == signal.SIG_IGN:
         raise Unclear("this process ignores SIGCHLD, so that nobody knows how a program ends")
     process = _start(command, streams, folder)
@@ -156,7 +169,9 @@ def _run_to_end(
 def _start(
     command: Sequence[str], streams: _Streams, folder: StrPath | None
 ) -> subprocess.Popen[bytes]:
-    """Starts a program in a group of its own, so that all of it can be ended; NotFound if it can't be."""
+    """Starts a program in a group of its own, so that all of it can be ended; NotFound if it can't
+    be.
+    """
     try:
         return subprocess.Popen(
             command,

@@ -66,7 +66,8 @@ class Times:
 
 
 class Progress:
-    """Prints how far a run is, one line that is renewed at a terminal, few lines elsewhere; and counts the time of each step.
+    """Prints how far a run is, one line that is renewed at a terminal, few lines elsewhere; and
+    counts the time of each step.
 
     Of `count` groups `left` are to be done. `say` prints a line elsewhere.
     """
@@ -80,7 +81,9 @@ class Progress:
         self.begins: dict[str, float] = {}
 
     def __call__(self, ended: int, at_work: list[str]) -> None:
-        """Takes how many of the groups that were left have ended, and the names of those that are at work."""
+        """Takes how many of the groups that were left have ended, and the names of those that are
+        at work.
+        """
         now = time.monotonic()
         for name in self.begins.keys() - at_work:
             self.times.take(name, now - self.begins.pop(name))

@@ -1,10 +1,12 @@
-"""Steps side by side, each in a process of its own, of which nothing is left, whatever ends them and wherever it hid.
+"""Steps side by side, each in a process of its own, of which nothing is left, whatever ends them
+and wherever it hid.
 
 usage: python3 -IS steps.py PARENT BYTES COMMAND..
 
-Runs a program so. PARENT is the process that asks; when that ends, or by SIGTERM, the program is ended, and if PARENT has
-ended, the folder in which it ran, if its name begins with `solve.`, is taken away. No file that it writes gets more than BYTES.
-The status is the program's own; 127 if it can't be started.
+Runs a program so. PARENT is the process that asks; when that ends, or by SIGTERM, the program is
+ended, and if PARENT has ended, the folder in which it ran, if its name begins with `solve.`, is
+taken away. No file that it writes gets more than BYTES. The status is the program's own; 127 if it
+can't be started.
 """
 import ctypes
 import os
@@ -45,7 +47,9 @@ def _interrupt(number: int, frame: object) -> None:
 def _set_endings(
     handler: Callable[[int, object], None] | signal.Handlers, signal_of_parent: int
 ) -> None:
-    """What the signals that end a process do in this one, and which one it gets when its parent ends."""
+    """What the signals that end a process do in this one, and which one it gets when its parent
+    ends.
+    """
     for ending in _ENDINGS:
         signal.signal(ending, handler)
     _prctl(_PR_SET_PDEATHSIG, signal_of_parent)
@@ -53,7 +57,9 @@ def _set_endings(
 
 @contextmanager
 def end_at_once() -> Iterator[None]:
-    """Within this nothing is begun that would have to be put away: the process ends without a last word."""
+    """Within this nothing is begun that would have to be put away: the process ends without a last
+    word.
+    """
     _set_endings(signal.SIG_DFL, signal.SIGKILL)
     try:
         yield
@@ -116,9 +122,11 @@ def run(
     watch: Watch | None = None,
     after: Mapping[str, Collection[str]] | None = None,
 ) -> dict[str, int]:
-    """The statuses of steps by their names, below 0 if a signal ended one. At most `jobs` run at a time, each `after` those that
-    it waits for, however these end; `watch` gets now and then how many have ended, and which are at work. What ends this ends
-    them all, and whatever they started.
+    """The statuses of steps by their names, below 0 if a signal ended one.
+
+    At most `jobs` run at a time, each `after` those that it waits for, however these end; `watch`
+    gets now and then how many have ended, and which are at work. What ends this ends them all, and
+    whatever they started.
     """
     waiting = dict.fromkeys(steps)
     before = {name: set(names) & steps.keys() for name, names in (after or {}).items()}
@@ -188,7 +196,9 @@ def _end_all() -> None:
 
 
 def _become(command: list[str]) -> int:
-    """Turns this process into a program, in a session of its own; its status if that can't be started."""
+    """Turns this process into a program, in a session of its own; its status if that can't be
+    started.
+    """
     try:
         os.setsid()
         _prctl(_PR_SET_CHILD_SUBREAPER, 0)

@@ -13,7 +13,9 @@ _Value = TypeVar("_Value")
 def make_type(
     name: str, read: Callable[[str], _Value], is_right: Callable[[_Value], bool]
 ) -> Callable[[str], _Value]:
-    """A type of an argument, whose value is read from a text and has to be right; a message calls it by this name."""
+    """A type of an argument, whose value is read from a text and has to be right; a message calls
+    it by this name.
+    """
 
     def parse(text: str) -> _Value:
         value = read(text)

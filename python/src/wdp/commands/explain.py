@@ -33,7 +33,9 @@ def add_arguments(parser: argparse.ArgumentParser) -> None:
 
 @dataclass(frozen=True)
 class _Explanation:
-    """The faults, whether the rules are right, and a line for each form and bid if nothing is wrong."""
+    """The faults, whether the rules are right, and a line for each form and bid if nothing is
+    wrong.
+    """
 
     faults: list[Fault]
     has_rules: bool
@@ -41,7 +43,9 @@ class _Explanation:
 
 
 def _format_left_out(counts: dict[str, int], left_out: Sequence[tuple[str, str]]) -> list[str]:
-    """A line for each form, with its number of bids, and for each form that is replaced and bid that is in no program."""
+    """A line for each form, with its number of bids, and for each form that is replaced and bid
+    that is in no program.
+    """
     lines: list[str] = []
     for name, count in counts.items():
         reasons = [reason for bidder, reason in left_out if bidder == name]

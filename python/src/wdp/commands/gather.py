@@ -57,7 +57,9 @@ def add_arguments(parser: argparse.ArgumentParser) -> None:
 
 
 def _check_arguments(options: argparse.Namespace) -> None:
-    """Raises WrongArgument if the options don't go together, or a file would be written over what is read."""
+    """Raises WrongArgument if the options don't go together, or a file would be written over what
+    is read.
+    """
     rule = options.groups
     if rule and (rule[0], len(rule)) not in (("each", 1), ("winners", 2)):
         raise WrongArgument("--groups takes each, or winners FILE")

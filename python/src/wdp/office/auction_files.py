@@ -23,10 +23,11 @@ _COUNT = re.compile("[0-9]{1,18}")
 
 @dataclass
 class AuctionFiles:
-    """What an auction's files say, as far as they could be read, and everything that is wrong with them.
+    """What an auction's files say, as far as they could be read, and everything that is wrong with
+    them.
 
-    `program` is the path of the program that explains them. `text` is the input that it explained, and `left_out` says which bids
-    are in no program.
+    `program` is the path of the program that explains them. `text` is the input that it explained,
+    and `left_out` says which bids are in no program.
     """
 
     program: str
@@ -63,7 +64,9 @@ class AuctionFiles:
         return not self.faults
 
     def read_all(self, rules: str, folder: str, groups: Sequence[str]) -> None:
-        """Reads all files: that of the rules, those of a folder of forms, and one of groups, or groups by a rule."""
+        """Reads all files: that of the rules, those of a folder of forms, and one of groups, or
+        groups by a rule.
+        """
         if not self.read_rules(rules):
             return
         with self._collect():
@@ -116,7 +119,9 @@ class AuctionFiles:
         return text
 
     def _check_form(self, form: File, findings: list[Finding], *, is_all: bool) -> None:
-        """Adds what is wrong with a form; without a fault it gets its number of bids, if these are all findings."""
+        """Adds what is wrong with a form; without a fault it gets its number of bids, if these are
+        all findings.
+        """
         # (a quote that isn't closed makes one field of all that follows)
         beyond = form.unclosed or MOST_OF_A_FORM + 1
         within = [finding for finding in findings if (finding.refused.record or 0) < beyond]
@@ -145,7 +150,9 @@ class AuctionFiles:
             self._add_fault(form.path, f"{has}; --allow-empty names {name}")
 
     def _check_choices(self) -> None:
-        """Adds a fault for each name in the options that is no bidder's, and for each one that isn't needed."""
+        """Adds a fault for each name in the options that is no bidder's, and for each one that
+        isn't needed.
+        """
         forms = self.forms
         options = {
             "missing": self.choices.allow_missing,
@@ -174,7 +181,9 @@ class AuctionFiles:
                 self._add_fault(folder, f"there is no form of {name}; {hint}")
 
     def _check_counts(self, path: str) -> None:
-        """Adds a fault for each form that hasn't the bids that are expected, by a file with a row `bidder,bids` for each."""
+        """Adds a fault for each form that hasn't the bids that are expected, by a file with a row
+        `bidder,bids` for each.
+        """
         with self._collect():
             expected, faults = read_pairs(
                 path,

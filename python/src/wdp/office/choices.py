@@ -7,10 +7,11 @@ from dataclasses import dataclass
 class Choices:
     """How an auction's files are read, as the options of `wdp-office gather` say it.
 
-    `last_wins` is by what the last one of a bidder's files is known, `name` or `time`. With `any_file_name` a file's name needn't
-    name a bidder. The bidders of `allow_missing` have no form, the forms of `allow_empty` no bid, and the files of `allow_unended`
-    no line end at their ends. `expect` is the path of a file with the number of each form's bids, and `sheet` the name of the
-    sheet of each workbook.
+    `last_wins` is by what the last one of a bidder's files is known, `name` or `time`. With
+    `any_file_name` a file's name needn't name a bidder. The bidders of `allow_missing` have no
+    form, the forms of `allow_empty` no bid, and the files of `allow_unended` no line end at their
+    ends. `expect` is the path of a file with the number of each form's bids, and `sheet` the name
+    of the sheet of each workbook.
     """
 
     last_wins: str | None = None

@@ -1,4 +1,6 @@
-"""Faults of an input or a file, each with its place, in words, and the program's own line for it; and how words are printed."""
+"""Faults of an input or a file, each with its place, in words, and the program's own line for it;
+and how words are printed.
+"""
 import re
 from collections.abc import Iterable, Sequence
 from dataclasses import dataclass
@@ -15,7 +17,9 @@ _BYTES = re.compile(r"\\\\|((?:\\x[89a-f][0-9a-f])+)")
 
 @dataclass(frozen=True)
 class Fault:
-    """A fault at a place as `forms/Aster.csv:3:1`, the program's line for it without `wdp: `, and how many faults it is for."""
+    """A fault at a place as `forms/Aster.csv:3:1`, the program's line for it without `wdp: `, and
+    how many faults it is for.
+    """
 
     place: str
     text: str
@@ -74,7 +78,9 @@ def format_number(number: int | Fraction) -> str:
 
 
 def align_rows(rows: Sequence[Sequence[CellValue]]) -> list[str]:
-    """Rows, the first of them headings, as lines; a column that has a number is aligned at its right."""
+    """Rows, the first of them headings, as lines; a column that has a number is aligned at its
+    right.
+    """
     columns = []
     for values in zip(*rows, strict=True):
         has_number = any(isinstance(value, _NUMBER) for value in values)

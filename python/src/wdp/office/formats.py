@@ -1,4 +1,6 @@
-"""Formats of numbers in workbooks: whether a cell shows its number as it is, as another one, as a date, or not at all."""
+"""Formats of numbers in workbooks: whether a cell shows its number as it is, as another one, as a
+date, or not at all.
+"""
 import re
 from functools import cached_property
 
@@ -7,8 +9,8 @@ GENERAL = "General"
 BUILT_IN = {"9": "0%", "10": "0.00%"}
 _DATE_NUMBERS = (*range(14, 23), *range(27, 37), *range(45, 48), *range(50, 59))
 BUILT_IN |= {str(number): "yyyy-mm-dd" for number in _DATE_NUMBERS}
-# what is shown as it is written there: a text in quotes, and a character after a backslash; then what leaves room, fills it, or
-# says a colour, a currency or a condition
+# what is shown as it is written there: a text in quotes, and a character after a backslash; then
+# what leaves room, fills it, or says a colour, a currency or a condition
 _QUOTED = re.compile(r'"([^"]*)"|\\(.)', re.DOTALL)
 _SILENT = re.compile(r"[_*].|\[[^\]]*\]", re.DOTALL)
 _ELAPSED = re.compile(r"\[(?:h+|m+|s+)\]", re.IGNORECASE)
@@ -20,7 +22,8 @@ _DIGIT = re.compile("[0-9]")
 
 
 class NumberFormat:
-    """A format by its code, of which the first section is that of numbers above 0, unless there are conditions.
+    """A format by its code, of which the first section is that of numbers above 0, unless there are
+    conditions.
 
     >>> [NumberFormat(code).is_scaled for code in ("#,##0", "#,##0,", '0"000"', "0%")]
     [False, True, True, True]
@@ -48,7 +51,9 @@ class NumberFormat:
 
     @cached_property
     def is_scaled(self) -> bool:
-        """Whether it shows another number than the cell's: scaled, in percent, or with digits of its own."""
+        """Whether it shows another number than the cell's: scaled, in percent, or with digits of
+        its own.
+        """
         literals = "".join(text or character for text, character in _QUOTED.findall(self.code))
         return bool(_DIGIT.search(literals)) or any(map(_SCALE.search, self.sections))
 

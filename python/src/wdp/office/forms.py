@@ -1,4 +1,6 @@
-"""The folder of an auction's forms: which of its files are forms, whose, and which of several counts."""
+"""The folder of an auction's forms: which of its files are forms, whose, and which of several
+counts.
+"""
 import os
 import re
 from collections import defaultdict
@@ -41,7 +43,8 @@ class FormFolder:
 
     rules: AcceptedRules
     choices: Choices
-    # the forms that count, in the order of the input: by their bidders' numbers, then those of unknown bidders
+    # the forms that count, in the order of the input: by their bidders' numbers, then those of
+    # unknown bidders
     counting: list[File] = field(default_factory=list)
     replaced: list[Replaced] = field(default_factory=list)
     # names in the folder that aren't taken for forms
@@ -74,7 +77,9 @@ class FormFolder:
 
     @contextmanager
     def _collect(self, unread: Iterable[str]) -> Iterator[None]:
-        """That a file can't be used is a fault of it, and of these bidders it isn't known whether they have a form."""
+        """That a file can't be used is a fault of it, and of these bidders it isn't known whether
+        they have a form.
+        """
         try:
             yield
         except Unreadable as error:
@@ -82,7 +87,9 @@ class FormFolder:
             self.unread += unread
 
     def _list_paths(self, folder: str) -> list[str]:
-        """The files that are taken for forms; the receipt names hidden ones, locks, and those that end in ~."""
+        """The files that are taken for forms; the receipt names hidden ones, locks, and those that
+        end in ~.
+        """
         with map_errors(folder):
             names = sorted(os.listdir(folder))
         paths = []
@@ -116,7 +123,9 @@ class FormFolder:
         return _find_bidders(path, self.rules.bidders) or self.rules.bidders
 
     def _read_form(self, path: str) -> File:
-        """The form of a file, whose name has to name the bidder of its first row, and no other; Unreadable if there is none."""
+        """The form of a file, whose name has to name the bidder of its first row, and no other;
+        Unreadable if there is none.
+        """
         form = read_form_file(path, self.rules, self.choices.sheet)
         bidder = form.bidder
         named = _find_bidders(form.path, self.rules.bidders)
@@ -134,7 +143,9 @@ class FormFolder:
         return form
 
     def _choose_last(self, forms: list[File]) -> list[File]:
-        """The file of a bidder that counts, by the order that was chosen; all, with faults, if that can't be known."""
+        """The file of a bidder that counts, by the order that was chosen; all, with faults, if that
+        can't be known.
+        """
         if len(forms) < 2 or forms[0].bidder not in self.rules.bidders:
             return forms
         name = forms[0].bidder
@@ -153,7 +164,9 @@ class FormFolder:
 
 
 def _find_bidders(path: str, bidders: Sequence[str]) -> list[str]:
-    """The bidders whose names are words of a file's name, in any case if no bidder's name is written so; in the order of the rules."""
+    """The bidders whose names are words of a file's name, in any case if no bidder's name is
+    written so; in the order of the rules.
+    """
     named: set[str] = set()
     for word in re.split(r"[^A-Za-z0-9]+", PurePath(path).stem):
         if word in bidders:

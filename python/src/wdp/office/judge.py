@@ -23,7 +23,9 @@ PartKey = tuple[str | None, int | None]  # the kind of a part, and of a form its
 
 @dataclass(frozen=True)
 class Finding:
-    """A fault: the refusal of an input that has it alone, the faulty field or name from 1, and the cause."""
+    """A fault: the refusal of an input that has it alone, the faulty field or name from 1, and the
+    cause.
+    """
 
     refused: Refused
     field: int | None = None
@@ -37,7 +39,9 @@ class Finding:
 
 @dataclass(frozen=True)
 class Explained:
-    """All faults in order, and how many more are counted; if there is none, of each bid in no program the bidder and why."""
+    """All faults in order, and how many more are counted; if there is none, of each bid in no
+    program the bidder and why.
+    """
 
     findings: list[Finding] = field(default_factory=list)
     more: int = 0

@@ -1,7 +1,7 @@
 """The faults that the program finds, each with its place in a file and in words.
 
-The words are the program's: what is there, and what was wanted. What spreadsheets do to files is added, and rows that a
-template left alike have one line.
+The words are the program's: what is there, and what was wanted. What spreadsheets do to files is
+added, and rows that a template left alike have one line.
 """
 import re
 from collections.abc import Iterable, Sequence
@@ -98,7 +98,10 @@ def _describe(finding: Finding, row: TableRow | None, bidders: Sequence[str]) ->
 
 
 def _describe_alike(finding: Finding, row: TableRow | None, width: int) -> _Alike | None:
-    """A fault that many rows of a form may have; None for other faults. `width` is how many fields the form's first row has."""
+    """A fault that many rows of a form may have; None for other faults.
+
+    `width` is how many fields the form's first row has.
+    """
     refused = finding.refused
     if row is None or refused.part != "form" or refused.at == 1 or refused.kind == "TooManyBids":
         return None
@@ -123,8 +126,9 @@ def make_faults(
     bidders: Sequence[str],
     head: str = "",
 ) -> list[Fault]:
-    """The faults of one part in the program's order; rows with the same fault, as a template leaves them, have one. The part has
-    these rows of the file, in which it begins at `head`."""
+    """The faults of one part in the program's order; rows with the same fault, as a template leaves
+    them, have one. The part has these rows of the file, in which it begins at `head`.
+    """
     by_number = _pick_rows(findings, rows)
     width = len(by_number[1].values) if by_number else 0
     groups: dict[object, list[Finding]] = {}  # those of rows that are alike are one

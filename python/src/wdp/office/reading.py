@@ -1,4 +1,6 @@
-"""The files of an auction, each for itself: rules, forms, and groups, read as spreadsheets write them."""
+"""The files of an auction, each for itself: rules, forms, and groups, read as spreadsheets write
+them.
+"""
 import re
 from collections.abc import Collection, Iterable, Sequence
 from dataclasses import dataclass, field
@@ -12,7 +14,8 @@ from wdp.texts.answers import WON
 from wdp.texts.parts import MOST_OF_INPUT, make_group_rows
 from wdp.texts.tables import TableRow, decode
 
-# records of rules and of a form, and lines of groups, with one that is too many: what follows is a fault whatever it says
+# records of rules and of a form, and lines of groups, with one that is too many: what follows is a
+# fault whatever it says
 _MOST_OF_RULES = 1 + 32 + 256 + 16 + 16 * 32 + 1
 MOST_OF_A_FORM = 1 + 4_000 + 1
 _MOST_OF_GROUPS = 1_024 + 1
@@ -36,7 +39,9 @@ def _read_table(
     sheet: str | None,
     regular: bool,
 ) -> File:
-    """The rows of a table, at most so many: of a workbook, whose rows begin with one of these heads, if the name ends in .xlsx."""
+    """The rows of a table, at most so many: of a workbook, whose rows begin with one of these
+    heads, if the name ends in .xlsx.
+    """
     data = read(path, MOST_OF_A_FILE, regular=regular)
     if _is_workbook(path):
         return read_workbook(path, data, most, sheet=sheet, heads=heads)
@@ -44,7 +49,9 @@ def _read_table(
 
 
 def _check_first_row(file: File, heads: Collection[str], wanted: str) -> None:
-    """Raises Unreadable if a row below the first one begins as that one has to: what is above it is perhaps a title."""
+    """Raises Unreadable if a row below the first one begins as that one has to: what is above it is
+    perhaps a title.
+    """
     if not file.rows or file.rows[0].values[0] in heads:
         return
     for row in file.rows[1:_MOST_OF_A_TITLE]:
@@ -77,8 +84,9 @@ def read_form_file(path: str, rules: AcceptedRules, sheet: str | None = None) ->
 
 
 def check_end(file: File, name: str, allowed: Collection[str], what: str = "row") -> list[Fault]:
-    """What is wrong with a file's last line, which may have been cut off: the names in `allowed` have to name a file of which that
-    may be so, and no other."""
+    """What is wrong with a file's last line, which may have been cut off: the names in `allowed`
+    have to name a file of which that may be so, and no other.
+    """
     if not file.rows:
         return []
     if not file.is_ended and name not in allowed:
@@ -92,8 +100,9 @@ def check_end(file: File, name: str, allowed: Collection[str], what: str = "row"
 
 @dataclass
 class Groups:
-    """Groups: their lines as rows of names, the file that they come from, and what is wrong with them before the program reads
-    them."""
+    """Groups: their lines as rows of names, the file that they come from, and what is wrong with
+    them before the program reads them.
+    """
 
     rows: list[TableRow] = field(default_factory=list)
     file: File | None = None
@@ -106,7 +115,10 @@ class Groups:
 
 
 def read_groups(rule: Sequence[str], bidders: Sequence[str], allowed: Collection[str]) -> Groups:
-    """The groups of a file, or those of a rule: `each`, or `winners FILE`. `allowed` is that of `check_end`. Raises Unreadable."""
+    """The groups of a file, or those of a rule: `each`, or `winners FILE`.
+
+    `allowed` is that of `check_end`. Raises Unreadable.
+    """
     path = rule[-1]
     if rule[0] == "each":
         return Groups(_make_alone(bidders))

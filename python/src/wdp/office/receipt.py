@@ -1,4 +1,6 @@
-"""The receipt of an auction's files: what went into the input, and what is to be read to the bidders."""
+"""The receipt of an auction's files: what went into the input, and what is to be read to the
+bidders.
+"""
 from collections.abc import Iterator, Sequence
 from dataclasses import astuple
 from itertools import groupby
@@ -14,7 +16,9 @@ _MOST_SHOWN = 20  # bids of one bidder that are in no program and have a line
 
 
 def _format_file(name: str, file: File, *, count: str, part: bytes) -> str:
-    """A line of the receipt: what a file is, its path and how much it has, its part of the input, and each change between them."""
+    """A line of the receipt: what a file is, its path and how much it has, its part of the input,
+    and each change between them.
+    """
     pieces = [
         f"{name}: file {file.path}, {count}, SHA-256 {compute_digest(file.data)}",
         f"its part in the input SHA-256 {compute_digest(part)}",

@@ -1,4 +1,5 @@
-"""Files as spreadsheets and editors write them, turned into what the program reads, with a word for each change.
+"""Files as spreadsheets and editors write them, turned into what the program reads, with a word for
+each change.
 
 No value is guessed: only the encoding, the delimiter, line ends, and empty cells are looked at.
 """
@@ -42,8 +43,9 @@ NOT_STORED = "its formula has no stored value; open the workbook in a spreadshee
 
 @dataclass
 class File:
-    """A file's records as rows, what was changed to have them, and what is wrong that the program can't see. Of a form `bids`
-    is how many it has, None if it has a fault."""
+    """A file's records as rows, what was changed to have them, and what is wrong that the program
+    can't see. Of a form `bids` is how many it has, None if it has a fault.
+    """
 
     path: str
     data: bytes = field(repr=False)
@@ -78,7 +80,10 @@ class File:
             self.changes.append(f"{text}: {count}")
 
     def fill(self, rows: Iterable[TableRow], most: int) -> None:
-        """Takes at most so many rows with a value. A row with a field that would head a part is a fault, and isn't taken."""
+        """Takes at most so many rows with a value.
+
+        A row with a field that would head a part is a fault, and isn't taken.
+        """
         for row in rows:
             heads = [index for index, value in enumerate(row.values) if "\n%" in value]
             for index in heads:
@@ -103,7 +108,9 @@ class File:
 
 
 def decode_file(file: File, kinds: str = "CSV") -> str:
-    """The text of a file's bytes, without a byte order mark; what was done to it is a change. A table has to be of these kinds.
+    """The text of a file's bytes, without a byte order mark; what was done to it is a change.
+
+    A table has to be of these kinds.
 
     Raises Unreadable if the bytes are no text.
     """
@@ -127,7 +134,9 @@ def decode_file(file: File, kinds: str = "CSV") -> str:
 
 
 def _decode_bytes(file: File, kinds: str) -> str:
-    """The text of a file's bytes by their byte order mark, if they have one; bytes that are no UTF-8 are kept."""
+    """The text of a file's bytes by their byte order mark, if they have one; bytes that are no
+    UTF-8 are kept.
+    """
     if file.data.startswith((codecs.BOM_UTF16_LE, codecs.BOM_UTF16_BE)):
         try:
             text = file.data.decode("utf-16")
@@ -145,7 +154,10 @@ def _decode_bytes(file: File, kinds: str) -> str:
 
 
 def _find_delimiter(text: str, file: File) -> tuple[str, int]:
-    """The delimiter and where rows begin. A line `sep=;` names it, else a comma goes first if the first line has one."""
+    """The delimiter and where rows begin.
+
+    A line `sep=;` names it, else a comma goes first if the first line has one.
+    """
     named = _SEPARATOR_LINE.match(text)
     begin = named.end() if named else 0
     first_line = _FIRST_LINE.search(text, begin)
@@ -166,7 +178,10 @@ def _find_delimiter(text: str, file: File) -> tuple[str, int]:
 
 
 def parse_table(path: str, data: bytes, most: int, kinds: str = "CSV") -> File:
-    """The records of a file's bytes, at most so many. A message names the kinds of tables that are read. Raises Unreadable."""
+    """The records of a file's bytes, at most so many.
+
+    A message names the kinds of tables that are read. Raises Unreadable.
+    """
     file = File(path, data)
     text = decode_file(file, kinds)
     delimiter, begin = _find_delimiter(text, file)
@@ -185,7 +200,10 @@ def parse_table(path: str, data: bytes, most: int, kinds: str = "CSV") -> File:
 
 
 def parse_lines(path: str, data: bytes) -> File:
-    """The lines of groups as rows of names, without the empty lines at the end. Raises Unreadable."""
+    """The lines of groups as rows of names, without the empty lines at the end.
+
+    Raises Unreadable.
+    """
     file = File(path, data)
     lines = LINE_END.split(decode_file(file))
     if not lines[-1]:
@@ -209,8 +227,9 @@ def read_pairs(
 ) -> tuple[dict[str, TableRow], list[Fault]]:
     """The rows of a file of pairs by their first values, and what is wrong with it.
 
-    The first row may be the heading, as `code,name`. A first value is one of the names; a message says by `who` of whom they are,
-    and by `wanted` what each row is to have. With `regular` nothing but a regular file is read. Raises Unreadable.
+    The first row may be the heading, as `code,name`. A first value is one of the names; a message
+    says by `who` of whom they are, and by `wanted` what each row is to have. With `regular` nothing
+    but a regular file is read. Raises Unreadable.
     """
     data = read(path, MOST_OF_A_FILE, regular=regular)
     file = parse_table(path, data, len(names) + 2)

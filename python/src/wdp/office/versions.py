@@ -1,4 +1,6 @@
-"""Which of several files of a bidder is the last one, by their names or their times of change; Refused if nobody can say."""
+"""Which of several files of a bidder is the last one, by their names or their times of change;
+Refused if nobody can say.
+"""
 import datetime
 import os
 import re
@@ -10,7 +12,8 @@ from pathlib import PurePath
 
 from wdp.texts.refusals import Refused
 
-# a bidder's name as a word of a file's name; a date, the year first; a number, a word, or another character that isn't between words
+# a bidder's name as a word of a file's name; a date, the year first; a number, a word, or another
+# character that isn't between words
 _WORD = r"(?<![A-Za-z0-9]){}(?![A-Za-z0-9])"
 _DATE = re.compile(r"(?<![0-9])((?:19|20)[0-9]{2})([-_. ]?)([0-9]{2})\2([0-9]{2})(?![0-9])")
 _PART = re.compile(r"\0[0-9]|[0-9]+|[^\W\d_]+|[^\s\-_.,()\[\]]")
@@ -26,8 +29,9 @@ _SPELLING = "the dates in their names aren't written in one way"
 
 @dataclass(frozen=True)
 class _FileName:
-    """A file's name: its words in order, without a version at the end; that version, 0 for none; and its dates, each with the
-    character between year, month and day."""
+    """A file's name: its words in order, without a version at the end; that version, 0 for none;
+    and its dates, each with the character between year, month and day.
+    """
 
     words: tuple[str, ...]
     version: int
@@ -36,7 +40,10 @@ class _FileName:
 
 
 def _parse_name(path: str, bidder: str) -> _FileName:
-    """What a file's name says, the bidder's own name aside, which may end in a number. Refused if its end isn't a version."""
+    """What a file's name says, the bidder's own name aside, which may end in a number.
+
+    Refused if its end isn't a version.
+    """
     stem = PurePath(path).stem.replace("\0", "")
     stem = re.sub(_WORD.format(re.escape(bidder)), _BIDDER, stem, flags=re.IGNORECASE)
     dates: list[datetime.date] = []
@@ -67,8 +74,10 @@ def _parse_name(path: str, bidder: str) -> _FileName:
 
 
 def _list_keys(paths: Sequence[str], bidder: str) -> tuple[list[int | datetime.date], str]:
-    """What puts files in order by their names, and what that is. Names may differ in one thing alone: in the version at their
-    ends, which is none in `Heron.csv`, 2 in `Heron-2.csv` and 10 in `Heron (10).csv`, or in a date, the year first.
+    """What puts files in order by their names, and what that is.
+
+    Names may differ in one thing alone: in the version at their ends, which is none in `Heron.csv`,
+    2 in `Heron-2.csv` and 10 in `Heron (10).csv`, or in a date, the year first.
     """
     names = [_parse_name(path, bidder) for path in paths]
     first = names[0]
@@ -100,7 +109,9 @@ def format_time(nanoseconds: int) -> str:
 
 @dataclass(frozen=True)
 class LastFile:
-    """The place of the file that counts, and of each other one its place and by what that was judged."""
+    """The place of the file that counts, and of each other one its place and by what that was
+    judged.
+    """
 
     place: int
     replaced: list[tuple[int, str]]

@@ -1,7 +1,7 @@
 """Workbooks, `.xlsx`, read as a stream that costs no more than the file's own bytes.
 
-A sheet is read as a spreadsheet shows it, or refused with the cell: what is hidden, there twice or out of order is a fault.
-Whole numbers come from cells of numbers, and from nothing else.
+A sheet is read as a spreadsheet shows it, or refused with the cell: what is hidden, there twice or
+out of order is a fault. Whole numbers come from cells of numbers, and from nothing else.
 """
 import datetime
 import posixpath
@@ -70,8 +70,9 @@ class _BadWorkbook(Exception):
 
 @dataclass(frozen=True, slots=True)
 class _Element:
-    """The beginning of an element with its attributes, or its end with the text since the tag before. Names are without the
-    namespace of workbooks; those of others have theirs before them."""
+    """The beginning of an element with its attributes, or its end with the text since the tag
+    before. Names are without the namespace of workbooks; those of others have theirs before them.
+    """
 
     is_begin: bool
     name: str
@@ -184,7 +185,9 @@ class _Archive:
         return self.archive.read(entry)
 
     def links(self, name: str) -> dict[str, tuple[str, str]]:
-        """What a part is linked to, by the links' names: the kind of each link, and the part's name."""
+        """What a part is linked to, by the links' names: the kind of each link, and the part's
+        name.
+        """
         folder, file = posixpath.split(name)
         data = self.read(posixpath.join(folder, "_rels", f"{file}.rels"))
         links: dict[str, tuple[str, str]] = {}
@@ -388,7 +391,9 @@ class _Hidden:
 
 @dataclass
 class _Remarks:
-    """What is to be said of the cells of a sheet: formulas, numbers that are shown as others, and what isn't shown, with the reason."""
+    """What is to be said of the cells of a sheet: formulas, numbers that are shown as others, and
+    what isn't shown, with the reason.
+    """
 
     formulas: list[str] = field(default_factory=list)
     scaled: list[str] = field(default_factory=list)
@@ -594,7 +599,9 @@ class _SheetReader:
             self.file.add_fault(place, text)
 
     def format_cell(self, cell: _Cell, place: str) -> str:
-        """A cell's value as a field; what is no whole number stays what it is, for the program to refuse."""
+        """A cell's value as a field; what is no whole number stays what it is, for the program to
+        refuse.
+        """
         value = cell.value or ""
         if cell.value is None or cell.kind in ("str", "inlineStr", "e", "d"):
             return value
@@ -666,7 +673,10 @@ def _read_first_value(book: _Workbook, sheet: _Sheet) -> str:
 
 
 def _choose_sheet(book: _Workbook, name: str | None, heads: Collection[str]) -> _Sheet:
-    """The sheet of this name, or the first one. No other may then be hidden, or begin with one of these heads, in any case."""
+    """The sheet of this name, or the first one.
+
+    No other may then be hidden, or begin with one of these heads, in any case.
+    """
     if name is not None:
         return _find_sheet(book.sheets, name)
     if not book.sheets:
@@ -716,7 +726,8 @@ def read_workbook(
     sheet: str | None = None,
     heads: Collection[str] = (),
 ) -> File:
-    """The rows of a workbook's sheet, as of a file of CSV: of the one of this name, or of the first. Raises Unreadable.
+    """The rows of a workbook's sheet, as of a file of CSV: of the one of this name, or of the
+    first. Raises Unreadable.
 
     At most so many rows are read. `heads` are how the first sheet begins, and no other sheet may.
     """

@@ -11,7 +11,9 @@ KINDS = ("rules", "form", "groups")
 
 @dataclass(frozen=True)
 class Category:
-    """A category of lots: how many there are, and the reserve, the points and the value of an unsold lot of each."""
+    """A category of lots: how many there are, and the reserve, the points and the value of an
+    unsold lot of each.
+    """
 
     name: str
     supply: int
@@ -22,7 +24,9 @@ class Category:
 
 @dataclass(frozen=True)
 class Pool:
-    """A pool: the greatest load that a bidder may win, and the load of a lot of each category that is in it."""
+    """A pool: the greatest load that a bidder may win, and the load of a lot of each category that
+    is in it.
+    """
 
     name: str
     cap: int
@@ -31,7 +35,9 @@ class Pool:
 
 @dataclass(frozen=True, slots=True)
 class Bid:
-    """A bid: its amount in pounds, and how many lots of each category it is for, in the order of the rules."""
+    """A bid: its amount in pounds, and how many lots of each category it is for, in the order of
+    the rules.
+    """
 
     amount: int
     lots: tuple[int, ...]
@@ -54,7 +60,9 @@ class AcceptedRules:
 
 @dataclass(frozen=True)
 class Accepted:
-    """The rules, the bids of each bidder that has a form, by the last one, and the names that each group leaves out."""
+    """The rules, the bids of each bidder that has a form, by the last one, and the names that each
+    group leaves out.
+    """
 
     rules: AcceptedRules
     bids: dict[str, list[Bid]]
@@ -62,7 +70,9 @@ class Accepted:
 
 
 def parse_rules(rows: Iterable[TableRow]) -> AcceptedRules:
-    """The rules of accepted records; one of several errors, as ValueError, if no program accepts them."""
+    """The rules of accepted records; one of several errors, as ValueError, if no program accepts
+    them.
+    """
     rules = AcceptedRules(step=1)
     for kind, name, *values in (row.values for row in rows):
         if kind == "rules":

@@ -1,4 +1,6 @@
-"""The parts of one input by their head lines, and their records or lines with their places in the input."""
+"""The parts of one input by their head lines, and their records or lines with their places in the
+input.
+"""
 import re
 from collections.abc import Iterable, Iterator
 from itertools import chain, pairwise
@@ -14,8 +16,8 @@ LINE_END = re.compile(rb"\r\n|\r|\n")  # as records count lines
 class Part(NamedTuple):
     """A part of an input.
 
-    `kind` is what its head line, number `line`, has after `%`; `head` is that line, `text` what is below it, and `end` the place
-    of the input at which that ends.
+    `kind` is what its head line, number `line`, has after `%`; `head` is that line, `text` what is
+    below it, and `end` the place of the input at which that ends.
     """
 
     kind: str
@@ -51,7 +53,9 @@ def parse_parts(data: bytes) -> Iterator[Part]:
 
 
 def list_names(rules: Iterable[TableRow], kind: str) -> list[str]:
-    """The names in the rules' records of a kind, as `category`, in order; nothing else is asked of the records."""
+    """The names in the rules' records of a kind, as `category`, in order; nothing else is asked of
+    the records.
+    """
     return [row.values[1] for row in rules if row.values[0] == kind and len(row.values) > 1]
 
 

@@ -1,6 +1,7 @@
 """The parts of an input: texts unchanged, and the texts that plain records and data frames make.
 
-Nothing is judged here that the program judges: records are written, and it says what is wrong with them.
+Nothing is judged here that the program judges: records are written, and it says what is wrong with
+them.
 """
 import operator
 import os
@@ -43,7 +44,9 @@ _MOST_EXACT = 2**53  # floating point has each whole number up to this one
 
 @dataclass(frozen=True)
 class Location:
-    """The place of a value in an argument, for a message and for the exception; rows are counted from 0, as in Python."""
+    """The place of a value in an argument, for a message and for the exception; rows are counted
+    from 0, as in Python.
+    """
 
     text: str
     number: int | None = None
@@ -52,7 +55,9 @@ class Location:
     column: str | None = None
 
     def refuse(self, why: str, column: str | None = None) -> WrongArgument:
-        """The exception that says what is wrong here; `column` is added to it where that isn't part of the place."""
+        """The exception that says what is wrong here; `column` is added to it where that isn't part
+        of the place.
+        """
         place = f"{self.text}, {self.column}" if self.column else self.text
         part = "form" if self.number else None
         refused = WrongArgument(f"{place}: {why}", part=part, number=self.number)
@@ -64,7 +69,9 @@ class Location:
 
 @dataclass(frozen=True)
 class Form:
-    """The text of a form; if it was made of records also its bidder, the places of the bids among them, and columns."""
+    """The text of a form; if it was made of records also its bidder, the places of the bids among
+    them, and columns.
+    """
 
     text: Text
     bidder: str | None = None
@@ -73,8 +80,9 @@ class Form:
 
 
 def make_part(head: str, text: Text, number: int | None = None) -> bytes:
-    """A part of an input: its head line and its text, whose last line gets its end. Refused if a line of the text begins with
-    `%`: it would head a part of its own.
+    """A part of an input: its head line and its text, whose last line gets its end.
+
+    Refused if a line of the text begins with `%`: it would head a part of its own.
 
     >>> make_part("form", "Alpha,A\\n30,1")
     b'%form\\nAlpha,A\\n30,1\\n'
@@ -131,8 +139,8 @@ def is_list(value: object) -> bool:
 
 
 def format_value(value: object, location: Location) -> str:
-    """A value as a field has it: a text unchanged, a whole number in digits, nothing for a blank value. WrongArgument for
-    everything else: nothing is rounded.
+    """A value as a field has it: a text unchanged, a whole number in digits, nothing for a blank
+    value. WrongArgument for everything else: nothing is rounded.
 
     >>> format_value(30, Location("")), format_value(30.0, Location("")), format_value(None, Location(""))
     ('30', '30', '')
@@ -154,7 +162,9 @@ def format_value(value: object, location: Location) -> str:
 
 
 def _format_number(number: Any) -> str:
-    """The digits of a whole number of any type; TypeError, ValueError or ArithmeticError if it is none, or has too many."""
+    """The digits of a whole number of any type; TypeError, ValueError or ArithmeticError if it is
+    none, or has too many.
+    """
     if hasattr(type(number), "__index__"):
         return str(operator.index(number))
     if abs(number) >= _MOST_EXACT or int(number) != number:
@@ -171,7 +181,9 @@ def show_value(value: object) -> str:
 
 
 def format_whole(number: int, name: str) -> str:
-    """A whole number in digits, whatever its type; WrongArgument, with the argument's name, if it is none."""
+    """A whole number in digits, whatever its type; WrongArgument, with the argument's name, if it
+    is none.
+    """
     try:
         return str(operator.index(number))
     except (TypeError, ValueError):
@@ -180,7 +192,9 @@ def format_whole(number: int, name: str) -> str:
 
 
 def _list_records(table: Any, location: Location, columns: Sequence[str] = ()) -> list[object]:
-    """A list of records, or the rows of a data frame by the names of its columns, which these have to be among."""
+    """A list of records, or the rows of a data frame by the names of its columns, which these have
+    to be among.
+    """
     if hasattr(table, "iloc") and hasattr(table, "columns"):  # (pandas isn't imported for that)
         names = [str(name) for name in table.columns]
         if len(set(names)) < len(names):
@@ -208,8 +222,10 @@ def _format_values(record: Any, location: Location) -> list[str]:
 
 
 def format_rules(rules: Rules) -> Text:
-    """The text of the rules: a text unchanged, or one made of records: tuples such as `("category", "A", 2, 10, 1)`, which may lack
-    fields at their ends that nothing reads, or dicts as `{"record": "bidder", "name": "Alpha"}`."""
+    """The text of the rules: a text unchanged, or one made of records: tuples such as `("category",
+    "A", 2, 10, 1)`, which may lack fields at their ends that nothing reads, or dicts as `{"record":
+    "bidder", "name": "Alpha"}`.
+    """
     if isinstance(rules, (str, bytes)):
         return rules
     records = [
@@ -239,12 +255,15 @@ def _format_rules_record(record: object, location: Location) -> list[str]:
 
 
 def make_forms(forms: Forms, rules: Text, missing_as_zero: bool = False) -> list[Form]:
-    """The forms: texts unchanged, pairs of a bidder's name and its bids, or the rows of one table of all bids. A bid is a tuple
-    as `(30, 1, 0)`, the amount in whole pounds and a quantity for each category, or a dict as `{"amount": 30, "A": 1}`, in a
-    table with `bidder`. With `missing_as_zero` a category that a dict lacks counts as 0."""
+    """The forms: texts unchanged, pairs of a bidder's name and its bids, or the rows of one table
+    of all bids. A bid is a tuple as `(30, 1, 0)`, the amount in whole pounds and a quantity for
+    each category, or a dict as `{"amount": 30, "A": 1}`, in a table with `bidder`. With
+    `missing_as_zero` a category that a dict lacks counts as 0.
+    """
     if isinstance(forms, (str, bytes)):
         raise WrongArgument("forms: a list of forms is asked for, and this is one text")
-    # (a form repeats the categories' names, so that the program refuses it if they were read wrongly)
+    # (a form repeats the categories' names, so that the program refuses it if they were read
+    # wrongly)
     text = encode_text(rules, "rules").decode("utf-8", "replace").removeprefix(BYTE_ORDER_MARK)
     names = list_names(Records(text), "category")
     records = _list_records(forms, Location("forms"), columns=("amount", *names))
@@ -332,8 +351,9 @@ def _format_bid(
 
 
 def format_groups(groups: Groups) -> Text:
-    """The text of the groups: a text unchanged, nobody alone if nothing is given, or one made of a list of groups: lines such
-    as `"Beta+Gamma"` or `"-"`, or tuples, lists or sets of bidders' names, of which an empty one leaves nobody out.
+    """The text of the groups: a text unchanged, nobody alone if nothing is given, or one made of a
+    list of groups: lines such as `"Beta+Gamma"` or `"-"`, or tuples, lists or sets of bidders'
+    names, of which an empty one leaves nobody out.
 
     >>> format_groups([(), "Beta", ("Beta", "Gamma")])
     '-\\nBeta\\nBeta+Gamma\\n'
@@ -364,7 +384,9 @@ def _format_group(group: object, place: str) -> str:
 
 
 def format_solution(solution: Solution, name: str = "solution") -> Text:
-    """The text of a solution: a text unchanged, or one made of a dict of columns' names and values. A message calls it `name`.
+    """The text of a solution: a text unchanged, or one made of a dict of columns' names and values.
+
+    A message calls it `name`.
 
     >>> format_solution({"X1_1": 1})
     'X1_1 1\\n'

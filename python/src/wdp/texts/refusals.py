@@ -1,4 +1,6 @@
-"""Why something isn't done: refusals of the program, read from their documented lines, and those of this package."""
+"""Why something isn't done: refusals of the program, read from their documented lines, and those of
+this package.
+"""
 import importlib
 import re
 
@@ -36,7 +38,9 @@ def shorten(text: str, most: int) -> str:
 
 
 def escape_unprintable(text: str) -> str:
-    """The text with each character that isn't printable as its escape: it stays one line, and steers no terminal."""
+    """The text with each character that isn't printable as its escape: it stays one line, and
+    steers no terminal.
+    """
     return "".join(
         character if character.isprintable() else character.encode("unicode_escape").decode()
         for character in text
@@ -44,19 +48,24 @@ def escape_unprintable(text: str) -> str:
 
 
 class Refused(ValueError):
-    """What was asked for isn't done, and no part of it is given. The base of all that this package raises; one line, `text`.
+    """What was asked for isn't done, and no part of it is given.
 
-    Each piece of the program's refusal is an attribute, as in docs/REFERENCE.md, or None if the line doesn't say it:
+    The base of all that this package raises; one line, `text`.
 
-    - `part`: input, rules, form, groups, program, solution, certificate, unique, tie, prices, cover, rule, output or desk
+    Each piece of the program's refusal is an attribute, as in docs/REFERENCE.md, or None if the
+    line doesn't say it:
+
+    - `part`: input, rules, form, groups, program, solution, certificate, unique, tie, prices,
+      cover, rule, output or desk
     - `number`: that of the form, solution, certificate, tie, part of the input or group, from 1
     - `kind_number` and `kind`: 13 and RepeatedPackage
-    - `record` of rules or a form, or `line` of another text, from 1, 0 if the text has none; `at`: one of these, or the name of
-      the row or column that is broken
+    - `record` of rules or a form, or `line` of another text, from 1, 0 if the text has none; `at`:
+      one of these, or the name of the row or column that is broken
     - `field`: the earlier bid from 1, or the column of the program from 0
-    - `bidder`: the winner that has no price; and of bids that were given as records, a table or a data frame the name in
-      the form, with `row`, the place of the bid in what was given, from 0, or None if it is about the form's header, and
-      `column`, `amount` or a category's name, if it is about one cell
+    - `bidder`: the winner that has no price; and of bids that were given as records, a table or a
+      data frame the name in the form, with `row`, the place of the bid in what was given, from 0,
+      or None if it is about the form's header, and `column`, `amount` or a category's name, if it
+      is about one cell
 
     >>> refused = Refused("wdp: form 1: 13 RepeatedPackage at record 4, earlier bid 2")
     >>> refused.part, refused.number, refused.kind_number, refused.kind, refused.record, refused.field
@@ -93,7 +102,9 @@ class Refused(ValueError):
 
 
 class WrongArgument(Refused):
-    """What is asked for can't be asked for so: the program's status 2, or records that this package can't write."""
+    """What is asked for can't be asked for so: the program's status 2, or records that this package
+    can't write.
+    """
 
     status = 2
 
@@ -107,7 +118,10 @@ class Unclear(Refused):
 
 
 class NotSolved(Refused):
-    """A solver gave no solution of a program. `status` is that of `wdp-office solve`, `group` the group from 1."""
+    """A solver gave no solution of a program.
+
+    `status` is that of `wdp-office solve`, `group` the group from 1.
+    """
 
     def __init__(self, text: str, status: int = 1, group: int | None = None) -> None:
         super().__init__(text)
@@ -120,7 +134,9 @@ class Missing(Refused, ImportError):
 
 
 def need(purpose: str, *modules: str) -> None:
-    """Raises Missing, which says how to install them, if some of the modules that a purpose needs aren't there."""
+    """Raises Missing, which says how to install them, if some of the modules that a purpose needs
+    aren't there.
+    """
     missing = []
     for module in modules:
         try:

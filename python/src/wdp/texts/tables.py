@@ -1,8 +1,9 @@
 """Records of comma separated values as the program reads them, each field with its place.
 
-A record ends at LF, CR LF or CR; an empty line is no record. A field that begins with a double quote goes to the next
-single one, a doubled one means one quote, and what follows the closing quote joins the field. An open quote ends with the
-text. A quote inside a field that doesn't begin with one is data. A byte that is no text comes out as it was.
+A record ends at LF, CR LF or CR; an empty line is no record. A field that begins with a double
+quote goes to the next single one, a doubled one means one quote, and what follows the closing quote
+joins the field. An open quote ends with the text. A quote inside a field that doesn't begin with
+one is data. A byte that is no text comes out as it was.
 """
 import hashlib
 import re
@@ -17,7 +18,8 @@ _NEEDS_QUOTES = re.compile(f'[,"\\r\\n]|^%|^{BYTE_ORDER_MARK}')
 
 @dataclass
 class TableRow:
-    """A record: its values, and the line in which it begins, or its number where a file has no lines.
+    """A record: its values, and the line in which it begins, or its number where a file has no
+    lines.
 
     `places` are those of the values, if they can't be counted from the values before them.
     """
@@ -27,7 +29,10 @@ class TableRow:
     places: Sequence[str] = ()
 
     def place(self, index: int = 0) -> str:
-        """The place of a value: line and column as `3:1`, both from 1, or a cell. Of one that isn't there, the last one's."""
+        """The place of a value: line and column as `3:1`, both from 1, or a cell.
+
+        Of one that isn't there, the last one's.
+        """
         index = min(index, len(self.values) - 1)
         if self.places:
             return self.places[index]
@@ -38,9 +43,9 @@ class TableRow:
 class Records:
     """The records of a text as rows.
 
-    Once they are read, `unclosed` is the place of a field whose quote the text doesn't close, `blank` how many lines are no
-    record, and `unquoted` and `quoted` how many fields `format_record` writes without quotes that have some here, and with
-    quotes that have none.
+    Once they are read, `unclosed` is the place of a field whose quote the text doesn't close,
+    `blank` how many lines are no record, and `unquoted` and `quoted` how many fields
+    `format_record` writes without quotes that have some here, and with quotes that have none.
     """
 
     def __init__(self, text: str, delimiter: str = ",", line: int = 1) -> None:
@@ -131,7 +136,9 @@ def format_field(value: str, special: re.Pattern[str] = _NEEDS_QUOTES) -> str:
 
 
 def split_lines(text: str) -> list[str]:
-    """The lines of a text; each is ended by LF, which the last one may lack; one CR before it is dropped."""
+    """The lines of a text; each is ended by LF, which the last one may lack; one CR before it is
+    dropped.
+    """
     lines = text.split("\n")
     if not lines[-1]:
         lines.pop()

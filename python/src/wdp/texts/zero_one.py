@@ -1,6 +1,8 @@
-"""0-1 programs, read from texts in free MPS that `wdp check` accepts or `wdp` wrote, and their solutions.
+"""0-1 programs, read from texts in free MPS that `wdp check` accepts or `wdp` wrote, and their
+solutions.
 
-Of a program nothing is judged. A solution has a line NAME VALUE for each column, and comments; other columns are 0.
+Of a program nothing is judged. A solution has a line NAME VALUE for each column, and comments;
+other columns are 0.
 """
 import operator
 import re
@@ -42,7 +44,9 @@ class Row:
 
 @dataclass(slots=True)
 class Column:
-    """A column: its name, its cost, the places of its rows, each with its coefficient, and its bounds, 0 or 1."""
+    """A column: its name, its cost, the places of its rows, each with its coefficient, and its
+    bounds, 0 or 1.
+    """
 
     name: str
     cost: int = 0
@@ -86,7 +90,10 @@ class ZeroOne:
 
 
 def read_program(text: bytes) -> ZeroOne:
-    """The program of a text, as docs/REFERENCE.md has it under 'Read programs'. Unclear if the text is cut off."""
+    """The program of a text, as docs/REFERENCE.md has it under 'Read programs'.
+
+    Unclear if the text is cut off.
+    """
     with suppress(KeyError, ValueError):
         return FastReader(text).program()
     reader = _MpsReader()
@@ -160,7 +167,9 @@ _BOUND = re.compile(rb" (UP|FX) BND ([!-~]++) ([01])\n")
 
 
 class FastReader:
-    """Reads a text as `wdp` writes it, a column at a time. ValueError or KeyError if it is another one.
+    """Reads a text as `wdp` writes it, a column at a time.
+
+    ValueError or KeyError if it is another one.
 
     Entries that are alike, as ` C3 2` of two columns, are one object.
     """
@@ -180,7 +189,9 @@ class FastReader:
         return ZeroOne(self.rows, columns)
 
     def match(self, pattern: re.Pattern[bytes]) -> re.Match[bytes] | None:
-        """What matches a pattern next, after which the reading goes on; None if that is something else."""
+        """What matches a pattern next, after which the reading goes on; None if that is something
+        else.
+        """
         match = pattern.match(self.text, self.position)
         if match:
             self.position = match.end()
@@ -233,7 +244,9 @@ class FastReader:
 
 
 def format_program(program: ZeroOne) -> bytes:
-    """A program in free MPS, as `wdp` writes it, without the rows that no column has and that are met."""
+    """A program in free MPS, as `wdp` writes it, without the rows that no column has and that are
+    met.
+    """
     used = {place for column in program.columns for place, _ in column.entries}
     rows = [row for place, row in enumerate(program.rows) if place in used or not row.is_met_by(0)]
     lines = ["NAME wdp", "ROWS", " N OBJ"]
@@ -263,7 +276,10 @@ def _parse_whole(number: str) -> int:
 
 
 def read_solution(text: bytes, program: ZeroOne, source: str) -> set[int]:
-    """The places of the columns at 1. Refused, with the line, if the text is no point of the program."""
+    """The places of the columns at 1.
+
+    Refused, with the line, if the text is no point of the program.
+    """
     values: dict[int, bool] = {}
     for number, line in enumerate(split_lines(text.decode("latin-1")), 1):
         fields = FIELD.findall(line)
@@ -279,7 +295,10 @@ def read_solution(text: bytes, program: ZeroOne, source: str) -> set[int]:
 
 
 def _take_line(fields: list[str], program: ZeroOne, values: dict[int, bool]) -> None:
-    """Takes a line: whether its column is at 1, by the column's place. ValueError says what is wrong with it."""
+    """Takes a line: whether its column is at 1, by the column's place.
+
+    ValueError says what is wrong with it.
+    """
     if len(fields) != 2:
         raise ValueError("not a name and a value")
     name = shorten(fields[0], _LONGEST_FIELD)
