@@ -32,7 +32,10 @@ def test_a_search_goes_on_where_another_gave_up(
     program = wide_program(seed, bidders=4, bids=12)
     problem = Problem(Layout(program))
     whole = problem.certified(b"")
-    solution, tree, turns, least = b"", "", 0, 0
+    solution = b""
+    tree = ""
+    turns = 0
+    least = 0
     while True:
         lines = len(Unfinished.read(tree).lines) + 2
         try:
@@ -42,7 +45,9 @@ def test_a_search_goes_on_where_another_gave_up(
             assert not reached.is_late
             assert reached.least <= least
             assert reached.bound <= problem.objective(whole.solution)
-            solution, tree, least = reached.solution, reached.tree, reached.least
+            solution = reached.solution
+            tree = reached.tree
+            least = reached.least
             turns += 1
     assert turns
     best = problem.objective(whole.solution)

@@ -8,19 +8,24 @@ LONGEST_TEXT = 500  # characters of a text that a message shows
 
 # a refusal with a kind: a part, its number if there are several, the kind, and the place
 _WITH_KIND = re.compile(
-    r"wdp: (?P<part>rules|groups|program|unique|tie|prices|cover|rule|(?:form|solution|certificate|tie) (?P<number>[0-9]{1,9})): "
+    r"wdp: (?P<part>rules|groups|program|unique|tie|prices|cover|rule"
+    r"|(?:form|solution|certificate|tie) (?P<number>[0-9]{1,9})): "
     r"(?:(?P<kind_number>[0-9]{1,2}) )?(?P<kind>[A-Z][A-Za-z]+)"
     r"(?: (?!at )(?P<winner>[A-Za-z][A-Za-z0-9]{0,15}))?"
-    r"(?: at (?:record (?P<record>[0-9]{1,18})|line (?P<line>[0-9]{1,18})|(?:row|column) (?P<name>[A-Za-z0-9_]+)))?"
+    r"(?: at (?:record (?P<record>[0-9]{1,18})|line (?P<line>[0-9]{1,18})"
+    r"|(?:row|column) (?P<name>[A-Za-z0-9_]+)))?"
     r"(?:, (?:earlier bid|column) (?P<field>[0-9]{1,18}))?"
 )
 
 # a refusal in words: of a part, perhaps with a number, or else of what is written
 _IN_WORDS = re.compile(
     r"wdp: (?:(?P<part>input|groups|tie(?: [0-9]{1,9})?|desk): )?"
-    r"(?:read failed|too large|bytes before the first part|wrong answer|write failed after [0-9]{1,18} bytes"
-    r"|(?:no group|group|part) (?P<number>[0-9]{1,9})(?: is not empty| not known)?(?:: %weights is of version 1, .*)?"
-    r"|wrong number of (?:rules|groups|solutions|certificates|uniques|ties|prices|covers|price rules)"
+    r"(?:read failed|too large|bytes before the first part|wrong answer"
+    r"|write failed after [0-9]{1,18} bytes"
+    r"|(?:no group|group|part) (?P<number>[0-9]{1,9})(?: is not empty| not known)?"
+    r"(?:: %weights is of version 1, .*)?"
+    r"|wrong number of (?:rules|groups|solutions|certificates|uniques|ties|prices|covers"
+    r"|price rules)"
     r"|total below that of group 1|same winners as (?:group 1|tie [0-9]{1,9}))"
 )
 
