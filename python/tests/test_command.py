@@ -3,6 +3,7 @@ and that it installs.
 """
 import ast
 import os
+import re
 import signal
 import subprocess
 import sys
@@ -114,3 +115,48 @@ def test_pip_installs_it_without_a_network(tmp_path: Path) -> None:
     )
     assert done.stdout == f"{wdp.__version__} None\n", done.stderr
     assert done.stderr.endswith("wdp.Refused: wdp: program: 8 NoObjective at line 1\n"), done.stderr
+
+
+ONE_OF_EACH = {
+    "__init__.py": "",
+    "_first.py": (
+        "from typing import Any\n"
+        "from package import _second\n"
+        "_a, _b = 1, 2\n"
+        "_c, _d = divmod(7, 2)\n"
+        "def found() -> None: ...\n"
+        "def show(value: Any) -> None: print(*[value])\n"
+        "def _show(value: Any) -> None: _second.add(1, 2, 3, 4)\n"
+    ),
+    "_second.py": (
+        "from package._first import found, show\n"
+        "def add(a: int, b: int, c: int, d: int) -> None: ...\n"
+        "def alone() -> None: add(1, 2, 3, d=4)\n"
+    ),
+}
+COUNTS = {
+    "parallel": 1,
+    "assigned": 2,
+    "star": 1,
+    "participle": 1,
+    "functions": 5,
+    "by place": 1,
+    "cycles": 1,
+    "complex": 0,
+    "Any": 1,
+    "unmarked": 1,
+}
+
+
+def test_what_makes_python_hard_to_read_is_counted(tmp_path: Path) -> None:
+    folder = tmp_path / "package"
+    folder.mkdir()
+    for name, text in ONE_OF_EACH.items():
+        (folder / name).write_text(text)
+    done = finish(start([ROOT / "tools/python_counts", folder]))
+    assert done.status == 0, done.err
+    heading, line = done.out.splitlines()
+    name, *counts = line.split()
+    assert name == "package"
+    assert re.split("  +", heading.strip()) == list(COUNTS)
+    assert [int(count) for count in counts] == list(COUNTS.values())
