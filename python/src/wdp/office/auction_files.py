@@ -51,7 +51,7 @@ class AuctionFiles:
     def read_rules(self, path: str) -> bool:
         """Reads the rules; whether nothing is wrong with them."""
         with self._collect():
-            file = read_rules_file(path, self.choices.sheet, is_regular=False)
+            file = read_rules_file(path, self.choices.sheet, regular=False)
             self.rules_file = file
             self.faults += file.faults
             if not file.faults:

@@ -60,9 +60,9 @@ def _check_first_row(file: File, heads: Collection[str], wanted: str) -> None:
             raise Unreadable(f"{file.path}:{file.rows[0].place()}", why)
 
 
-def read_rules_file(path: str, sheet: str | None = None, is_regular: bool = True) -> File:
+def read_rules_file(path: str, sheet: str | None = None, *, regular: bool = True) -> File:
     """The rows of the rules, each with the fields that the version wants. Raises Unreadable."""
-    file = _read_table(path, _MOST_OF_RULES, heads=["rules"], sheet=sheet, regular=is_regular)
+    file = _read_table(path, _MOST_OF_RULES, heads=["rules"], sheet=sheet, regular=regular)
     _check_first_row(file, ["rules"], "rules begin with rules")
     first = file.rows[0].values if file.rows else []
     width = 5 if first[1:2] == ["1"] else 6
