@@ -33,6 +33,8 @@ def owner_of(head: str) -> str:
     words = re.sub(r"<[^<>]*(?:<[^<>]*(?:<[^<>]*>[^<>]*)*>[^<>]*)*>", "", head).split(" where ")[0]
     of_trait, _, of_type = words.rpartition(" for ")
     of_trait = of_trait.strip().split("::")[-1]
+    # (a trait may have traits above it)
+    of_type = re.split(r"(?<!:):(?!:)", of_type)[0]
     return (
         of_type.strip().split("::")[-1]
         + of_trait

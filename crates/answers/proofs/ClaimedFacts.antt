@@ -3,6 +3,9 @@ use Rattle.std.proofs.Common.{◌≡◌, ◌≤◌, ◌+◌, ◌++◌, ◌==◌,
 use Rattle.std.proofs.Common.{arith, drop, eqb-true, false, inl, inr, length, map, refl, subst, sym, ◌<◌, ◌⊎◌}
 use Rattle.std.proofs.Common.{slice_index_or, true, zip, option_map}
 use Rattle.std.proofs.lemmas.List.{drop_more, length-map}
+use Rattle.std.proofs.lemmas.List.Elements.{All-append, All-from_recursion}
+use Rattle.std.specs.Prelude.{All}
+use Rattle.program_rows.specs.Points.{IsPoint}
 use Rattle.auction_terms.specs.FirstFault.{first_failed}
 use Rattle.auction_terms.specs.Lines.{bytes_of}
 use Rattle.auction_terms.specs.Groups.{starts_empty}
@@ -19,7 +22,7 @@ use Rattle.auction_input.specs.declared.refusal.Refusal.{Refusal}
 use Rattle.auction_input.proofs.AnswerFacts.{ok-after, ok-is}
 use Rattle.auction_input.proofs.InputTextFacts.{Text}
 use Rattle.auction_input.proofs.StageFacts.{next, stop}
-use Rattle.optimality.specs.Answers.{IsVerdict}
+use Rattle.optimality.specs.Answers.{IsLimit, IsVerdict}
 use Rattle.optimality.specs.Only.{IsLargeOnlyAt, only_fault}
 use Rattle.outcome.specs.Others.{Others, others_of}
 use Rattle.outcome.specs.PointAllocation.{allocation_of}
@@ -119,6 +122,21 @@ module _ (ties : List (List Choice)) (award : List Choice) (n : ℕ) (a : List C
   same-later other = rw (ahead, other) refl
 
 -- ---- one tie after the other
+
+pub one-point-more : (p : Table) (points : List (List Bool)) (point : List Bool) → All (IsPoint p) points → IsPoint p point
+    → All (IsPoint p) (points ++ point ∷ [])
+one-point-more p points point each here = All-append (IsPoint p) points (point ∷ []) each (All-from_recursion (IsPoint p) (point ∷ []) (here, tt))
+
+pub one-award-more : (p : Table) (points : List (List Bool)) (point : List Bool)
+    → map (allocation_of p) (points ++ point ∷ []) ≡ map (allocation_of p) points ++ allocation_of p point ∷ []
+one-award-more p [] point = refl
+one-award-more p (v ∷ points) point = ap (λ (xs : List (List Choice)). allocation_of p v ∷ xs) (one-award-more p points point)
+
+-- the texts from a place on
+pub texts-from : (texts : List Text) (n : ℕ) (text : Text) → n < length texts → text ≡ slice_index_or texts n text
+    → bytes_of (drop n texts) ≡ text.now ∷ bytes_of (drop (n + 1) texts)
+texts-from texts n text within is =
+    ap bytes_of (drop_more texts n text within ∙ ap (λ (t : Text). t ∷ drop (n + 1) texts) (sym is))
 
 -- these points, and after them those that are described
 abbrev pub onto : List (List Bool) → Result (List (List Bool)) Refusal → Result (List (List Bool)) Refusal
@@ -220,6 +238,40 @@ module _ (auction : Auction) (first : List Choice) (counted : first_failed (clai
     pub unshown : (r : Refusal) → IsUniqueRefused auction points r → Refuses (parsed_claims auction first) r ⊎ IsTooWideClaim auction first r
     unshown r (inl memory) = inl (inr memory)
     unshown r (inr (f, u, is)) = subst (λ (s : Refusal). Refuses (parsed_claims auction first) s ⊎ IsTooWideClaim auction first s) (sym is) (unshown-so f u)
+
+-- the same of what the code makes
+module _ (auction : Auction) (first : List Choice) (counted : first_failed (claim_counts auction) ≡ None) (points : List (List Bool))
+    (tied : parsed_ties auction first [] auction.ties ≡ Ok points) (awards : List (List Choice))
+    (are : awards ≡ map (allocation_of (first_program auction)) points) (result : Others) where
+  abbrev said : List (List Choice) → Others
+  said xs = record { awards = xs; further = further.Unknown }
+
+  abbrev fine : Others → Result Others Refusal
+  fine o = Ok o
+
+  pub nothing-shown-so : auction.uniques ≡ [] → result ≡ said awards → parsed_claims auction first ≡ Ok result
+  nothing-shown-so none is = nothing-shown auction first counted points tied none ∙ ap (λ (xs : List (List Choice)). fine (said xs)) (sym are) ∙ ap fine (sym is)
+
+  pub all-shown-so : IsShownUnique auction points → result ≡ others_of auction.sale.lots auction.sale.book (first ∷ awards)
+      → parsed_claims auction first ≡ Ok result
+  all-shown-so shown is = all-shown auction first counted points tied shown
+      ∙ ap (λ (xs : List (List Choice)). fine (others_of auction.sale.lots auction.sale.book (first ∷ xs))) (sym are) ∙ ap fine (sym is)
+
+-- a fault of the one text, as it is reported
+pub unique-refused : (auction : Auction) (points : List (List Bool)) (point : List Bool) (text : List ℕ) (f : CertificateFault) → auction.uniques ≡ text ∷ []
+    → solution (first_program auction) (slice_index_or auction.solutions 0 []) ≡ Ok point
+    → IsLimit f.kind ⊎ (only_fault (first_program auction) point points text ≡ Some (f.line, f.kind))
+    → (f.kind ≡ kind.TooLarge → IsLargeOnlyAt (first_program auction) point points text f.line)
+    → IsUniqueRefused auction points (refusal.Unique f)
+unique-refused auction points point text f one solved (inl (inl memory)) large = inl (rw memory refl)
+unique-refused auction points point text f one solved (inl (inr wide)) large =
+    inr (f, record { text = text; point = point; one = one; solved = solved; found = inl (wide, large wide) }, refl)
+unique-refused auction points point text f one solved (inr found) large =
+    inr (f, record { text = text; point = point; one = one; solved = solved; found = inr found }, refl)
+
+pub no-texts : (texts : List Text) → length texts ≡ 0 → bytes_of texts ≡ []
+no-texts [] none = refl
+no-texts (t ∷ texts) none = absurd (omega arith)
 
 -- ---- the text that is to show that there is no other
 

@@ -14,11 +14,11 @@ use Rattle.outcome.specs.Report.{allocation_text, cost, group_report, heading, i
 use Rattle.bid_desk.specs.Sale.{Sale}
 
 -- a digit, and a line feed after it
-record EndsInDigit (text : List ℕ) : Type 0 where
-  front : List ℕ
-  digit : ℕ
-  is : text ≡ front ++ digit ∷ 10 ∷ []
-  small : digit ≤ 57
+pub record EndsInDigit (text : List ℕ) : Type 0 where
+  pub front : List ℕ
+  pub digit : ℕ
+  pub is : text ≡ front ++ digit ∷ 10 ∷ []
+  pub small : digit ≤ 57
 
 -- ---- numbers
 

@@ -1,5 +1,5 @@
 -- What is said of other awards is true.
-use Rattle.std.proofs.Common.{◌≡◌, ◌≤◌, ◌+◌, ◌∷◌, ◌++◌, ◌∙◌, [], ℕ, zero, suc, Bool, true, false, cond, List, Option, None, Some, Result, Ok, refl, subst, sym, ap, arith, leb-true}
+use Rattle.std.proofs.Common.{◌≡◌, ◌<◌, ◌≤◌, ◌+◌, ◌∷◌, ◌++◌, ◌∙◌, [], ℕ, zero, suc, Bool, true, false, cond, List, Option, None, Some, Result, Ok, refl, subst, sym, ap, arith, leb-true}
 use Rattle.std.proofs.Common.{IsPermutation, nat_le, slice_index_or, map, length}
 use Rattle.std.specs.Prelude.{All, Any, Contains, if◌then◌else◌}
 use Rattle.std.specs.List.{AllByRecursion, AllZip}
@@ -70,6 +70,51 @@ same-bids : (p : Table) (point : List Bool) → IsPermutation (back p.columns po
 same-bids p point = as-often (back p.columns point) (allocation_of p point)
     (λ c. sym (same_sum (λ d. cond (same_choice c d) 1 0) (back p.columns point) (back_bidders p.columns point)))
 
+-- the award of a point has kept bids, and is feasible
+pub kept-award : (sale : Sale) → IsBook sale.lots sale.book → (point : List Bool)
+    → All (λ c. is_kept_choice sale.lots sale.book (λ b. false) c ≡ true) (allocation_of (program_for sale []) point)
+kept-award sale within point =
+    let p : Table = program_for sale [] in
+    All-permutation (λ c. is_kept_choice sale.lots sale.book (λ b. false) c ≡ true) (back p.columns point) (allocation_of p point)
+    (same-bids p point) (points_win_kept_bids sale.lots sale.book (λ b. false) point within)
+
+feasible-award : (sale : Sale) → IsBook sale.lots sale.book → (point : List Bool) → IsPoint (program_for sale []) point
+    → IsFeasible sale.lots sale.book (λ b. false) (allocation_of (program_for sale []) point)
+feasible-award sale within point is_point = (points_come_back sale.lots sale.book (has []) (program_for sale []) point
+    (presolved_is_faithful sale.lots sale.book (has []) within) is_point).feasible
+
+-- so have all awards of points, and a first one
+pub each-kept : (sale : Sale) → IsBook sale.lots sale.book → (first : List Choice) (points : List (List Bool))
+    → All (λ c. is_kept_choice sale.lots sale.book (λ b. false) c ≡ true) first
+    → All (All (λ c. is_kept_choice sale.lots sale.book (λ b. false) c ≡ true)) (first ∷ map (allocation_of (program_for sale [])) points)
+each-kept sale within first points kept = All-from_recursion (All (λ c. is_kept_choice sale.lots sale.book (λ b. false) c ≡ true))
+    (first ∷ map (allocation_of (program_for sale [])) points) (kept, each points)
+  where
+    each : (points : List (List Bool))
+        → AllByRecursion (All (λ c. is_kept_choice sale.lots sale.book (λ b. false) c ≡ true)) (map (allocation_of (program_for sale [])) points)
+    each [] = tt
+    each (v ∷ points) = (kept-award sale within v, each points)
+
+pub each-feasible : (sale : Sale) → IsBook sale.lots sale.book → (first : List Choice) (points : List (List Bool))
+    → IsFeasible sale.lots sale.book (λ b. false) first → All (IsPoint (program_for sale [])) points
+    → All (IsFeasible sale.lots sale.book (λ b. false)) (first ∷ map (allocation_of (program_for sale [])) points)
+each-feasible sale within first points feasible are = All-from_recursion (IsFeasible sale.lots sale.book (λ b. false))
+    (first ∷ map (allocation_of (program_for sale [])) points) (feasible, each points (recursion_from_All (IsPoint (program_for sale [])) points are))
+  where
+    each : (points : List (List Bool)) → AllByRecursion (IsPoint (program_for sale [])) points
+        → AllByRecursion (IsFeasible sale.lots sale.book (λ b. false)) (map (allocation_of (program_for sale [])) points)
+    each [] are = tt
+    each (v ∷ points) are = (feasible-award sale within v are.0, each points are.1)
+
+-- what the first solution wins has kept bids
+pub first-kept : (sale : Sale) (text : List ℕ) (first : List Choice) → IsBook sale.lots sale.book → winners_by (program_for sale []) 1 text ≡ Ok first
+    → All (λ c. is_kept_choice sale.lots sale.book (λ b. false) c ≡ true) first
+first-kept sale text first within won =
+    let p : Table = program_for sale [] in
+    let (point, point_is, is) = ok-after (refused_as (solution_refused p 1) (solution p text)) _ first won in
+    let same : allocation_of p point ≡ first = ok-is _ (allocation_of p point) first refl is in
+    subst (All (λ c. is_kept_choice sale.lots sale.book (λ b. false) c ≡ true)) same (kept-award sale within point)
+
 -- where the first allocation is the only one, each cost is settled
 pub settled-costs : (sale : Sale) (first : List Choice) → IsOnly sale.lots sale.book (λ b. false) first
     → (groups : List (List ℕ)) (won : List (List Choice)) → AllZip (IsGreatestWithout sale) groups won
@@ -83,7 +128,7 @@ pub only-of : (sale : Sale) (first : List Choice) (others : Others) → AreTrueO
 only-of sale first others holds none alone = record {
   feasible = holds.greatest.0.feasible;
   only = λ other feasible no_less.
-      let best = record { feasible = feasible; greatest = λ third f. let h = holds.greatest.0.greatest third f in omega arith } in
+      let best : IsGreatest sale.lots sale.book (λ b. false) other = record { feasible = feasible; greatest = λ third f. let h = holds.greatest.0.greatest third f in omega arith } in
       let (k, a, l, e, moved) = subst (λ (xs : List (List Choice)). Any (λ a. IsPermutation a other) (first ∷ xs)) alone (holds.all none other best) in
       alone-at k a other l e moved;
 }
@@ -132,12 +177,13 @@ module _ (auction : Auction) (within : IsBook auction.sale.lots auction.sale.boo
   other-than : (number : ℕ) (before : List (List Choice)) (a : List Choice) → AllByRecursion HasRisingBidders before → HasRisingBidders a
       → same_tie number before a ≡ None → AllByRecursion (λ b. Differ b a) before
   other-than number [] a rising rises none = tt
-  other-than number (b ∷ before) a rising rises none = by (same_choices b a) refl none
+  other-than number (b ∷ before) a rising rises none = by (same_choices b a) refl none (other-than (number + 1) before a rising.1 rises)
     where
       by : (same : Bool) → same_choices b a ≡ same → (if same then Some number else same_tie (number + 1) before a) ≡ None
+          → (same_tie (number + 1) before a ≡ None → AllByRecursion (λ c. Differ c a) before)
           → AllByRecursion (λ c. Differ c a) (b ∷ before)
-      by true e none = cc
-      by false e none = (others_differ b a rising.0 rises e, other-than (number + 1) before a rising.1 rises none)
+      by true e none later = cc
+      by false e none later = (others_differ b a rising.0 rises e, later none)
 
   -- an award without a fault ties, and is another one
   record Good (before : List (List Choice)) (a : List Choice) : Type 0 where
@@ -225,17 +271,13 @@ module _ (auction : Auction) (within : IsBook auction.sale.lots auction.sale.boo
   apart-from-first [] new = tt
   apart-from-first (v ∷ points) new = (new.0.0, apart-from-first points new.1)
 
-  kept-award : (point : List Bool) → All (λ c. is_kept_choice sale.lots sale.book (λ b. false) c ≡ true) (award point)
-  kept-award point = All-permutation (λ c. is_kept_choice sale.lots sale.book (λ b. false) c ≡ true) (back p.columns point) (award point)
-      (same-bids p point) (points_win_kept_bids sale.lots sale.book (λ b. false) point within)
-
   all-kept : (point : List Bool) (points : List (List Bool)) → IsPoint p point → award point ≡ first → AllTie (first ∷ []) points
       → AreOnlyLeast p point points → AreAllKept sale.lots sale.book (λ b. false) (first ∷ map award points)
   all-kept point points is_point wins ties only = record {
     greatest = (best, each-map Ties (IsGreatest sale.lots sale.book (λ b. false)) award (λ v t. t.greatest) points ties.each);
     kept = (
-      subst (λ (a : List Choice). All (λ c. is_kept_choice sale.lots sale.book (λ b. false) c ≡ true) a) wins (kept-award point),
-      each-map Ties (All (λ c. is_kept_choice sale.lots sale.book (λ b. false) c ≡ true)) award (λ v t. kept-award v) points ties.each,
+      subst (λ (a : List Choice). All (λ c. is_kept_choice sale.lots sale.book (λ b. false) c ≡ true) a) wins (kept-award sale within point),
+      each-map Ties (All (λ c. is_kept_choice sale.lots sale.book (λ b. false) c ≡ true)) award (λ v t. kept-award sale within v) points ties.each,
     );
     rising = (first_rises, each-map Ties HasRisingBidders award (λ v t. t.rising) points ties.each);
     all = λ other greatest kept.

@@ -48,7 +48,7 @@ use Rattle.program_rows.specs.declared.certificate_fault.CertificateFaultKind.Th
 use Rattle.program_rows.specs.declared.certificate_fault.CertificateFaultKind.{CertificateFaultKind}
 use Rattle.program_rows.specs.Faithful.{IsGreatest}
 use Rattle.answers.specs.Verified.{AreTruePrices, ArePricesOfRule, IsGreatestWithout}
-use Rattle.answers.proofs.OnlyFacts.{no-fault}
+use Rattle.answers.proofs.OthersFacts.{no-fault}
 
 -- a book has a form of each bidder of the rules
 pub auction-sized : (asked : Request) (input : Input) (auction : Auction) → parsed_auction asked input ≡ Ok auction

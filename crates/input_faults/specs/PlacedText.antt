@@ -1,8 +1,10 @@
 -- What is reported of a refusal of an input: where there are several texts, with the name of the file that it is of.
-use Rattle.std.specs.Prelude.{◌++◌, ◌∷◌, ℕ, List, [], Option, None, Some, codes, if◌then◌else◌, length, nat_lt, slice_index_or}
+use Rattle.std.specs.Prelude.{◌++◌, ◌∷◌, ℕ, List, [], Option, None, Some, codes, if◌then◌else◌, slice_index_or}
+use Rattle.std.specs.Str.{bytes_eq}
 use Rattle.auction_input.specs.Input.{Given}
 use Rattle.auction_input.specs.Line.{refusal_text}
 use Rattle.auction_input.specs.Places.{spot_of, with_number}
+use Rattle.auction_input.specs.declared.parts.PartFault.{PartFault}
 use Rattle.auction_input.specs.declared.parts.PartFault.TheVariants as part
 use Rattle.auction_input.specs.declared.places.Spot.{Spot}
 use Rattle.auction_input.specs.declared.refusal.Refusal.TheVariants as refusal
@@ -30,10 +32,14 @@ message_at texts spot r = with_other texts r (words_at texts spot r)
 abbrev pub message_in : List Given → Refusal → List ℕ
 message_in texts r = message_at texts (spot_of texts r) r
 
--- what makes an input of files that are named, where the first part of one doesn't begin with a head
+-- what makes an input of files, if the first one has a name, and one of them doesn't begin with a head
+abbrev pub hint_on : List ℕ → PartFault → List ℕ
+hint_on name part.BeforeFirst = if bytes_eq name [] then [] else codes "; wdp-office gather makes an input of such files"
+hint_on name f = []
+
+-- what comes after what is reported of a refusal on standard error
 abbrev pub hint : List Given → Refusal → List ℕ
-hint (given ∷ texts) (refusal.Parts part.BeforeFirst) =
-    if nat_lt 0 (length given.name) then codes "; wdp-office gather makes an input of such files" else []
+hint texts (refusal.Parts f) = hint_on (file_name texts 0) f
 hint texts r = []
 
 -- and its line

@@ -23,5 +23,5 @@ mod wording;
 pub use explaining::explain;
 pub use fault::Fault;
 pub use finding::input_faults;
-pub use placed::{add_file_name, add_message};
+pub use placed::{add_file_name, add_hint, add_message};
 pub use wording::add_wording;

@@ -4,11 +4,12 @@ ghost use Rattle.std.specs.Prelude.{◌≡◌, ◌<◌, [], codes, flat_map, if�
 ghost use Rattle.auction_input.specs.Message.{message_text};
 ghost use Rattle.byte_sinks.specs.Adds.{Adds};
 ghost use Rattle.input_faults.specs.FileNames.{shown_name};
-ghost use Rattle.input_faults.specs.PlacedText.{file_name, message_at, with_other, words_at};
+ghost use Rattle.input_faults.specs.PlacedText.{file_name, hint, hint_on, message_at, with_other, words_at};
+ghost use Rattle.auction_input.specs.declared.parts.PartFault.TheVariants as part;
 
 use crate::shown::add_shown_bytes;
 use crate::wording::add_wording;
-use auction_input::{Given, Message, Refusal, Spot};
+use auction_input::{Given, Message, PartFault, Refusal, Spot};
 use byte_sinks::{Sink, Writer};
 
 // Adds words on a refusal.
@@ -90,4 +91,35 @@ pub fn add_message<S: Sink>(
 {
     add_words_at(writer, texts, spot, refusal);
     add_other(writer, texts, refusal);
+}
+
+// Adds what makes an input of files, if the first one has this name, and one of them doesn't begin with a head.
+fn add_gather<S: Sink>(writer: &mut Writer<'_, S>, name: &[u8])
+    ensures { Adds S.taken S.failures writer.old writer.new (hint_on name.now part.BeforeFirst) }
+{
+    if name == b"".as_slice() {
+        writer.add(b"");
+    } else {
+        writer.add(b"; wdp-office gather makes an input of such files");
+    }
+}
+
+fn add_hint_on<S: Sink>(writer: &mut Writer<'_, S>, name: &[u8], fault: PartFault)
+    ensures { Adds S.taken S.failures writer.old writer.new (hint_on name.now fault) }
+{
+    match fault {
+        PartFault::BeforeFirst => add_gather(writer, name),
+        _ => writer.add(b""),
+    }
+}
+
+/// Adds what comes after what is reported of a refusal on standard error: for files that are no parts of an input, what makes one of
+/// them.
+pub fn add_hint<S: Sink>(writer: &mut Writer<'_, S>, texts: &[Given], refusal: &Refusal)
+    ensures { Adds S.taken S.failures writer.old writer.new (hint texts.now refusal.now) }
+{
+    match refusal {
+        Refusal::Parts(fault) => add_hint_on(writer, file_name(texts, 0), *fault),
+        _ => writer.add(b""),
+    }
 }
