@@ -6,6 +6,7 @@ pub mod ShortNumberFacts
 pub mod FirstFieldFacts
 pub mod FirstFaultFacts
 pub mod AllFaultsFacts
+pub mod JudgeFacts
 pub mod AcceptedFacts
 pub mod RecordFacts
 pub mod FieldFacts
@@ -17,8 +18,8 @@ pub mod LineFacts
 pub mod LineCountFacts
 pub mod NameCountFacts
 pub mod GroupsTextFacts
-pub mod AllGroupFaultsFacts
 mod AcceptedGroupsFacts
+mod NoFaultFacts
 pub mod WeighedFacts
 pub mod PackageFacts
 pub mod AllocationFacts

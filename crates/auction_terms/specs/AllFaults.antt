@@ -44,7 +44,7 @@ all_faults faults_of n accepted [] = []
 all_faults faults_of n accepted (item ∷ more) =
     faults_of n accepted item ++ all_faults faults_of (n + 1) (accepted_with (faults_of n accepted item) accepted item) more
 
--- these are the faults after what is reported: there is none where there is a value, and else the one that is reported comes first
+-- a list of faults fits what is reported: it is empty if there is a value, and otherwise the reported fault comes first
 abbrev pub AreFaultsOf : {A F : Type 0} → List (Found F) → Result A F → Type 0
 AreFaultsOf faults (Ok x) = faults ≡ []
 AreFaultsOf {A} {F} faults (Err fault) = (field : ℕ) × (more : List (Found F)) × (faults ≡ found field fault ∷ more)

@@ -25,7 +25,7 @@ fault_of_header v r = at_field header_field (first_failed (header_checks v r))
 abbrev pub fault_by_entries : Version → ℕ → Entries → Record → List (Found RulesFault)
 fault_by_entries v place before r = at_field (entry_field v before r) (first_failed (entry_checks v place before r))
 
--- the same, given the accepted ones between
+-- the fault of a record at a place after the first, given the accepted records between the header and it
 abbrev pub fault_of_entry : Version → ℕ → List Record → Record → List (Found RulesFault)
 fault_of_entry v place before r = fault_by_entries v place (entries_of v before) r
 

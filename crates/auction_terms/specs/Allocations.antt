@@ -8,6 +8,7 @@ use Rattle.auction_terms.specs.declared.bids.Bid.{Bid}
 use Rattle.auction_terms.specs.declared.choices.Choice.{Choice}
 use Rattle.auction_terms.specs.Packages.{Lots, fits, left, weighed, worth, worth_of_all}
 
+-- all bids of an auction: the form of each bidder, in order of the bidders' numbers, each a list of bids
 abbrev pub Book : Type 0
 Book = List (List Bid)
 
@@ -21,12 +22,15 @@ abbrev pub bid_at : List Bid → ℕ → Option Bid
 bid_at form zero = None
 bid_at form (suc j) = slice_get form j
 
+-- the bid that a choice names, if its bidder has one of this number
 abbrev pub bid_of : Book → Choice → Option Bid
 bid_of book c = bid_at (form_of book c.bidder) c.bid
 
+-- the amount of the bid that a choice names; 0 if there is no such bid
 abbrev pub amount_of : Book → Choice → ℕ
 amount_of book c = option_map_or (λ x. x.amount) (bid_of book c) 0
 
+-- how many lots of a category the bid that a choice names asks for; 0 if there is no such bid
 abbrev pub quantity_of : Book → ℕ → Choice → ℕ
 quantity_of book category c = option_map_or (λ x. slice_index x.package category) (bid_of book c) 0
 

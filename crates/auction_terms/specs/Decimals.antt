@@ -11,9 +11,11 @@ use Rattle.auction_terms.specs.declared.decimals.NumberFault.TheVariants.{Number
 abbrev pub is_exponent_mark : ℕ → Bool
 is_exponent_mark b = (b == 101) || (b == 69)
 
+-- whether a text begins with a minus sign
 abbrev pub is_minus : List ℕ → Bool
 is_minus token = slice_index token 0 == 45
 
+-- a text without the plus or minus sign that it may begin with
 abbrev pub without_sign : List ℕ → List ℕ
 without_sign token = drop (if is_minus token || (slice_index token 0 == 43) then 1 else 0) token
 
@@ -29,6 +31,7 @@ fraction_digits token = after_first (λ b. b == 46) (mantissa token)
 abbrev pub exponent_text : List ℕ → List ℕ
 exponent_text token = after_first is_exponent_mark (without_sign token)
 
+-- the exponent without its sign
 abbrev pub exponent_digits : List ℕ → List ℕ
 exponent_digits token = without_sign (exponent_text token)
 
@@ -36,6 +39,7 @@ exponent_digits token = without_sign (exponent_text token)
 abbrev pub digits_of_token : List ℕ → List ℕ
 digits_of_token token = before_first (λ b. b == 46) (mantissa token) ++ fraction_digits token
 
+-- whether a text is a number token: it has at least one digit before or after the point, and if it has an exponent mark at least one digit after that
 abbrev pub is_number_token : List ℕ → Bool
 is_number_token token =
     nat_lt 0 (length (digits_of_token token)) && (list_all is_ascii_digit (digits_of_token token)
@@ -50,9 +54,11 @@ is_too_long token =
 abbrev pub scaled_up : List ℕ → ℕ
 scaled_up token = digits_value 10 (digits_of_token token) * 10 ^ (if is_minus (exponent_text token) then 0 else digits_value 10 (exponent_digits token))
 
+-- what scaled_up is divided by to get the value: a ten for each digit after the point, and as many more as a negative exponent says
 abbrev pub scale : List ℕ → ℕ
 scale token = 10 ^ (length (fraction_digits token) + (if is_minus (exponent_text token) then digits_value 10 (exponent_digits token) else 0))
 
+-- the whole number with this absolute value, negative if so stated
 abbrev pub signed : Bool → ℕ → ℤ
 signed negative n = if negative then neg_ℤ (pos n) else pos n
 

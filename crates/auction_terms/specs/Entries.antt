@@ -9,6 +9,7 @@ use Rattle.auction_terms.specs.declared.rules.Bidder.{Bidder}
 use Rattle.auction_terms.specs.declared.rules.Category.{Category}
 use Rattle.auction_terms.specs.declared.rules.Pool.{Pool}
 
+-- the categories, bidders, pools and members of pools that records of the rules describe
 pub record Entries : Type 0 where
   pub categories : List Category
   pub bidders : List Bidder

@@ -5,6 +5,7 @@ use Rattle.auction_terms.specs.declared.groups_text.GroupFault.TheVariants as gr
 use Rattle.auction_terms.specs.declared.rules_text.RulesFault.{RulesFault}
 use Rattle.auction_terms.specs.declared.rules_text.RulesFault.TheVariants as rules
 
+-- the number of the record in which a fault of the rules is; 0 if it concerns no single record
 abbrev pub rules_place : RulesFault → ℕ
 rules_place rules.TooLarge = 0
 rules_place (rules.Header place) = place
@@ -20,6 +21,7 @@ rules_place (rules.NoBidder place) = place
 rules_place rules.OutOfMemory = 0
 rules_place (rules.NameUnknown place) = place
 
+-- the number of the line in which a fault of the groups is; 0 if it concerns no single line
 abbrev pub group_place : GroupFault → ℕ
 group_place groups.TooLarge = 0
 group_place (groups.EmptyLine place) = place

@@ -3,6 +3,7 @@ use Rattle.std.specs.Prelude.{◌++◌, ℕ, List, codes, decimal}
 use Rattle.auction_terms.specs.declared.groups_text.GroupFault.{GroupFault}
 use Rattle.auction_terms.specs.declared.groups_text.GroupFault.TheVariants as fault
 
+-- the words printed for a fault of the groups, with the number of the line if it is in one
 abbrev pub group_fault_text : GroupFault → List ℕ
 group_fault_text fault.TooLarge = codes "1 TooLarge"
 group_fault_text (fault.EmptyLine place) = codes "2 EmptyLine at line " ++ decimal place

@@ -3,6 +3,7 @@ pub mod Decimals
 pub mod Tokens
 pub mod FirstFault
 pub mod AllFaults
+pub mod Judged
 pub mod Accepted
 pub mod Stages
 pub mod Records
@@ -26,7 +27,7 @@ pub mod Bids
 pub mod Groups
 pub mod GroupNames
 pub mod GroupsText
-pub mod AllGroupFaults
+pub mod AcceptedGroups
 pub mod RulesFaultText
 pub mod GroupFaultText
 pub mod FaultPlaces

@@ -42,7 +42,7 @@ pub record IsOffer (lots : Lots) (o : Offer) : Type 0 where
   pub number_to : o.number ≤ MOST_BIDS
   pub bid : IsBid lots o.bid
 
--- by bidder, then by the number of the bid
+-- one offer comes before another: by bidder, then by the number of the bid
 abbrev pub IsBefore : Offer → Offer → Type 0
 IsBefore o later = (o.bidder < later.bidder) ⊎ ((o.bidder ≡ later.bidder) × (o.number < later.number))
 

@@ -9,7 +9,7 @@ pub record IsPackage (quantities : List ℕ) : Type 0 where
   pub few : length quantities ≤ MOST_CATEGORIES
   pub each : All (λ quantity. quantity ≤ GREATEST_QUANTITY) quantities
 
--- at most in every category
+-- whether one package has at most the other's quantity in every category
 abbrev pub is_within : List ℕ → List ℕ → Bool
 is_within [] q = true
 is_within (x ∷ p) [] = nat_le x 0 && is_within p []
@@ -66,6 +66,6 @@ left (n ∷ supply) (x ∷ q) = (n - x) ∷ left supply q
 abbrev pub SmallerLoadsNoMore : Type 0
 SmallerLoadsNoMore = (pool : WeightedCap) (p q : List ℕ) → is_within p q ≡ true → weighed pool.weights p ≤ weighed pool.weights q
 
--- and it fits where the greater one does
+-- a package that is at most another one in every category fits if the other one fits
 abbrev pub SmallerFits : Type 0
 SmallerFits = (lots : Lots) (p q : List ℕ) → is_within p q ≡ true → fits lots q ≡ true → fits lots p ≡ true

@@ -3,6 +3,7 @@ use Rattle.std.specs.Prelude.{◌++◌, ℕ, List, codes, decimal}
 use Rattle.auction_terms.specs.declared.rules_text.RulesFault.{RulesFault}
 use Rattle.auction_terms.specs.declared.rules_text.RulesFault.TheVariants as fault
 
+-- the words printed for a fault of the rules, with the number of the record if it is in one
 abbrev pub rules_fault_text : RulesFault → List ℕ
 rules_fault_text fault.TooLarge = codes "1 TooLarge"
 rules_fault_text (fault.Header place) = codes "2 Header at record " ++ decimal place

@@ -27,11 +27,11 @@ first_number k = 3
 abbrev pub number_missing : Version → Record → RecordKind → Option (ℕ × (List ℕ × ℕ × ℕ))
 number_missing v r k = first_failing (λ n. is_some (number_of n.0)) (first_number k) (entry_numbers v r k)
 
--- the first one whose number is outside its limits
+-- the first field of an entry whose number is outside its limits, with its text and the limits
 abbrev pub number_outside : Version → Record → RecordKind → Option (ℕ × (List ℕ × ℕ × ℕ))
 number_outside v r k = first_failing (λ n. is_between n.1 n.2 (parsed_numeral n.0)) (first_number k) (entry_numbers v r k)
 
--- and its limits
+-- the first field of an entry whose number is outside its limits, with the least and the greatest number that it may have
 abbrev pub limits_outside : Version → Record → RecordKind → Option NumberLimits
 limits_outside v r k = option_map (λ (n : ℕ × (List ℕ × ℕ × ℕ)). record { field = n.0; least = n.1.1; greatest = n.1.2 }) (number_outside v r k)
 

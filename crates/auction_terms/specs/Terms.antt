@@ -8,6 +8,7 @@ use Rattle.auction_terms.specs.declared.limits.TheConstants.{GREATEST_AMOUNT, GR
 use Rattle.auction_terms.specs.declared.limits.TheConstants.{GREATEST_VALUE, GREATEST_WEIGHT, MOST_BIDDERS, MOST_CATEGORIES}
 use Rattle.auction_terms.specs.declared.limits.TheConstants.{MOST_POOLS, MOST_SESSIONS}
 
+-- the rules of an auction: the step of which every amount is a multiple, the categories, the bidders and the pools
 pub record Terms : Type 0 where
   pub step : ℕ
   pub categories : List Category

@@ -14,6 +14,7 @@ places_up token = if is_minus (exponent_text token) then 0 else digits_value 10 
 abbrev pub places_down : List ℕ → ℕ
 places_down token = length (fraction_digits token) + (if is_minus (exponent_text token) then digits_value 10 (exponent_digits token) else 0)
 
+-- the exact parts of a number token: its sign, its digits as one number, and the powers of ten in its numerator and its denominator
 abbrev pub parts_of : List ℕ → TokenParts
 parts_of token = record { minus = is_minus token; digits = digits_value 10 (digits_of_token token); up = places_up token; down = places_down token }
 

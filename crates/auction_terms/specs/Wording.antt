@@ -3,6 +3,7 @@ use Rattle.std.specs.Prelude.{◌++◌, List, ℕ, decimal}
 use Rattle.auction_terms.specs.declared.wording.Wording.{Wording}
 use Rattle.auction_terms.specs.declared.wording.Wording.TheVariants.{Words, Number, Between, Numbers}
 
+-- the text of a wording: its words, with its numbers as decimals in their places
 abbrev pub wording_text : Wording → List ℕ
 wording_text (Words words) = words.now
 wording_text (Number words n) = words.now ++ decimal n

@@ -1,17 +1,18 @@
 //! The text of the bidder groups.
 
-ghost use Rattle.std.specs.Prelude.{◌≡◌, ◌≤◌, ◌<◌, Err, [], ◌∷◌, IfErr, IfOk, OnOk, length, map, not, None, Some};
+ghost use Rattle.std.specs.Prelude.{◌++◌, if◌then◌else◌, nat_le, ◌≡◌, ◌≤◌, ◌<◌, ◌∷◌, Err, [], IfErr, IfOk, OnOk, length, map, option_map, option_to_list, Some};
 ghost use Rattle.std.specs.List.{list_any};
 ghost use Rattle.std.specs.Str.{bytes_eq};
-ghost use Rattle.auction_terms.specs.FirstFault.{first_failed, first_fault};
+ghost use Rattle.auction_terms.specs.AllFaults.{accepted_with, all_faults};
+ghost use Rattle.auction_terms.specs.FirstFault.{first_failed};
+ghost use Rattle.auction_terms.specs.Judged.{Holds, HoldsMore, fault_at};
 ghost use Rattle.auction_terms.specs.Lines.{bytes_of, lines_of};
-ghost use Rattle.auction_terms.specs.GroupsText.{group_of, groups_of, is_groups_memory, group_line_fault, line_checks, name_fault, room_checks};
-ghost use Rattle.auction_terms.specs.inside.GroupsText.{fault_of_line, numbers_from};
+ghost use Rattle.auction_terms.specs.GroupsText.{group_faults, group_of, groups_of, is_groups_memory, line_checks, line_faults, name_checks, name_faults, names_faults, room_checks};
+ghost use Rattle.auction_terms.specs.inside.GroupsText.{numbers_from};
 ghost use Rattle.auction_terms.specs.Stages.{Answers};
-ghost use Rattle.auction_terms.specs.inside.FirstFault.{Tells, TellsFault};
 ghost use Rattle.auction_terms.specs.GroupNames.{names_in};
-ghost use Rattle.auction_terms.specs.Groups.{IsGroup};
-ghost use Rattle.auction_terms.specs.declared.limits.TheConstants.{MOST_BIDDERS};
+ghost use Rattle.auction_terms.specs.Groups.{AreGroups, IsGroup};
+ghost use Rattle.auction_terms.specs.declared.limits.TheConstants.{MOST_BIDDERS, MOST_FAULTS, MOST_GROUPS};
 ghost use Rattle.auction_terms.specs.FaultPlaces.{group_place};
 ghost use Rattle.auction_terms.specs.GroupFaultText.{group_fault_text};
 ghost use Rattle.auction_terms.specs.Wording.{wording_text};
@@ -20,7 +21,8 @@ ghost use Rattle.auction_terms.specs.declared.groups_text.GroupFault.TheVariants
 use crate::group_list::Groups;
 use crate::group_names::NameReader;
 use crate::groups::Group;
-use crate::limits::{MOST_GROUPS, TEXT_LIMIT};
+use crate::judge::All;
+use crate::limits::{MOST_FAULTS, MOST_GROUPS, TEXT_LIMIT};
 use crate::lines::LineReader;
 use crate::rules::{Bidder, Rules};
 use crate::wording::Wording;
@@ -104,13 +106,8 @@ fn is_among(names: &[&[u8]], name: &[u8]) -> bool
 }
 
 // The fault of a name that no bidder has, or that stood before.
-pub(crate) fn name_fault(
-    place: u32,
-    bidders: &[Bidder],
-    before: &[&[u8]],
-    name: &[u8],
-) -> Option<GroupFault>
-    ensures { result ≡ name_fault bidders.now place (bytes_of before.now) name.now }
+fn name_fault(place: u32, bidders: &[Bidder], before: &[&[u8]], name: &[u8]) -> Option<GroupFault>
+    ensures { result ≡ first_failed (name_checks bidders.now place (bytes_of before.now) name.now) }
 {
     if !is_known(bidders, name) {
         return Some(GroupFault::UnknownBidder { place });
@@ -122,7 +119,7 @@ pub(crate) fn name_fault(
 }
 
 // The fault of a line without a byte.
-pub(crate) fn empty_fault(place: u32, line: &[u8]) -> Option<GroupFault>
+fn empty_fault(place: u32, line: &[u8]) -> Option<GroupFault>
     ensures { result ≡ first_failed (line_checks place line.now) }
 {
     if line.is_empty() {
@@ -132,7 +129,7 @@ pub(crate) fn empty_fault(place: u32, line: &[u8]) -> Option<GroupFault>
 }
 
 // The fault of a line after the last one that may be.
-pub(crate) fn room_fault(place: u32) -> Option<GroupFault>
+fn room_fault(place: u32) -> Option<GroupFault>
     ensures { result ≡ first_failed (room_checks place) }
 {
     if place > MOST_GROUPS {
@@ -141,37 +138,74 @@ pub(crate) fn room_fault(place: u32) -> Option<GroupFault>
     None
 }
 
-// Tests that there is no fault.
-fn check_none(fault: Option<GroupFault>) -> Result<(), GroupFault>
-    ensures none { OnOk result (fault ≡ None) }
-    ensures one { IfErr result (λ f. fault ≡ Some f) }
+// Adds the fault of a name, or adds the name to the accepted ones.
+fn read_name<'t>(
+    faults: &mut All<'t, GroupFault>,
+    accepted: &mut Vec<&'t [u8]>,
+    place: u32,
+    number: usize,
+    bidders: &[Bidder],
+    name: &'t [u8],
+) -> Result<(), AllocError>
+    ensures told { OnOk result (HoldsMore faults.old faults.new
+        (name_faults bidders.now place number (bytes_of accepted.old.items) name.now)) }
+    ensures accepted { OnOk result (bytes_of accepted.new.items
+        ≡ accepted_with (name_faults bidders.now place number (bytes_of accepted.old.items)
+        name.now) (bytes_of accepted.old.items) name.now) }
 {
-    match fault {
-        Some(fault) => Err(fault),
-        None => Ok(()),
+    if let Some(fault) = name_fault(place, bidders, accepted, name) {
+        return faults.add(number, name, fault);
     }
+    if accepted.push(name).is_err() {
+        return Err(AllocError);
+    }
+    Ok(())
 }
 
-// The names of a line.
-fn read_names<'a>(
+// The accepted names of a line.
+fn read_names<'t>(
     alloc: Global,
+    faults: &mut All<'t, GroupFault>,
     place: u32,
     bidders: &[Bidder],
-    line: &'a [u8],
-) -> Result<Vec<&'a [u8]>, GroupFault>
-    ensures answer { TellsFault is_groups_memory result
-        (first_fault (name_fault bidders.now place) [] (names_in line.now)) }
-    ensures names { IfOk result (λ names. map (λ name. name.now) names.items ≡ names_in line.now) }
+    line: &'t [u8],
+) -> Result<Vec<&'t [u8]>, AllocError>
+    ensures told { OnOk result (HoldsMore faults.old faults.new
+        (all_faults (name_faults bidders.now place) 1 [] (names_in line.now))) }
+    ensures names { IfOk result (λ names.
+        all_faults (name_faults bidders.now place) 1 [] (names_in line.now) ≡ []
+        → bytes_of names.items ≡ names_in line.now) }
 {
-    let mut names = Vec::new(alloc);
+    let mut accepted = Vec::new(alloc);
     let mut reader = NameReader::new(line);
+    let mut number = 1;
     while let Some(name) = reader.next() {
-        check_none(name_fault(place, bidders, &names, name))?;
-        if names.push(name).is_err() {
-            return Err(GroupFault::OutOfMemory);
-        }
+        read_name(faults, &mut accepted, place, number, bidders, name)?;
+        number += 1;
     }
-    Ok(names)
+    Ok(accepted)
+}
+
+// The same, of a line that may be empty.
+fn read_some<'t>(
+    alloc: Global,
+    faults: &mut All<'t, GroupFault>,
+    place: u32,
+    bidders: &[Bidder],
+    line: &'t [u8],
+) -> Result<Vec<&'t [u8]>, AllocError>
+    ensures told { OnOk result (HoldsMore faults.old faults.new
+        (names_faults bidders.now place line.now)) }
+    ensures names { IfOk result (λ names. names_faults bidders.now place line.now ≡ []
+        → bytes_of names.items ≡ names_in line.now) }
+{
+    match empty_fault(place, line) {
+        Some(fault) => {
+            faults.add(0, line, fault)?;
+            Ok(Vec::new(alloc))
+        }
+        None => read_names(alloc, faults, place, bidders, line),
+    }
 }
 
 // The numbers of the bidders that the names name.
@@ -191,23 +225,63 @@ fn numbers_of(alloc: Global, bidders: &[Bidder], names: &[&[u8]]) -> Result<Vec<
 }
 
 // The group of a line.
-fn read_group(
+fn read_group<'t>(
     alloc: Global,
+    faults: &mut All<'t, GroupFault>,
     place: u32,
     bidders: &[Bidder],
-    line: &[u8],
-) -> Result<Group, GroupFault>
+    line: &'t [u8],
+) -> Result<Group, AllocError>
     requires { length bidders.now ≤ MOST_BIDDERS }
-    ensures answer { Tells is_groups_memory result (fault_of_line bidders.now place line.now)
-        (group_of bidders.now line.now) }
-    ensures room { OnOk result (place ≤ MOST_GROUPS) }
-    ensures group { IfOk result IsGroup }
+    ensures told { OnOk result (HoldsMore faults.old faults.new
+        (line_faults bidders.now place line.now)) }
+    ensures group { IfOk result (λ group. line_faults bidders.now place line.now ≡ []
+        → group ≡ group_of bidders.now line.now) }
+    ensures numbers { IfOk result IsGroup }
 {
-    check_none(empty_fault(place, line))?;
-    let names = read_names(alloc, place, bidders, line)?;
-    check_none(room_fault(place))?;
+    let names = read_some(alloc, faults, place, bidders, line)?;
+    if let Some(fault) = room_fault(place) {
+        faults.add(0, line, fault)?;
+    }
     let numbers = numbers_of(alloc, bidders, &names)?;
     Ok(Group::new(numbers))
+}
+
+// Adds a group, if there may be one more.
+fn add_group(groups: &mut Vec<Group>, place: u32, group: Group) -> Result<(), AllocError>
+    ensures { OnOk result (groups.new.items ≡ (if nat_le place MOST_GROUPS
+        then groups.old.items ++ group ∷ [] else groups.old.items)) }
+{
+    if place <= MOST_GROUPS {
+        groups.push(group)?;
+    }
+    Ok(())
+}
+
+// Adds each fault of a text. Where there is none, these are its groups.
+fn judge_groups<'t>(
+    alloc: Global,
+    faults: &mut All<'t, GroupFault>,
+    bytes: &'t [u8],
+    bidders: &[Bidder],
+) -> Result<Vec<Group>, AllocError>
+    requires few { length bidders.now ≤ MOST_BIDDERS }
+    requires short { length bytes.now ≤ TEXT_LIMIT }
+    ensures told { OnOk result (HoldsMore faults.old faults.new
+        (group_faults bidders.now bytes.now)) }
+    ensures groups { IfOk result (λ groups. group_faults bidders.now bytes.now ≡ []
+        → groups.items ≡ map (group_of bidders.now) (lines_of bytes.now)) }
+    ensures limits { IfOk result (λ groups. AreGroups groups.items) }
+{
+    let mut groups = Vec::new(alloc);
+    let mut lines = LineReader::new(bytes);
+    let mut place = 1u32;
+    while let Some(line) = lines.next() {
+        let group = read_group(alloc, faults, place, bidders, line)?;
+        add_group(&mut groups, place, group)?;
+        place += 1;
+    }
+    Ok(groups)
 }
 
 /// Reads bidder groups, under rules.
@@ -219,16 +293,31 @@ pub fn read_groups(alloc: Global, bytes: &[u8], rules: &Rules) -> Result<Groups,
     if bytes.len() > TEXT_LIMIT {
         return Err(GroupFault::TooLarge);
     }
-    let bidders = rules.bidders();
-    let mut groups = Vec::new(alloc);
-    let mut lines = LineReader::new(bytes);
-    let mut count = 0u32;
-    while let Some(line) = lines.next() {
-        let group = read_group(alloc, count + 1, bidders, line)?;
-        if groups.push(group).is_err() {
-            return Err(GroupFault::OutOfMemory);
-        }
-        count += 1;
+    let mut faults = All::new(alloc, 1);
+    let groups = judge_groups(alloc, &mut faults, bytes, rules.bidders())?;
+    match faults.kept.as_slice() {
+        [] => Ok(Groups::new(groups)),
+        [first, ..] => Err(first.fault),
     }
-    Ok(Groups::new(groups))
+}
+
+/// All faults of a text of groups, under rules.
+pub fn group_faults<'t>(
+    alloc: Global,
+    bytes: &'t [u8],
+    rules: &Rules,
+) -> Result<All<'t, GroupFault>, AllocError>
+    ensures too_large { TEXT_LIMIT < length bytes.now
+        → IfOk result (λ all. Holds MOST_FAULTS all (fault_at 0 [] fault.TooLarge ∷ [])) }
+    ensures all { length bytes.now ≤ TEXT_LIMIT
+        → IfOk result (λ all. Holds MOST_FAULTS all
+        (group_faults rules.now.bidders bytes.now)) }
+{
+    let mut all = All::new(alloc, MOST_FAULTS);
+    if bytes.len() > TEXT_LIMIT {
+        all.add(0, b"", GroupFault::TooLarge)?;
+        return Ok(all);
+    }
+    judge_groups(alloc, &mut all, bytes, rules.bidders())?;
+    Ok(all)
 }

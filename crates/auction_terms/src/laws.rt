@@ -1,12 +1,12 @@
 //! Laws over the definitions alone: which fault is the first, what presolve may drop so that nothing is lost, and the limits, each with its number.
 
-ghost use Rattle.std.specs.Prelude.{◌≡◌, ℕ, List, Some};
+ghost use Rattle.std.specs.Prelude.{◌≡◌, ◌↔◌, ℕ, List, [], Some};
 ghost use Rattle.auction_terms.specs.Accepted.{AreOfItems, StaysFaultless};
 ghost use Rattle.auction_terms.specs.AcceptedRules.{RulesFaultsAreOfRecords};
 ghost use Rattle.auction_terms.specs.FirstFault.{TellsTheFirst};
 ghost use Rattle.auction_terms.specs.AllFaults.{AreFaultsOf};
-ghost use Rattle.auction_terms.specs.AllGroupFaults.{all_group_faults, all_line_faults, fault_of_name};
-ghost use Rattle.auction_terms.specs.GroupsText.{group_line_fault, groups_of, name_fault};
+ghost use Rattle.auction_terms.specs.GroupsText.{group_faults, line_faults, name_faults};
+ghost use Rattle.auction_terms.specs.AcceptedGroups.{AreGroupLines};
 ghost use Rattle.auction_terms.specs.Packages.{SmallerFits, SmallerLoadsNoMore};
 ghost use Rattle.auction_terms.specs.Allocations.{LoadsAddUp, TotalsAreNets};
 ghost use Rattle.auction_terms.specs.Domination.{SmallerSizesSuffice};
@@ -27,26 +27,10 @@ pub fn records_of_rules_tell_their_first_fault()
     ensures { (version : Version) → TellsTheFirst (entry_fault version) }
 {}
 
-/// And so have the lines of a text of groups.
-pub fn lines_of_groups_tell_their_first_fault()
-    ensures { (bidders : List Bidder) → TellsTheFirst (group_line_fault bidders) }
-{}
-
-/// And so have the names in a line of groups.
-pub fn names_of_a_group_tell_their_first_fault()
-    ensures { (bidders : List Bidder) (line : ℕ) → TellsTheFirst (name_fault bidders line) }
-{}
-
 /// All faults of a text of rules begin with the first one, and where there is none there is no first one.
 pub fn all_faults_of_rules_begin_with_the_first()
     ensures { (records : List Record) → AreFaultsOf (all_rules_faults records)
         (rules_of_records records) }
-{}
-
-/// All faults of a text of groups begin with the first one, and where there is none there is no first one.
-pub fn all_faults_of_groups_begin_with_the_first()
-    ensures { (bidders : List Bidder) (text : List ℕ)
-        → AreFaultsOf (all_group_faults bidders text) (groups_of bidders text) }
 {}
 
 /// Each fault that is reported of a list, whatever its items are checked for, is one that an item has by the accepted ones before it; these have none.
@@ -62,15 +46,21 @@ pub fn faults_of_rules_are_of_their_records()
     ensures records { (version : Version) → AreOfItems (fault_of_entry version) }
 {}
 
+/// A text of groups has no fault exactly if each of its lines may be one of them.
+pub fn accepted_groups_are_these()
+    ensures { (bidders : List Bidder) (text : List ℕ)
+        → group_faults bidders text ≡ [] ↔ AreGroupLines bidders text }
+{}
+
 /// The faults of groups are those of their lines, each by itself.
 pub fn faults_of_groups_are_of_their_lines()
     ensures { (bidders : List Bidder) → AreOfItems (λ place before line.
-        all_line_faults bidders place line) }
+        line_faults bidders place line) }
 {}
 
 /// The faults of the names in a line of groups are those of the names, by the accepted ones before them.
 pub fn faults_of_a_group_are_of_its_names()
-    ensures { (bidders : List Bidder) (line : ℕ) → AreOfItems (fault_of_name bidders line) }
+    ensures { (bidders : List Bidder) (line : ℕ) → AreOfItems (name_faults bidders line) }
 {}
 
 /// A package that is at most another loads no pool more.

@@ -25,13 +25,13 @@ mod choices;
 mod decimals;
 mod draft;
 mod faults;
-mod faulty_groups;
 mod faulty_rules;
 mod fractions;
 mod group_list;
 mod group_names;
 mod groups;
 mod groups_text;
+mod judge;
 pub mod laws;
 mod limits;
 mod line_fields;
@@ -55,13 +55,13 @@ pub use bids::{Bid, Kept, KeptBid};
 pub use choices::Choice;
 pub use decimals::{NumberFault, read_number, scaled};
 pub use faults::{Faults, Found};
-pub use faulty_groups::group_faults;
 pub use faulty_rules::rules_faults;
 pub use fractions::{Fraction, gcd, in_parts, lcm, read_fraction};
 pub use group_list::Groups;
 pub use group_names::NameReader;
 pub use groups::Group;
-pub use groups_text::{GroupFault, read_groups};
+pub use groups_text::{GroupFault, group_faults, read_groups};
+pub use judge::{All, FaultAt};
 pub use limits::{
     GREATEST_AMOUNT, GREATEST_POINTS, GREATEST_QUANTITY, GREATEST_VALUE, GREATEST_WEIGHT,
     MOST_BIDDERS, MOST_BIDS, MOST_CATEGORIES, MOST_FAULTS, MOST_GROUPS, MOST_PARTS, MOST_POOLS,

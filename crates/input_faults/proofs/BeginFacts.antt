@@ -3,14 +3,15 @@ use Rattle.std.proofs.Common.{◌≡◌, ◌+◌, ◌++◌, ◌∷◌, ◌∙◌
 use Rattle.std.proofs.lemmas.List.{map-append}
 use Rattle.std.specs.Prelude.{Bool, true, false, if◌then◌else◌, nat_lt}
 use Rattle.auction_terms.specs.AllFaults.{AreFaultsOf, accepted_with, all_faults, found}
+use Rattle.auction_terms.specs.Judged.{Fault, fault_at}
 use Rattle.auction_terms.specs.Stages.{and_then, each_in_turn, refused_as, unless}
 use Rattle.auction_terms.specs.declared.faults.Found.{Found}
 use Rattle.auction_terms.specs.declared.limits.TheConstants.{TEXT_LIMIT}
-use Rattle.input_faults.specs.FaultsAs.{fault_as, faults_as, faults_of_sized}
+use Rattle.input_faults.specs.FaultsAs.{BeginWith, fault_as, faults_of_sized, judged_as}
 
 -- where a value is parsed there is no fault
-pub none-reported : {A F G : Type 0} (whole : F → G) (faults : List (Found F)) (reported : Result A G) (x : A)
-    → AreFaultsOf (faults_as whole faults) reported → reported ≡ Ok x → faults ≡ []
+pub none-reported : {A F G : Type 0} (whole : F → G) (faults : List (Fault F)) (reported : Result A G) (x : A)
+    → BeginWith (judged_as whole faults) reported → reported ≡ Ok x → faults ≡ []
 none-reported whole [] reported x are is = refl
 none-reported whole (at ∷ more) (Ok y) x are is = cc
 none-reported whole (at ∷ more) (Err f) x are is = cc
@@ -26,33 +27,34 @@ begin-sized {A} {F} too_large text faults reported are = by (nat_lt TEXT_LIMIT (
 
 -- one fault, if there is one
 pub begin-fault : {A F G H : Type 0} (part : F → G) (whole : G → H) (fault : Option F) (x : A)
-    → AreFaultsOf (faults_as whole (fault_as part fault)) (refused_as (λ f. whole (part f)) (unless fault (Ok x)))
+    → BeginWith (judged_as whole (fault_as part fault)) (refused_as (λ f. whole (part f)) (unless fault (Ok x)))
 begin-fault part whole None x = refl
-begin-fault part whole (Some f) x = (0, [], refl)
+begin-fault part whole (Some f) x = (0, [], [], refl)
 
 -- a stage, and what is reported after it
-pub begin-next : {A B F G : Type 0} (whole : F → G) (some others : List (Found F)) (reported : Result A G) (next : A → Result B G)
-    → AreFaultsOf (faults_as whole some) reported
-    → ((x : A) → reported ≡ Ok x → AreFaultsOf (faults_as whole others) (next x)) → AreFaultsOf (faults_as whole (some ++ others)) (and_then reported next)
+pub begin-next : {A B F G : Type 0} (whole : F → G) (some others : List (Fault F)) (reported : Result A G) (next : A → Result B G)
+    → BeginWith (judged_as whole some) reported
+    → ((x : A) → reported ≡ Ok x → BeginWith (judged_as whole others) (next x)) → BeginWith (judged_as whole (some ++ others)) (and_then reported next)
 begin-next whole [] others (Ok x) next are after = after x refl
 begin-next whole (at ∷ some) others (Ok x) next are after = cc
-begin-next whole some others (Err f) next (field, more, are) after = (
+begin-next whole some others (Err f) next (field, text, more, are) after = (
   field,
-  more ++ faults_as whole others,
-  map-append (λ at. found at.field (whole at.fault)) some others ∙ ap (λ faults. faults ++
-      faults_as whole others) are,
+  text,
+  more ++ judged_as whole others,
+  map-append (λ at. fault_at at.field at.text (whole at.fault)) some others ∙ ap (λ faults. faults ++
+      judged_as whole others) are,
 )
 
 -- the same faults, where more is made of what is reported
-pub begin-more : {A B F : Type 0} (faults : List (Found F)) (reported : Result A F) (make : A → B) → AreFaultsOf faults reported
-    → AreFaultsOf faults (and_then reported (λ x. Ok (make x)))
+pub begin-more : {A B F : Type 0} (faults : List (Fault F)) (reported : Result A F) (make : A → B) → BeginWith faults reported
+    → BeginWith faults (and_then reported (λ x. Ok (make x)))
 begin-more faults (Ok x) make are = are
 begin-more faults (Err f) make are = are
 
 -- items one after the other
-pub begin-each : {X A F G : Type 0} (whole : F → G) (faults_of : ℕ → X → List (Found F)) (parse : ℕ → X → Result A G)
-    → ((n : ℕ) (x : X) → AreFaultsOf (faults_as whole (faults_of n x)) (parse n x))
-    → (n : ℕ) (before items : List X) → AreFaultsOf (faults_as whole (all_faults (λ k accepted x. faults_of k x) n before items)) (each_in_turn parse n items)
+pub begin-each : {X A F G : Type 0} (whole : F → G) (faults_of : ℕ → X → List (Fault F)) (parse : ℕ → X → Result A G)
+    → ((n : ℕ) (x : X) → BeginWith (judged_as whole (faults_of n x)) (parse n x))
+    → (n : ℕ) (before items : List X) → BeginWith (judged_as whole (all_faults (λ k accepted x. faults_of k x) n before items)) (each_in_turn parse n items)
 unfolding all_faults
 begin-each whole faults_of parse each n before [] = refl
 begin-each {X} {A} {F} {G} whole faults_of parse each n before (x ∷ items) =

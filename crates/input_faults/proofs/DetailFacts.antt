@@ -3,39 +3,39 @@ use Rattle.std.proofs.Common.{◌≡◌, ◌++◌, ◌∷◌, ℕ, List, [], Opt
 use Rattle.auction_input.specs.declared.wanted.Unmet.{Unmet}
 use Rattle.auction_terms.specs.Records.{Record, records_of}
 use Rattle.auction_terms.specs.Terms.{Terms}
-use Rattle.auction_terms.specs.declared.faults.Found.{Found}
+use Rattle.auction_terms.specs.Judged.{Fault as Judged}
 use Rattle.auction_terms.specs.declared.groups_text.GroupFault.{GroupFault}
 use Rattle.auction_terms.specs.declared.rules_text.RulesFault.{RulesFault}
 use Rattle.bid_forms.specs.RowNumbers.{parsed_eligibility, form_place}
 use Rattle.bid_forms.specs.declared.form_text.FormFault.{FormFault}
 use Rattle.input_faults.specs.Details.{form_fault_message}
 use Rattle.input_faults.specs.FaultLines.{fault_line}
-use Rattle.input_faults.specs.TextDetails.{detail_in_rules, detail_under, numbered, within_limit}
+use Rattle.input_faults.specs.TextDetails.{detail_in_rules_at, detail_under_at, numbered, within_limit}
 use Rattle.input_faults.specs.declared.fault.Fault.{Fault}
 use Rattle.input_faults.specs.declared.fault.Fault.TheVariants as fault
 
-pub line-with : (message_of : Fault → List ℕ) (detail_of : ℕ → Fault → List ℕ) (at : Found Fault) (reported : List ℕ)
-    → reported ≡ detail_of at.field at.fault → message_of at.fault ++ (reported ++ 10 ∷ []) ≡ fault_line message_of detail_of at
+pub line-with : (message_of : Fault → List ℕ) (detail_of : Judged Fault → List ℕ) (at : Judged Fault) (reported : List ℕ)
+    → reported ≡ detail_of at → message_of at.fault ++ (reported ++ 10 ∷ []) ≡ fault_line message_of detail_of at
 line-with message_of detail_of at reported is = ap (λ (d : List ℕ). message_of at.fault ++ (d ++ 10 ∷ [])) is
 
-pub form-known : (t : Terms) (forms : List (List ℕ)) (groups : List ℕ) (n number other place : ℕ) (reported : Fault) (f : FormFault)
+pub form-known : (t : Terms) (forms : List (List ℕ)) (n number other place : ℕ) (text : List ℕ) (reported : Fault) (f : FormFault)
     (most : Option ℕ) (row : Record) → reported ≡ fault.Form number f → other ≡ number
     → most ≡ parsed_eligibility t (numbered 1 (records_of (within_limit (numbered other forms)))) → place ≡ form_place f
     → row ≡ numbered place (records_of (within_limit (numbered other forms)))
-    → form_fault_message t most row n f ≡ detail_under t forms groups n reported
-form-known t forms groups n number other place reported f most row is same known at held = rw (is, known, held, at, same) refl
+    → form_fault_message t most row n f ≡ detail_under_at t forms n text reported
+form-known t forms n number other place text reported f most row is same known at held = rw (is, known, held, at, same) refl
 
 -- where the rules are refused nothing is reported of other faults
 pub of-no-rules : (records : List Record) (n : ℕ) (reported : Fault) → ((f : RulesFault) → reported ≡ fault.Rules f → ⊥)
-    → [] ≡ detail_in_rules records n reported
+    → [] ≡ detail_in_rules_at records n reported
 of-no-rules records n (fault.Rules f) not = absurd (not f refl)
 of-no-rules records n reported not = refl
 
 -- and where they are read, of faults of neither forms nor groups, nor of what a command wants
-pub of-neither : (t : Terms) (forms : List (List ℕ)) (groups : List ℕ) (n : ℕ) (reported : Fault)
+pub of-neither : (t : Terms) (forms : List (List ℕ)) (n : ℕ) (text : List ℕ) (reported : Fault)
     → ((number : ℕ) (f : FormFault) → reported ≡ fault.Form number f → ⊥) → ((f : GroupFault) → reported ≡ fault.Groups f → ⊥)
-    → ((u : Unmet) → reported ≡ fault.Unmet u → ⊥) → [] ≡ detail_under t forms groups n reported
-of-neither t forms groups n (fault.Form number f) no_form no_groups no_unmet = absurd (no_form number f refl)
-of-neither t forms groups n (fault.Groups f) no_form no_groups no_unmet = absurd (no_groups f refl)
-of-neither t forms groups n (fault.Unmet u) no_form no_groups no_unmet = absurd (no_unmet u refl)
-of-neither t forms groups n reported no_form no_groups no_unmet = refl
+    → ((u : Unmet) → reported ≡ fault.Unmet u → ⊥) → [] ≡ detail_under_at t forms n text reported
+of-neither t forms n text (fault.Form number f) no_form no_groups no_unmet = absurd (no_form number f refl)
+of-neither t forms n text (fault.Groups f) no_form no_groups no_unmet = absurd (no_groups f refl)
+of-neither t forms n text (fault.Unmet u) no_form no_groups no_unmet = absurd (no_unmet u refl)
+of-neither t forms n text reported no_form no_groups no_unmet = refl

@@ -1,6 +1,6 @@
 -- All faults of an input begin with the one that is reported.
 use Rattle.std.proofs.Common.{◌≡◌, ◌∙◌, ◌∷◌, ◌++◌, ℕ, Bool, true, false, List, [], Option, None, Some, Result, Ok, Err, ap, map, refl, subst, sym}
-use Rattle.std.specs.Prelude.{codes}
+use Rattle.std.specs.Prelude.{codes, if◌then◌else◌, length, nat_lt}
 use Rattle.auction_input.specs.Auction.{Auction}
 use Rattle.auction_input.specs.BookLeft.{sale_left}
 use Rattle.auction_input.specs.Calls.{one_too_many}
@@ -17,18 +17,20 @@ use Rattle.auction_input.specs.Plan.{miscounted}
 use Rattle.auction_input.specs.declared.part_kind.PartKind.{PartKind}
 use Rattle.auction_input.specs.declared.refusal.Refusal.{Refusal}
 use Rattle.auction_input.specs.declared.refusal.Refusal.TheVariants as refusal
-use Rattle.auction_terms.proofs.AllGroupFaultsFacts.{begin-groups}
 use Rattle.auction_terms.proofs.AllRulesFaultsFacts.{begin-rules}
 use Rattle.auction_terms.specs.AllFaults.{AreFaultsOf, all_failed, or_else}
-use Rattle.auction_terms.specs.AllGroupFaults.{all_group_faults}
 use Rattle.auction_terms.specs.AllRulesFaults.{all_rules_faults}
 use Rattle.auction_terms.specs.FirstFault.{first_failed, first_fault}
-use Rattle.auction_terms.specs.GroupsText.{groups_of}
+use Rattle.auction_terms.specs.GroupsText.{group_faults, groups_of}
+use Rattle.auction_terms.specs.Judged.{fault_at, first_or}
+use Rattle.auction_terms.specs.Judged.{Fault as Judged}
+use Rattle.auction_terms.specs.declared.limits.TheConstants.{TEXT_LIMIT}
 use Rattle.auction_terms.specs.Records.{records_of}
 use Rattle.auction_terms.specs.RulesText.{rules_of_records}
 use Rattle.auction_terms.specs.Stages.{and_then, each_in_turn, refused_as, unless}
 use Rattle.auction_terms.specs.Terms.{Terms}
 use Rattle.auction_terms.specs.declared.faults.Found.{Found}
+use Rattle.auction_terms.specs.declared.groups_text.GroupFault.{GroupFault}
 use Rattle.auction_terms.specs.declared.groups_text.GroupFault.TheVariants as groups
 use Rattle.auction_terms.specs.declared.rules_text.RulesFault.TheVariants as rules
 use Rattle.bid_forms.proofs.AllFormFaultsFacts.{begin-form}
@@ -37,7 +39,7 @@ use Rattle.bid_forms.specs.FormText.{form_of_records}
 use Rattle.bid_forms.specs.Offers.{Offers}
 use Rattle.bid_forms.specs.declared.form_text.FormFault.TheVariants as form
 use Rattle.input_faults.proofs.BeginFacts.{begin-each, begin-fault, begin-next, begin-sized}
-use Rattle.input_faults.specs.FaultsAs.{fault_as, faults_as}
+use Rattle.input_faults.specs.FaultsAs.{BeginWith, fault_as, faults_as, judged_as}
 use Rattle.input_faults.specs.InputFaults.{call_fault, faults_in_parts, faults_of_form, faults_of_forms, faults_of_groups}
 use Rattle.input_faults.specs.InputFaults.{faults_of_rules, faults_of_texts, faults_under, input_faults, refusal_of}
 use Rattle.input_faults.specs.InputFaults.{text_fault, unmet_faults, unmet_under, where_read}
@@ -49,22 +51,29 @@ use Rattle.auction_input.specs.declared.request.Target.{Target}
 
 -- faults of a text that are reported as refusals by way of those of the input
 by-fault : {A F : Type 0} (part : F → Fault) (faults : List (Found F)) (reported : Result A F) → AreFaultsOf faults reported
-    → AreFaultsOf (faults_as refusal_of (faults_as part faults)) (refused_as (λ f. refusal_of (part f)) reported)
-by-fault part faults (Ok x) are = ap (λ fs. faults_as refusal_of (faults_as part fs)) are
-by-fault part faults (Err f) (field, more, are) = (field, faults_as refusal_of (faults_as part more), ap (λ fs. faults_as refusal_of (faults_as part fs)) are)
+    → BeginWith (judged_as refusal_of (faults_as part faults)) (refused_as (λ f. refusal_of (part f)) reported)
+by-fault part faults (Ok x) are = ap (λ fs. judged_as refusal_of (faults_as part fs)) are
+by-fault part faults (Err f) (field, more, are) =
+    (field, [], judged_as refusal_of (faults_as part more), ap (λ fs. judged_as refusal_of (faults_as part fs)) are)
 
-pub begin-terms : (text : List ℕ) → AreFaultsOf (faults_as refusal_of (faults_of_rules text)) (parsed_terms text)
+pub begin-terms : (text : List ℕ) → BeginWith (judged_as refusal_of (faults_of_rules text)) (parsed_terms text)
 begin-terms text = by-fault fault.Rules _ _ (begin-sized rules.TooLarge text (all_rules_faults (records_of text))
     (rules_of_records (records_of text)) (begin-rules (records_of text)))
 
-pub begin-one-form : (t : Terms) (number : ℕ) (text : List ℕ) → AreFaultsOf (faults_as refusal_of (faults_of_form t number text)) (parsed_form t number text)
+pub begin-one-form : (t : Terms) (number : ℕ) (text : List ℕ) → BeginWith (judged_as refusal_of (faults_of_form t number text)) (parsed_form t number text)
 begin-one-form t number text =
     by-fault (fault.Form number) _ _ (begin-sized form.TooLarge text (all_form_faults t (records_of text))
     (form_of_records t (records_of text)) (begin-form t (records_of text)))
 
-begin-group-text : (t : Terms) (text : List ℕ) → AreFaultsOf (faults_as refusal_of (faults_of_groups t text)) (parsed_groups t text)
-begin-group-text t text = by-fault fault.Groups _ _ (begin-sized groups.TooLarge text (all_group_faults t.bidders text)
-    (groups_of t.bidders text) (begin-groups t.bidders text))
+begin-group-text : (t : Terms) (text : List ℕ) → BeginWith (judged_as refusal_of (faults_of_groups t text)) (parsed_groups t text)
+begin-group-text t text = by _ (nat_lt TEXT_LIMIT (length text)) (group_faults t.bidders text)
+  where
+    by : {A : Type 0} (value : A) (b : Bool) (faults : List (Judged GroupFault))
+        → BeginWith (judged_as refusal_of (judged_as fault.Groups (if b then fault_at 0 [] groups.TooLarge ∷ [] else faults)))
+        (refused_as refusal.Groups (if b then Err groups.TooLarge else first_or faults value))
+    by value true faults = (0, [], [], refl)
+    by value false [] = refl
+    by value false (f ∷ more) = (f.field, f.text, judged_as refusal_of (judged_as fault.Groups more), refl)
 
 -- what forms and groups describe under the rules
 module _ (last_wins : Bool) (numbers : List ℕ) where
@@ -75,44 +84,44 @@ module _ (last_wins : Bool) (numbers : List ℕ) where
       and_then (parsed_groups t groups) (λ lists. refused_as refusal.CallLimit (unless (first_fault one_too_many [] kept) (Ok (make kept lists))))))
 
   begin-under : (make : List Offers → List (List ℕ) → Auction) (forms : List (List ℕ)) (groups : List ℕ) (t : Terms)
-      → AreFaultsOf (faults_as refusal_of (faults_under last_wins numbers forms groups t)) (under make forms groups t)
+      → BeginWith (judged_as refusal_of (faults_under last_wins numbers forms groups t)) (under make forms groups t)
   begin-under make forms groups t =
-      let calls : Result (List Offers) Refusal → List (Found Refusal) = λ r. faults_as refusal_of (fault_as fault.CallLimit (call_fault r)) in
-      let texts : Result (List Offers) Refusal → List (Found Refusal) =
-      λ r. faults_as refusal_of (fault_as fault.AnotherForm (text_fault last_wins t numbers r)) in
+      let calls : Result (List Offers) Refusal → List (Judged Refusal) = λ r. judged_as refusal_of (fault_as fault.CallLimit (call_fault r)) in
+      let texts : Result (List Offers) Refusal → List (Judged Refusal) =
+      λ r. judged_as refusal_of (fault_as fault.AnotherForm (text_fault last_wins t numbers r)) in
       begin-next refusal_of (faults_of_forms t forms) _ (each_in_turn (parsed_form t) 1 forms) _
       (begin-each refusal_of (faults_of_form t) (parsed_form t) (begin-one-form t) 1 [] forms) (λ read is.
       begin-next refusal_of (fault_as fault.AnotherForm (text_fault last_wins t numbers (each_in_turn (parsed_form t) 1 forms))) _
       (in_one_text last_wins t numbers read) _
-      (subst (λ (r : Result (List Offers) Refusal). AreFaultsOf (texts r) (in_one_text last_wins t numbers read)) (sym is)
+      (subst (λ (r : Result (List Offers) Refusal). BeginWith (texts r) (in_one_text last_wins t numbers read)) (sym is)
       (begin-fault fault.AnotherForm refusal_of (form_elsewhere last_wins t numbers read) read)) (λ kept alone.
       begin-next refusal_of (faults_of_groups t groups) _ (parsed_groups t groups) _ (begin-group-text t groups) (λ lists reported.
       let same : read ≡ kept = (unless-ok _ read kept (ok-refused_as refusal.AnotherForm _ kept alone)).1 in
       let all : each_in_turn (parsed_form t) 1 forms ≡ Ok kept = is ∙ ap (λ (fs : List Offers). Ok fs) same in
-      subst (λ (r : Result (List Offers) Refusal). AreFaultsOf (calls r)
+      subst (λ (r : Result (List Offers) Refusal). BeginWith (calls r)
       (refused_as refusal.CallLimit (unless (first_fault one_too_many [] kept) (Ok (make kept lists))))) (sym all)
       (begin-fault fault.CallLimit refusal_of (first_fault one_too_many [] kept) (make kept lists)))))
 
   begin-texts : (make : Terms → List Offers → List (List ℕ) → Auction) (text : List ℕ) (forms : List (List ℕ)) (groups : List ℕ)
-      → AreFaultsOf (faults_as refusal_of (faults_of_texts last_wins text numbers forms groups))
+      → BeginWith (judged_as refusal_of (faults_of_texts last_wins text numbers forms groups))
       (and_then (parsed_terms text) (λ t. under (make t) forms groups t))
   begin-texts make text forms groups =
       begin-next refusal_of (faults_of_rules text) _ (parsed_terms text) _ (begin-terms text) (λ t is.
-      subst (λ (r : Result Terms Refusal). AreFaultsOf (faults_as refusal_of (where_read r (faults_under last_wins numbers forms groups)))
+      subst (λ (r : Result Terms Refusal). BeginWith (judged_as refusal_of (where_read r (faults_under last_wins numbers forms groups)))
       (under (make t) forms groups t)) (sym is) (begin-under (make t) forms groups t))
 
 -- after the parts, whose fault is alone
-begin-parts : (asked : Request) (parts : List Part) (found : Option PartFault) (others : List (Found Fault))
-    (next : List Part → Result Auction Refusal) → AreFaultsOf (faults_as refusal_of others) (next parts)
-    → AreFaultsOf (faults_as refusal_of (or_else (or_else (fault_as fault.Parts found) (fault_as fault.PartCount (miscounted asked parts))) others))
+begin-parts : (asked : Request) (parts : List Part) (found : Option PartFault) (others : List (Judged Fault))
+    (next : List Part → Result Auction Refusal) → BeginWith (judged_as refusal_of others) (next parts)
+    → BeginWith (judged_as refusal_of (or_else (or_else (fault_as fault.Parts found) (fault_as fault.PartCount (miscounted asked parts))) others))
     (and_then (and_then (refused_as refusal.Parts (unless found (Ok parts))) (λ ps. refused_as refusal.PartCount (unless (miscounted asked ps) (Ok ps)))) next)
-begin-parts asked parts (Some f) others next are = (0, [], refl)
+begin-parts asked parts (Some f) others next are = (0, [], [], refl)
 begin-parts asked parts None others next are = by (miscounted asked parts)
   where
-    by : (o : Option PartKind) → AreFaultsOf (faults_as refusal_of (or_else (fault_as fault.PartCount o) others))
+    by : (o : Option PartKind) → BeginWith (judged_as refusal_of (or_else (fault_as fault.PartCount o) others))
         (and_then (refused_as refusal.PartCount (unless o (Ok parts))) next)
     by None = are
-    by (Some k) = (0, [], refl)
+    by (Some k) = (0, [], [], refl)
 
 -- the auction that parts describe, with these forms and groups
 abbrev auction_in : List Part → Terms → List Offers → List (List ℕ) → Auction
@@ -141,14 +150,14 @@ texts_in last_wins parts =
 
 -- tests, and what is unmet of them
 begin-wants : {A : Type 0} (tests : List (Bool × Unmet)) (x : A)
-    → AreFaultsOf (faults_as refusal_of (faults_as fault.Unmet (all_failed 0 tests))) (unless (first_failed (refused_unless tests)) (Ok x))
+    → BeginWith (judged_as refusal_of (faults_as fault.Unmet (all_failed 0 tests))) (unless (first_failed (refused_unless tests)) (Ok x))
 begin-wants [] x = refl
 begin-wants ((true, u) ∷ more) x = begin-wants more x
-begin-wants ((false, u) ∷ more) x = (0, faults_as refusal_of (faults_as fault.Unmet (all_failed 0 more)), refl)
+begin-wants ((false, u) ∷ more) x = (0, [], judged_as refusal_of (faults_as fault.Unmet (all_failed 0 more)), refl)
 
 -- of an auction that the texts in parts describe
 begin-unmet : (command : Option Target) (last_wins : Bool) (parts : List Part) (auction : Auction) → texts_in last_wins parts ≡ Ok auction
-    → AreFaultsOf (faults_as refusal_of (where_read (parsed_terms (only_text (parts_named (codes "%rules") parts)))
+    → BeginWith (judged_as refusal_of (where_read (parsed_terms (only_text (parts_named (codes "%rules") parts)))
     (unmet_under command parts))) (wanted command auction)
 begin-unmet command last_wins parts auction reported =
     let (t, rules, after_rules) = ok-after (parsed_terms (only_text (parts_named (codes "%rules") parts))) _ auction reported in
@@ -157,9 +166,9 @@ begin-unmet command last_wins parts auction reported =
     let (lists, groups, made) = ok-after (parsed_groups t (only_text (parts_named (codes "%groups") parts))) _ auction after_one in
     let same : auction_in parts t kept lists ≡ auction =
     (unless-ok _ (auction_in parts t kept lists) auction (ok-refused_as refusal.CallLimit _ auction made)).1 in
-    subst (λ (r : Result Terms Refusal). AreFaultsOf (faults_as refusal_of (where_read r (unmet_under command parts))) (wanted command auction)) (sym rules)
-    (subst (λ (r : Result (List (List ℕ)) Refusal). AreFaultsOf (faults_as refusal_of (unmet_faults command parts r)) (wanted command auction)) (sym groups)
-    (subst (λ (a : Auction). AreFaultsOf (faults_as refusal_of (unmet_faults command parts (Ok lists))) (wanted command a)) same
+    subst (λ (r : Result Terms Refusal). BeginWith (judged_as refusal_of (where_read r (unmet_under command parts))) (wanted command auction)) (sym rules)
+    (subst (λ (r : Result (List (List ℕ)) Refusal). BeginWith (judged_as refusal_of (unmet_faults command parts r)) (wanted command auction)) (sym groups)
+    (subst (λ (a : Auction). BeginWith (judged_as refusal_of (unmet_faults command parts (Ok lists))) (wanted command a)) same
     (begin-wants (wants command (numbers_in parts lists)) (auction_in parts t kept lists))))
 
 -- where nothing is wanted
@@ -168,13 +177,13 @@ nothing-wanted (Ok auction) = refl
 nothing-wanted (Err r) = refl
 
 -- what is wanted is looked at after what is reported
-begin-taken : (command : Option Target) (some others : List (Found Fault)) (reported : Result Auction Refusal)
-    → AreFaultsOf (faults_as refusal_of some) reported
-    → ((auction : Auction) → reported ≡ Ok auction → AreFaultsOf (faults_as refusal_of others) (wanted command auction))
-    → AreFaultsOf (faults_as refusal_of (some ++ others)) (with_wanted command reported)
+begin-taken : (command : Option Target) (some others : List (Judged Fault)) (reported : Result Auction Refusal)
+    → BeginWith (judged_as refusal_of some) reported
+    → ((auction : Auction) → reported ≡ Ok auction → BeginWith (judged_as refusal_of others) (wanted command auction))
+    → BeginWith (judged_as refusal_of (some ++ others)) (with_wanted command reported)
 begin-taken (Some command) some others reported are after = begin-next refusal_of some others reported (wanted (Some command)) are after
 begin-taken None some others reported are after =
-    subst (λ (r : Result Auction Refusal). AreFaultsOf (faults_as refusal_of (some ++ others)) r) (nothing-wanted reported)
+    subst (λ (r : Result Auction Refusal). BeginWith (judged_as refusal_of (some ++ others)) r) (nothing-wanted reported)
     (begin-next refusal_of some others reported (wanted None) are after)
 
 taken-after : {X : Type 0} (command : Option Target) (reported : Result X Refusal) (next : X → Result Auction Refusal)
@@ -183,11 +192,11 @@ taken-after None reported next = refl
 taken-after (Some command) (Ok x) next = refl
 taken-after (Some command) (Err r) next = refl
 
-pub begin-input : (asked : Request) (input : Input) → AreFaultsOf (faults_as refusal_of (input_faults asked input)) (parsed_taken asked input)
+pub begin-input : (asked : Request) (input : Input) → BeginWith (judged_as refusal_of (input_faults asked input)) (parsed_taken asked input)
 begin-input asked input =
     let parts = input_parts input in
     let command = target_of asked in
-    subst (λ (r : Result Auction Refusal). AreFaultsOf (faults_as refusal_of (input_faults asked input)) r)
+    subst (λ (r : Result Auction Refusal). BeginWith (judged_as refusal_of (input_faults asked input)) r)
     (taken-after command (parsed_parts asked input) (texts_in input.last_wins))
     (begin-parts asked parts (input_fault asked input) (faults_in_parts command input.last_wins parts) (λ ps. with_wanted command (texts_in input.last_wins ps))
     (begin-taken command _ _ (texts_in input.last_wins parts)

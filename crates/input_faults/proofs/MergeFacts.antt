@@ -1,13 +1,27 @@
 -- Faults of a text that are added to those of an input.
-use Rattle.std.proofs.Common.{◌≡◌, ◌≤◌, ◌+◌, ◌-◌, ◌++◌, ◌∷◌, ◌∙◌, ℕ, zero, suc, List, [], ap, arith, length, length-append}
+use Rattle.std.proofs.Common.{◌≡◌, ◌≤◌, ◌+◌, ◌-◌, ◌++◌, ◌∷◌, ◌∙◌, ℕ, zero, suc, List, [], ap, append_assoc, append-nil, arith, length, length-append}
 use Rattle.std.proofs.Common.{length-take, refl, sym, take, take_all}
+use Rattle.std.proofs.Common.{map}
 use Rattle.std.proofs.lemmas.List.{length-map, take-map, take-take}
 use Rattle.std.specs.Prelude.{◌^◌, min}
-use Rattle.auction_terms.specs.AllFaults.{Keeps, KeepsMore, found}
+use Rattle.auction_terms.specs.AllFaults.{Keeps}
 use Rattle.auction_terms.specs.declared.faults.Faults.{Faults}
 use Rattle.auction_terms.specs.declared.faults.Found.{Found}
 use Rattle.auction_terms.specs.declared.limits.TheConstants.{MOST_FAULTS}
-use Rattle.input_faults.specs.FaultsAs.{faults_as}
+use Rattle.auction_terms.specs.Judged.{Fault, Holds, fault_at, kept_fault}
+use Rattle.auction_terms.specs.declared.judge.All.{All}
+use Rattle.auction_terms.specs.declared.judge.FaultAt.{FaultAt}
+use Rattle.input_faults.specs.FaultsAs.{faults_as, judged_as}
+use Rattle.input_faults.specs.inside.Finding.{FindsMore}
+
+-- none
+pub finds-none : {F : Type 0} (held : All F) → FindsMore held held []
+finds-none held faults holds = rw (append-nil faults) holds
+
+-- some, and then others
+pub finds-both : {F : Type 0} (first second third : All F) (some others : List (Fault F)) → FindsMore first second some
+    → FindsMore second third others → FindsMore first third (some ++ others)
+finds-both first second third some others front back faults holds = rw (← append_assoc faults some others) (back (faults ++ some) (front faults holds))
 
 -- the front of a list and of the front of another
 take-both : {X : Type 0} (n k : ℕ) (xs ys : List X) → n ≤ k → take n (xs ++ take k ys) ≡ take n (xs ++ ys)
@@ -15,22 +29,50 @@ take-both n k [] ys few = take-take n k ys few
 take-both zero k (x ∷ xs) ys few = refl
 take-both (suc n) k (x ∷ xs) ys few = ap (λ zs. x ∷ zs) (take-both n k xs ys (omega arith))
 
--- what is kept of a text's faults is added, and then the count of the others
-pub keeps-others : {F G : Type 0} (whole : F → G) (old middle new : Faults G) (held : Faults F) (faults : List (Found F)) (place : ℕ)
-    → Keeps held faults → length held.kept.items ≤ place
-    → KeepsMore old middle (faults_as whole (take place held.kept.items))
-    → new.kept.items ≡ middle.kept.items → new.more ≡ min (middle.more + held.more) (2 ^ 64 - 1) → KeepsMore old new (faults_as whole faults)
-keeps-others {F} {G} whole old middle new held faults place holds all adds same count before keeps =
-    let kept : faults_as whole held.kept.items ≡ take MOST_FAULTS (faults_as whole faults) =
-    ap (faults_as whole) holds.kept ∙ sym (take-map (λ (at : Found F). found at.field (whole at.fault)) MOST_FAULTS faults) in
-    let keeps_middle = rw (take_all place held.kept.items all, kept) at (adds before keeps) in
-    let as_many = length-map faults (λ (at : Found F). found at.field (whole at.fault)) in
-    let a = length-append before (take MOST_FAULTS (faults_as whole faults)) in
-    let b = length-append before (faults_as whole faults) in
-    let t = length-take MOST_FAULTS (faults_as whole faults) in
-    let m = keeps_middle.more in
-    let h = holds.more in
+-- where the first of these faults were added, and the others counted, all of them were found
+finds-all : {G : Type 0} (old middle new : All G) (kept faults : List (Fault G)) (more : ℕ) → kept ≡ take MOST_FAULTS faults
+    → more ≡ min (length faults - MOST_FAULTS) (2 ^ 64 - 1) → FindsMore old middle kept → new.most ≡ middle.most
+    → new.kept.items ≡ middle.kept.items → new.more ≡ min (middle.more + more) (2 ^ 64 - 1) → FindsMore old new faults
+finds-all old middle new kept faults others front counted adds limit same count before holds =
+    let first = rw front at (adds before holds) in
+    let a = length-append before (take MOST_FAULTS faults) in
+    let b = length-append before faults in
+    let t = length-take MOST_FAULTS faults in
+    let m = first.more in
     record {
-      kept = same ∙ keeps_middle.kept ∙ take-both MOST_FAULTS MOST_FAULTS before (faults_as whole faults) (omega arith);
+      limit = limit ∙ first.limit;
+      kept = ap (map kept_fault) same ∙ first.kept ∙ take-both MOST_FAULTS MOST_FAULTS before faults (omega arith);
       more = omega arith;
     }
+
+-- what is kept of a text's faults is added, and then the count of the others
+pub keeps-others : {F G : Type 0} (whole : F → G) (old middle new : All G) (held : Faults F) (faults : List (Found F)) (place : ℕ)
+    → Keeps held faults → length held.kept.items ≤ place
+    → FindsMore old middle (faults_as whole (take place held.kept.items)) → new.most ≡ middle.most
+    → new.kept.items ≡ middle.kept.items → new.more ≡ min (middle.more + held.more) (2 ^ 64 - 1) → FindsMore old new (faults_as whole faults)
+keeps-others {F} {G} whole old middle new held faults place holds all adds limit same count =
+    let as_many = length-map faults (λ (at : Found F). fault_at at.field [] (whole at.fault)) in
+    let h = holds.more in
+    finds-all old middle new (faults_as whole (take place held.kept.items)) (faults_as whole faults) held.more
+    (ap (faults_as whole) (take_all place held.kept.items all ∙ holds.kept)
+    ∙ sym (take-map (λ (at : Found F). fault_at at.field [] (whole at.fault)) MOST_FAULTS faults)) (omega arith) adds limit same count
+
+-- ---------- faults with their bytes ----------
+
+abbrev pub kept_as : {F G : Type 0} → (F → G) → List (FaultAt F) → List (Fault G)
+kept_as whole faults = map (λ at. fault_at at.field at.text.now (whole at.fault)) faults
+
+kept-as : {F G : Type 0} (whole : F → G) (faults : List (FaultAt F)) → kept_as whole faults ≡ judged_as whole (map kept_fault faults)
+kept-as whole [] = refl
+kept-as whole (at ∷ more) = ap (λ fs. fault_at at.field at.text.now (whole at.fault) ∷ fs) (kept-as whole more)
+
+pub holds-others : {F G : Type 0} (whole : F → G) (old middle new : All G) (held : All F) (faults : List (Fault F)) (place : ℕ)
+    → Holds MOST_FAULTS held faults → length held.kept.items ≤ place → FindsMore old middle (kept_as whole (take place held.kept.items))
+    → new.most ≡ middle.most → new.kept.items ≡ middle.kept.items → new.more ≡ min (middle.more + held.more) (2 ^ 64 - 1)
+    → FindsMore old new (judged_as whole faults)
+holds-others {F} {G} whole old middle new held faults place holds all adds limit same count =
+    let as_many = length-map faults (λ (at : Fault F). fault_at at.field at.text (whole at.fault)) in
+    let h = holds.more in
+    finds-all old middle new (kept_as whole (take place held.kept.items)) (judged_as whole faults) held.more
+    (ap (kept_as whole) (take_all place held.kept.items all) ∙ kept-as whole held.kept.items ∙ ap (judged_as whole) holds.kept
+    ∙ sym (take-map (λ (at : Fault F). fault_at at.field at.text (whole at.fault)) MOST_FAULTS faults)) (omega arith) adds limit same count

@@ -9,7 +9,7 @@ use Rattle.auction_input.specs.ParsedTexts.{parsed_terms}
 use Rattle.auction_input.specs.declared.part_kind.PartKind.{PartKind}
 use Rattle.auction_input.specs.declared.parts.PartFault.{PartFault}
 use Rattle.auction_input.specs.declared.parts.PartFault.TheVariants as part_fault
-use Rattle.auction_terms.specs.AllFaults.{found}
+use Rattle.auction_terms.specs.Judged.{Fault as Judged, fault_at}
 use Rattle.input_faults.specs.Details.{parts_count_message}
 use Rattle.input_faults.specs.FaultsAs.{fault_as}
 use Rattle.input_faults.specs.InputFaults.{faults_of_parts}
@@ -27,7 +27,7 @@ part-reported asked input (part_fault.PartName n) reported other = reported
 part-reported asked input (part_fault.OfVersion1 n) reported other = reported
 
 module _ (asked : Request) (input : Input) where
-  pub parts-unknown : (f : PartFault) → input_fault asked input ≡ Some f → faults_of_parts asked input ≡ found 0 (fault.Parts f) ∷ []
+  pub parts-unknown : (f : PartFault) → input_fault asked input ≡ Some f → faults_of_parts asked input ≡ fault_at 0 [] (fault.Parts f) ∷ []
   parts-unknown f is = rw is refl
 
   pub parts-counted : (parts : List Part) (count : Option PartKind) → input_fault asked input ≡ None → parts ≡ input_parts input
@@ -35,15 +35,14 @@ module _ (asked : Request) (input : Input) where
   parts-counted parts count none held is = rw (none, ← held, is) refl
 
 -- the details of parts, where each kind is counted right, are those of the texts in them
-pub parts-detail : (asked : Request) (parts : List Part) (rules : List ℕ) (forms : List (List ℕ)) (groups : List ℕ) → miscounted asked parts ≡ None
+pub parts-detail : (asked : Request) (parts : List Part) (rules : List ℕ) (forms : List (List ℕ)) → miscounted asked parts ≡ None
     → rules ≡ only_text (parts_named (codes "%rules") parts) → forms ≡ parts_named (codes "%form") parts
-    → groups ≡ only_text (parts_named (codes "%groups") parts)
-    → detail_in_texts (parsed_terms rules) rules forms groups ≡ detail_of_counted asked (miscounted asked parts) parts
-parts-detail asked parts rules forms groups none is_rules is_forms is_groups = rw (none, is_rules, is_forms, is_groups) refl
+    → detail_in_texts (parsed_terms rules) rules forms ≡ detail_of_counted asked (miscounted asked parts) parts
+parts-detail asked parts rules forms none is_rules is_forms = rw (none, is_rules, is_forms) refl
 
 -- and where one isn't, they are its count
 pub count-detail : (asked : Request) (parts : List Part) (kind : PartKind) → miscounted asked parts ≡ Some kind
-    → (λ (n : ℕ) (f : Fault). parts_count_message asked kind (length (parts_named (name_of kind) parts)))
+    → (λ (at : Judged Fault). parts_count_message asked kind (length (parts_named (name_of kind) parts)))
     ≡ detail_of_counted asked (miscounted asked parts) parts
 count-detail asked parts kind is = rw is refl
 
@@ -55,5 +54,5 @@ input-detail asked input parts none held =
 
 -- where it has none, they are that of its fault
 pub broken-detail : (asked : Request) (input : Input) (f : PartFault) → input_fault asked input ≡ Some f
-    → (λ (n : ℕ) (at : Fault). detail_without_parts f input.texts) ≡ detail asked input
+    → (λ (at : Judged Fault). detail_without_parts f input.texts) ≡ detail asked input
 broken-detail asked input f is = ap (λ (o : Option PartFault). detail_in_input asked o input) (sym is)

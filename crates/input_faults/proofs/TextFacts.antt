@@ -6,8 +6,10 @@ use Rattle.auction_input.proofs.InputTextFacts.{rules-faulted, rules-parse, size
 use Rattle.auction_input.specs.ParsedTexts.{form_in, parsed_form, parsed_groups, parsed_terms}
 use Rattle.auction_input.specs.declared.refusal.Refusal.{Refusal}
 use Rattle.auction_input.specs.declared.refusal.Refusal.TheVariants as refusal
-use Rattle.auction_terms.proofs.AllFaultsFacts.{keeps-none}
-use Rattle.auction_terms.specs.AllFaults.{AreFaultsOf, Keeps, KeepsMore, found}
+use Rattle.auction_terms.specs.AllFaults.{Keeps, found}
+use Rattle.auction_terms.specs.Judged.{Holds, fault_at}
+use Rattle.auction_terms.specs.Judged.{Fault as Judged}
+use Rattle.auction_terms.specs.declared.judge.All.{All}
 use Rattle.auction_terms.specs.GroupsText.{groups_of, is_groups_memory}
 use Rattle.auction_terms.specs.Records.{records_of}
 use Rattle.auction_terms.specs.RulesText.{is_rules_memory, rules_of_records}
@@ -15,7 +17,7 @@ use Rattle.auction_terms.specs.Stages.{Answers, refused_as}
 use Rattle.auction_terms.specs.Terms.{Terms}
 use Rattle.auction_terms.specs.declared.faults.Faults.{Faults}
 use Rattle.auction_terms.specs.declared.faults.Found.{Found}
-use Rattle.auction_terms.specs.declared.limits.TheConstants.{TEXT_LIMIT}
+use Rattle.auction_terms.specs.declared.limits.TheConstants.{MOST_FAULTS, TEXT_LIMIT}
 use Rattle.auction_terms.specs.declared.groups_text.GroupFault.{GroupFault}
 use Rattle.auction_terms.specs.declared.groups_text.GroupFault.TheVariants as groups
 use Rattle.auction_terms.specs.declared.rules_text.RulesFault.{RulesFault}
@@ -25,7 +27,9 @@ use Rattle.bid_forms.specs.Offers.{Offers}
 use Rattle.bid_forms.specs.declared.form_text.FormFault.{FormFault}
 use Rattle.bid_forms.specs.declared.form_text.FormFault.TheVariants as form
 use Rattle.input_faults.proofs.BeginFacts.{none-reported}
-use Rattle.input_faults.specs.FaultsAs.{faults_as, faults_of_sized}
+use Rattle.input_faults.proofs.MergeFacts.{finds-none}
+use Rattle.input_faults.specs.FaultsAs.{BeginWith, faults_of_sized, judged_as, judged_of_sized}
+use Rattle.input_faults.specs.inside.Finding.{FindsMore}
 use Rattle.input_faults.specs.InputFaults.{faults_of_rules, faults_of_texts, faults_under, refusal_of, where_read}
 use Rattle.input_faults.specs.declared.fault.Fault.{Fault}
 
@@ -36,10 +40,16 @@ pub keeps-sized : {F : Type 0} (held : Faults F) (too_large : F) (text : List �
 keeps-sized held too_large text faults large small =
     elim (leb_tells 4194305 (length text)) [ inl (is, more) ↦ rw is (large (omega arith)) | inr (is, few) ↦ rw is (small (omega arith)) ]
 
+pub holds-sized : {F : Type 0} (held : All F) (too_large : F) (text : List ℕ) (faults : List (Judged F))
+    → (TEXT_LIMIT < length text → Holds MOST_FAULTS held (fault_at 0 [] too_large ∷ [])) → (length text ≤ TEXT_LIMIT → Holds MOST_FAULTS held faults)
+    → Holds MOST_FAULTS held (judged_of_sized too_large text faults)
+holds-sized held too_large text faults large small =
+    elim (leb_tells 4194305 (length text)) [ inl (is, more) ↦ rw is (large (omega arith)) | inr (is, few) ↦ rw is (small (omega arith)) ]
+
 -- where a value is parsed there is nothing more to keep
-pub nothing-more : {A : Type 0} (held : Faults Fault) (faults : List (Found Fault)) (reported : Result A Refusal) (x : A)
-    → AreFaultsOf (faults_as refusal_of faults) reported → reported ≡ Ok x → KeepsMore held held faults
-nothing-more held faults reported x are is = rw (none-reported refusal_of faults reported x are is) (keeps-none held)
+pub nothing-more : {A : Type 0} (held : All Fault) (faults : List (Judged Fault)) (reported : Result A Refusal) (x : A)
+    → BeginWith (judged_as refusal_of faults) reported → reported ≡ Ok x → FindsMore held held faults
+nothing-more held faults reported x are is = rw (none-reported refusal_of faults reported x are is) (finds-none held)
 
 -- a fault that isn't want of memory is what is reported
 is-reported : {A F : Type 0} (is_memory : F → Bool) (f : F) (reported : Result A F) → is_memory f ≡ false
@@ -101,10 +111,10 @@ form-refused t n text f other large reported =
 
 -- ---- texts together
 
-pub texts-kept : (old new : Faults Fault) (last_wins : Bool) (t : Terms) (rules rules' : List ℕ) (numbers : List ℕ) (forms : List (List ℕ))
+pub texts-kept : (old new : All Fault) (last_wins : Bool) (t : Terms) (rules rules' : List ℕ) (numbers : List ℕ) (forms : List (List ℕ))
     (groups : List ℕ) → rules ≡ rules' → parsed_terms rules ≡ Ok t
-    → KeepsMore old new (faults_of_rules rules ++ faults_under last_wins numbers forms groups t)
-    → KeepsMore old new (faults_of_texts last_wins rules' numbers forms groups)
+    → FindsMore old new (faults_of_rules rules ++ faults_under last_wins numbers forms groups t)
+    → FindsMore old new (faults_of_texts last_wins rules' numbers forms groups)
 texts-kept old new last_wins t text text' numbers forms groups same_text reported kept =
     let whole : faults_of_texts last_wins text numbers forms groups
     ≡ faults_of_rules text ++ faults_under last_wins numbers forms groups t = ap

@@ -4,21 +4,21 @@ use Rattle.std.proofs.lemmas.List.{take_more}
 use Rattle.auction_input.specs.Parts.{Part}
 use Rattle.auction_input.specs.declared.refusal.Refusal.{Refusal}
 use Rattle.auction_input.specs.declared.wanted.Unmet.{Unmet}
-use Rattle.auction_terms.specs.AllFaults.{all_failed, found}
-use Rattle.auction_terms.specs.declared.faults.Found.{Found}
+use Rattle.auction_terms.specs.AllFaults.{all_failed}
+use Rattle.auction_terms.specs.Judged.{Fault as Judged, fault_at}
 use Rattle.input_faults.specs.FaultsAs.{faults_as}
 use Rattle.input_faults.specs.InputFaults.{unmet_faults}
 use Rattle.input_faults.specs.declared.fault.Fault.{Fault}
 use Rattle.input_faults.specs.declared.fault.Fault.TheVariants as fault
 
-abbrev pub unmet_of : List (Bool × Unmet) → List (Found Fault)
+abbrev pub unmet_of : List (Bool × Unmet) → List (Judged Fault)
 unmet_of tests = faults_as fault.Unmet (all_failed 0 tests)
 
 -- tests after others
 pub unmet-both : (first second : List (Bool × Unmet)) → unmet_of (first ++ second) ≡ unmet_of first ++ unmet_of second
 unmet-both [] second = refl
 unmet-both ((true, u) ∷ more) second = unmet-both more second
-unmet-both ((false, u) ∷ more) second = ap (λ (fs : List (Found Fault)). found 0 (fault.Unmet u) ∷ fs) (unmet-both more second)
+unmet-both ((false, u) ∷ more) second = ap (λ (fs : List (Judged Fault)). fault_at 0 [] (fault.Unmet u) ∷ fs) (unmet-both more second)
 
 -- one test more
 pub unmet-next : (tests : List (Bool × Unmet)) (n : ℕ) (d : Bool × Unmet) → n < length tests

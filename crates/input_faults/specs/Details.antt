@@ -36,7 +36,7 @@ use Rattle.auction_input.specs.declared.request.Target.TheVariants as target
 abbrev pub field_message : ℕ → Record → List ℕ → List ℕ
 field_message n r wrong = codes ", field " ++ (decimal n ++ (codes ": " ++ (shown_text (record_field n r) ++ wrong)))
 
--- the same of a name in a line of groups
+-- the number of a name in a line of groups, the name itself, and what is wrong with it
 abbrev pub name_message : ℕ → List ℕ → List ℕ → List ℕ
 name_message n name wrong = codes ", name " ++ (decimal n ++ (codes ": " ++ (shown_text name ++ wrong)))
 
@@ -64,15 +64,15 @@ wanted_message (Some target.Map) part.Solution = codes " solutions in place of 1
 wanted_message command part.Solution = codes " solutions in place of 0"
 wanted_message command kind = []
 
--- so many parts of a kind
+-- how many parts of a kind there are, and how many the request takes
 abbrev pub parts_count_message : Request → PartKind → ℕ → List ℕ
 parts_count_message asked kind count = codes ": " ++ (decimal count ++ wanted_message (target_of asked) kind)
 
--- so many parts of a kind, and how many there are of what they go with
+-- how many parts of a kind there are, and the number that theirs is compared with: that of the groups or of the prices, or the most that may be
 abbrev pub pair_message : List ℕ → ℕ → ℕ → List ℕ
 pair_message words count by = codes ": " ++ (decimal count ++ (words ++ decimal by))
 
--- so many parts, of which there is to be one at most
+-- how many parts there are of a kind of which there may be one at most
 abbrev pub one_message : List ℕ → ℕ → List ℕ
 one_message words count = codes ": " ++ (decimal count ++ words)
 
@@ -172,4 +172,6 @@ abbrev pub group_message : List ℕ → ℕ → GroupFault → List ℕ
 group_message name n (groups.UnknownBidder place) = name_message n name (codes " is no bidder's name")
 group_message name n (groups.RepeatedBidder place) = name_message n name (codes " is in the line already")
 group_message name n (groups.TooManyGroups place) = codes ": more than " ++ (decimal MOST_GROUPS ++ codes " groups")
-group_message name n f = []
+group_message name n groups.TooLarge = []
+group_message name n (groups.EmptyLine place) = []
+group_message name n groups.OutOfMemory = []

@@ -1,7 +1,7 @@
 -- The lines that print all faults of an input.
 use Rattle.std.specs.Prelude.{◌-◌, ◌^◌, ◌==◌, ◌++◌, ◌∷◌, ℕ, List, [], codes, decimal, flat_map, if◌then◌else◌, length, min, take}
 use Rattle.auction_input.specs.Input.{Given, Input}
-use Rattle.auction_terms.specs.declared.faults.Found.{Found}
+use Rattle.auction_terms.specs.Judged.{Fault as Judged}
 use Rattle.auction_terms.specs.declared.limits.TheConstants.{MOST_FAULTS}
 use Rattle.input_faults.specs.InputFaults.{input_faults, refusal_of}
 use Rattle.input_faults.specs.PlacedText.{message_in}
@@ -14,15 +14,15 @@ abbrev pub message_of : List Given → Fault → List ℕ
 message_of texts fault = message_in texts (refusal_of fault)
 
 -- the line of a fault: what is reported of it, and its detail
-abbrev pub fault_line : (Fault → List ℕ) → (ℕ → Fault → List ℕ) → Found Fault → List ℕ
-fault_line reported detail_of at = reported at.fault ++ (detail_of at.field at.fault ++ 10 ∷ [])
+abbrev pub fault_line : (Fault → List ℕ) → (Judged Fault → List ℕ) → Judged Fault → List ℕ
+fault_line reported detail_of at = reported at.fault ++ (detail_of at ++ 10 ∷ [])
 
 -- the line that counts the faults that have none
 abbrev pub more_line : ℕ → List ℕ
 more_line more = if more == 0 then [] else codes "and " ++ (decimal more ++ codes " more\n")
 
 -- a line for each of the first faults, and how many more there are, up to 2 ^ 64 - 1
-abbrev pub fault_lines : (Fault → List ℕ) → (ℕ → Fault → List ℕ) → List (Found Fault) → List ℕ
+abbrev pub fault_lines : (Fault → List ℕ) → (Judged Fault → List ℕ) → List (Judged Fault) → List ℕ
 fault_lines reported detail_of faults =
     flat_map (fault_line reported detail_of) (take MOST_FAULTS faults) ++ more_line (min (length faults - MOST_FAULTS) (2 ^ 64 - 1))
 

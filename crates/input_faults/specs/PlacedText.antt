@@ -26,9 +26,11 @@ with_other texts (refusal.AnotherForm f) reported =
     reported ++ (codes " is in " ++ (shown_name (file_name texts f.first_text) ++ codes "; say --last-wins where the later one counts"))
 with_other texts r reported = reported
 
+-- what is reported of a refusal, with the name of the file that its spot is in, if it has a spot, and of the other file that it may be about
 abbrev pub message_at : List Given → Option Spot → Refusal → List ℕ
 message_at texts spot r = with_other texts r (words_at texts spot r)
 
+-- what is reported of a refusal of an input with these texts
 abbrev pub message_in : List Given → Refusal → List ℕ
 message_in texts r = message_at texts (spot_of texts r) r
 
@@ -42,6 +44,6 @@ abbrev pub hint : List Given → Refusal → List ℕ
 hint texts (refusal.Parts f) = hint_on (file_name texts 0) f
 hint texts r = []
 
--- and its line
+-- the line on standard error that reports a refusal of an input
 abbrev pub placed_line : List Given → Refusal → List ℕ
 placed_line texts r = codes "wdp: " ++ (message_in texts r ++ (hint texts r ++ 10 ∷ []))

@@ -12,13 +12,12 @@ use Rattle.auction_input.specs.declared.places.Spot.{Spot}
 use Rattle.auction_input.specs.declared.refusal.Refusal.TheVariants as refusal
 use Rattle.auction_input.specs.declared.parts.PartFault.{PartFault}
 use Rattle.auction_input.specs.declared.refusal.Refusal.{Refusal}
-use Rattle.auction_terms.specs.FaultPlaces.{group_place, rules_place}
-use Rattle.auction_terms.specs.GroupNames.{names_in}
+use Rattle.auction_terms.specs.FaultPlaces.{rules_place}
+use Rattle.auction_terms.specs.Judged.{Fault as Judged}
 use Rattle.auction_terms.specs.Lines.{lines_of}
 use Rattle.auction_terms.specs.Records.{Record, records_of}
 use Rattle.auction_terms.specs.RulesText.{version_of}
 use Rattle.auction_terms.specs.Terms.{Terms}
-use Rattle.auction_terms.specs.declared.groups_text.GroupFault.{GroupFault}
 use Rattle.auction_terms.specs.declared.limits.TheConstants.{TEXT_LIMIT}
 use Rattle.auction_terms.specs.declared.rules_text.RulesFault.{RulesFault}
 use Rattle.bid_forms.specs.RowNumbers.{parsed_eligibility, form_place}
@@ -44,38 +43,42 @@ detail_of_rules records n f = rules_message (version_of (numbered 1 records)) (n
 abbrev pub detail_of_form : Terms → List Record → ℕ → FormFault → List ℕ
 detail_of_form t records n f = form_fault_message t (parsed_eligibility t (numbered 1 records)) (numbered (form_place f) records) n f
 
--- a fault of the lines of groups
-abbrev pub detail_of_groups : List (List ℕ) → ℕ → GroupFault → List ℕ
-detail_of_groups lines n f = group_message (numbered n (names_in (numbered (group_place f) lines))) n f
+-- a fault, at this field or name and with these bytes there, where the rules are refused
+abbrev pub detail_in_rules_at : List Record → ℕ → Fault → List ℕ
+detail_in_rules_at records n (fault.Rules f) = detail_of_rules records n f
+detail_in_rules_at records n f = []
 
--- a fault where the rules are refused
-abbrev pub detail_in_rules : List Record → ℕ → Fault → List ℕ
-detail_in_rules records n (fault.Rules f) = detail_of_rules records n f
-detail_in_rules records n f = []
+-- the detail of a fault of an input whose rules are refused
+abbrev pub detail_in_rules : List Record → Judged Fault → List ℕ
+detail_in_rules records at = detail_in_rules_at records at.field at.fault
 
--- and where they are read
-abbrev pub detail_under : Terms → List (List ℕ) → List ℕ → ℕ → Fault → List ℕ
-detail_under t forms groups n (fault.Form number f) = detail_of_form t (records_of (within_limit (numbered number forms))) n f
-detail_under t forms groups n (fault.Groups f) = detail_of_groups (lines_of (within_limit groups)) n f
-detail_under t forms groups n (fault.Unmet u) = unmet_message u
-detail_under t forms groups n f = []
+-- the detail of a fault, at this field or name and with these bytes there, of an input whose rules are accepted
+abbrev pub detail_under_at : Terms → List (List ℕ) → ℕ → List ℕ → Fault → List ℕ
+detail_under_at t forms n text (fault.Form number f) = detail_of_form t (records_of (within_limit (numbered number forms))) n f
+detail_under_at t forms n text (fault.Groups f) = group_message text n f
+detail_under_at t forms n text (fault.Unmet u) = unmet_message u
+detail_under_at t forms n text f = []
+
+-- the detail of a fault of an input whose rules are accepted
+abbrev pub detail_under : Terms → List (List ℕ) → Judged Fault → List ℕ
+detail_under t forms at = detail_under_at t forms at.field at.text at.fault
 
 -- a fault of these texts
-abbrev pub detail_in_texts : Result Terms Refusal → List ℕ → List (List ℕ) → List ℕ → ℕ → Fault → List ℕ
-detail_in_texts (Ok t) rules forms groups n f = detail_under t forms groups n f
-detail_in_texts (Err r) rules forms groups n f = detail_in_rules (records_of (within_limit rules)) n f
+abbrev pub detail_in_texts : Result Terms Refusal → List ℕ → List (List ℕ) → Judged Fault → List ℕ
+detail_in_texts (Ok t) rules forms at = detail_under t forms at
+detail_in_texts (Err r) rules forms at = detail_in_rules (records_of (within_limit rules)) at
 
 -- a fault of the texts in parts
-abbrev pub detail_in_parts : List Part → ℕ → Fault → List ℕ
-detail_in_parts parts n f =
+abbrev pub detail_in_parts : List Part → Judged Fault → List ℕ
+detail_in_parts parts at =
     let rules = only_text (parts_named (codes "%rules") parts) in
-    detail_in_texts (parsed_terms rules) rules (parts_named (codes "%form") parts) (only_text (parts_named (codes "%groups") parts)) n f
+    detail_in_texts (parsed_terms rules) rules (parts_named (codes "%form") parts) at
 
 -- the bytes of the text at a place, from 0
 abbrev pub bytes_at : List Given → ℕ → List ℕ
 bytes_at texts n = (slice_index_or texts n (record { name = []; bytes = [] })).bytes
 
--- those of the text that a refusal is of; where there is but one, of that
+-- the bytes of the text in which a refusal's spot is, or of the first text if no spot is known
 abbrev pub text_at : List Given → Option Spot → List ℕ
 text_at texts None = bytes_at texts 0
 text_at texts (Some at) = bytes_at texts at.text
@@ -87,15 +90,15 @@ detail_without_parts part_fault.BeforeFirst texts =
 detail_without_parts f texts = []
 
 -- a fault of parts, of which there are too few or too many of a kind, if there are
-abbrev pub detail_of_counted : Request → Option PartKind → List Part → ℕ → Fault → List ℕ
-detail_of_counted asked (Some kind) parts n f = parts_count_message asked kind (length (parts_named (name_of kind) parts))
-detail_of_counted asked None parts n f = detail_in_parts parts n f
+abbrev pub detail_of_counted : Request → Option PartKind → List Part → Judged Fault → List ℕ
+detail_of_counted asked (Some kind) parts at = parts_count_message asked kind (length (parts_named (name_of kind) parts))
+detail_of_counted asked None parts at = detail_in_parts parts at
 
 -- a fault of an input
-abbrev pub detail_in_input : Request → Option PartFault → Input → ℕ → Fault → List ℕ
-detail_in_input asked None input n f = detail_of_counted asked (miscounted asked (input_parts input)) (input_parts input) n f
-detail_in_input asked (Some broken) input n f = detail_without_parts broken input.texts
+abbrev pub detail_in_input : Request → Option PartFault → Input → Judged Fault → List ℕ
+detail_in_input asked None input at = detail_of_counted asked (miscounted asked (input_parts input)) (input_parts input) at
+detail_in_input asked (Some broken) input at = detail_without_parts broken input.texts
 
--- the detail of a fault at a field of the input of a request
-abbrev pub detail : Request → Input → ℕ → Fault → List ℕ
-detail asked input n f = detail_in_input asked (input_fault asked input) input n f
+-- the detail of a fault of the input of a request
+abbrev pub detail : Request → Input → Judged Fault → List ℕ
+detail asked input at = detail_in_input asked (input_fault asked input) input at

@@ -1,3 +1,4 @@
 pub mod HeldLines
 pub mod DetailText
 pub mod Cursors
+pub mod Finding

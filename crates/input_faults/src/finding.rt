@@ -4,9 +4,10 @@ ghost use Rattle.std.specs.Prelude.{◌≡◌, ◌≢◌, ◌∷◌, [], IfOk, L
 ghost use Rattle.auction_input.specs.Parts.{parts_held, parts_named, input_parts, text_numbers};
 ghost use Rattle.auction_input.specs.ParsedParts.{only_text};
 ghost use Rattle.auction_input.specs.ParsedTexts.{parsed_form};
-ghost use Rattle.auction_terms.specs.AllFaults.{Keeps, KeepsMore};
+ghost use Rattle.auction_terms.specs.Judged.{Fault as Judged, Holds};
+ghost use Rattle.auction_terms.specs.declared.limits.TheConstants.{MOST_FAULTS};
 ghost use Rattle.auction_terms.specs.Stages.{each_in_turn};
-ghost use Rattle.auction_terms.specs.declared.faults.Found.{Found};
+ghost use Rattle.input_faults.specs.inside.Finding.{FindsMore};
 ghost use Rattle.input_faults.specs.InputFaults.{call_fault, faults_in_parts, faults_of_forms, faults_of_parts};
 ghost use Rattle.input_faults.specs.InputFaults.{faults_under, input_faults, text_fault, unmet_faults, unmet_under};
 ghost use Rattle.input_faults.specs.declared.fault.Fault as declared;
@@ -18,7 +19,7 @@ use auction_input::{
     Input, Numbers, Part, PartFault, PartKind, Request, Target, miscounted, proof_wants,
     solution_wants, split_parts, text_numbers_of, text_of, texts_of,
 };
-use auction_terms::{Faults, Groups, Rules};
+use auction_terms::{All, Groups, MOST_FAULTS, Rules};
 use std::alloc::{AllocError, Global};
 
 /// Tests that a fault of parts isn't that memory was refused.
@@ -34,14 +35,14 @@ pub(crate) fn check_part_fault(fault: PartFault) -> Result<(), AllocError>
 // Adds the fault of the parts, or returns them.
 fn take_parts<'t>(
     alloc: Global,
-    faults: &mut Faults<Fault>,
+    faults: &mut All<'t, Fault>,
     request: &Request,
     input: &'t Input,
 ) -> Result<Option<Vec<Part<'t>>>, AllocError>
-    ensures faults { OnOk result (KeepsMore faults.old faults.new
+    ensures faults { OnOk result (FindsMore faults.old faults.new
         (faults_of_parts request.now input.now)) }
     ensures parts { IfOk result (λ parts. MatchOption parts
-        ((at : Found declared.Fault) × (faults_of_parts request.now input.now ≡ at ∷ []))
+        ((at : Judged declared.Fault) × (faults_of_parts request.now input.now ≡ at ∷ []))
         (λ held. (faults_of_parts request.now input.now ≡ [])
         × (parts_held held.items ≡ input_parts input.now))) }
 {
@@ -49,28 +50,28 @@ fn take_parts<'t>(
         Ok(parts) => parts,
         Err(fault) => {
             check_part_fault(fault)?;
-            faults.add(0, Fault::Parts(fault))?;
+            faults.add(0, b"", Fault::Parts(fault))?;
             return Ok(None);
         }
     };
     match miscounted(request, parts.as_slice()) {
         None => Ok(Some(parts)),
         Some(kind) => {
-            faults.add(0, Fault::PartCount(kind))?;
+            faults.add(0, b"", Fault::PartCount(kind))?;
             Ok(None)
         }
     }
 }
 
 // Adds the faults of all forms, and returns what is wrong with them together.
-fn take_form_parts(
+fn take_form_parts<'t>(
     alloc: Global,
-    faults: &mut Faults<Fault>,
-    parts: &[Part<'_>],
+    faults: &mut All<'t, Fault>,
+    parts: &[Part<'t>],
     rules: &Rules,
     last_wins: bool,
 ) -> Result<Together, AllocError>
-    ensures faults { OnOk result (KeepsMore faults.old faults.new
+    ensures faults { OnOk result (FindsMore faults.old faults.new
         (faults_of_forms rules.now (parts_named (codes "%form") (parts_held parts.now)))) }
     ensures another { IfOk result (λ together. together.another
         ≡ text_fault last_wins rules.now (text_numbers (codes "%form") (parts_held parts.now))
@@ -94,14 +95,14 @@ fn take_form_parts(
 }
 
 // Adds the faults of forms and groups under the rules.
-fn take_under(
+fn take_under<'t>(
     alloc: Global,
-    faults: &mut Faults<Fault>,
-    parts: &[Part<'_>],
+    faults: &mut All<'t, Fault>,
+    parts: &[Part<'t>],
     rules: &Rules,
     last_wins: bool,
 ) -> Result<(), AllocError>
-    ensures { OnOk result (KeepsMore faults.old faults.new
+    ensures { OnOk result (FindsMore faults.old faults.new
         (faults_under last_wins (text_numbers (codes "%form") (parts_held parts.now))
         (parts_named (codes "%form") (parts_held parts.now))
         (only_text (parts_named (codes "%groups") (parts_held parts.now))) rules.now)) }
@@ -114,13 +115,13 @@ fn take_under(
 }
 
 // Adds what a command wants of parts with these groups, and they haven't got.
-fn add_wanted(
-    faults: &mut Faults<Fault>,
+fn add_wanted<'t>(
+    faults: &mut All<'t, Fault>,
     command: Target,
-    parts: &[Part<'_>],
+    parts: &[Part<'t>],
     groups: &Groups,
 ) -> Result<(), AllocError>
-    ensures { OnOk result (KeepsMore faults.old faults.new
+    ensures { OnOk result (FindsMore faults.old faults.new
         (unmet_faults (Some command) (parts_held parts.now) (Ok groups.now))) }
 {
     let numbers = Numbers::of_parts(parts, groups);
@@ -135,14 +136,14 @@ fn add_wanted(
 }
 
 // Adds what a command wants of these parts, and they haven't got, if their groups are read.
-fn take_wanted(
+fn take_wanted<'t>(
     alloc: Global,
-    faults: &mut Faults<Fault>,
+    faults: &mut All<'t, Fault>,
     command: Target,
-    parts: &[Part<'_>],
+    parts: &[Part<'t>],
     rules: &Rules,
 ) -> Result<(), AllocError>
-    ensures { OnOk result (KeepsMore faults.old faults.new
+    ensures { OnOk result (FindsMore faults.old faults.new
         (unmet_under (Some command) (parts_held parts.now) rules.now)) }
 {
     match groups_in(alloc, text_of(parts, PartKind::Groups), rules)? {
@@ -152,14 +153,14 @@ fn take_wanted(
 }
 
 // The same of a command, if one is named: else nothing is wanted.
-fn take_wanted_by(
+fn take_wanted_by<'t>(
     alloc: Global,
-    faults: &mut Faults<Fault>,
+    faults: &mut All<'t, Fault>,
     command: Option<Target>,
-    parts: &[Part<'_>],
+    parts: &[Part<'t>],
     rules: &Rules,
 ) -> Result<(), AllocError>
-    ensures { OnOk result (KeepsMore faults.old faults.new
+    ensures { OnOk result (FindsMore faults.old faults.new
         (unmet_under command (parts_held parts.now) rules.now)) }
 {
     match command {
@@ -169,14 +170,14 @@ fn take_wanted_by(
 }
 
 // Adds the faults of the texts of rules, forms and groups, and of what a command wants of the parts.
-fn take_texts(
+fn take_texts<'t>(
     alloc: Global,
-    faults: &mut Faults<Fault>,
+    faults: &mut All<'t, Fault>,
     command: Option<Target>,
-    parts: &[Part<'_>],
+    parts: &[Part<'t>],
     last_wins: bool,
 ) -> Result<(), AllocError>
-    ensures { OnOk result (KeepsMore faults.old faults.new
+    ensures { OnOk result (FindsMore faults.old faults.new
         (faults_in_parts command last_wins (parts_held parts.now))) }
 {
     let rules = text_of(parts, PartKind::Rules);
@@ -189,14 +190,15 @@ fn take_texts(
 }
 
 /// All faults of the input of a request.
-pub fn input_faults(
+pub fn input_faults<'t>(
     alloc: Global,
     request: &Request,
-    input: &Input,
-) -> Result<Faults<Fault>, AllocError>
-    ensures { IfOk result (λ faults. Keeps faults (input_faults request.now input.now)) }
+    input: &'t Input,
+) -> Result<All<'t, Fault>, AllocError>
+    ensures { IfOk result (λ faults. Holds MOST_FAULTS faults
+        (input_faults request.now input.now)) }
 {
-    let mut faults = Faults::new(alloc);
+    let mut faults = All::new(alloc, MOST_FAULTS);
     let Some(parts) = take_parts(alloc, &mut faults, request, input)? else {
         return Ok(faults);
     };

@@ -27,6 +27,8 @@ pub fn group_detail<'d>(name: &'d [u8], number: usize, fault: GroupFault) -> Det
             MOST_GROUPS as u64,
             " groups",
         )),
-        _ => Detail::Nothing,
+        GroupFault::TooLarge | GroupFault::EmptyLine { .. } | GroupFault::OutOfMemory => {
+            Detail::Nothing
+        }
     }
 }

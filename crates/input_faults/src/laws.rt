@@ -2,13 +2,12 @@
 
 ghost use Rattle.auction_input.specs.Input.{Input};
 ghost use Rattle.auction_input.specs.Wanted.{parsed_taken};
-ghost use Rattle.auction_terms.specs.AllFaults.{AreFaultsOf};
-ghost use Rattle.input_faults.specs.FaultsAs.{faults_as};
+ghost use Rattle.input_faults.specs.FaultsAs.{BeginWith, judged_as};
 ghost use Rattle.input_faults.specs.InputFaults.{input_faults, refusal_of};
 ghost use Rattle.auction_input.specs.declared.request.Request.{Request};
 
 /// An input has no fault if it describes an auction that has what the request's command wants, and else the first one is that of the refusal that is reported.
 pub fn all_faults_begin_with_the_one_that_is_reported()
     ensures { (asked : Request) (input : Input)
-        → AreFaultsOf (faults_as refusal_of (input_faults asked input)) (parsed_taken asked input) }
+        → BeginWith (judged_as refusal_of (input_faults asked input)) (parsed_taken asked input) }
 {}

@@ -11,7 +11,6 @@ mod group_details;
 pub mod laws;
 mod lines;
 mod merging;
-mod name_cursor;
 mod part_details;
 mod placed;
 mod reading;

@@ -8,11 +8,11 @@ ghost use Rattle.auction_input.specs.ParsedTexts.{parsed_terms};
 ghost use Rattle.auction_terms.specs.Lines.{bytes_of};
 ghost use Rattle.auction_terms.specs.Records.{records_of};
 ghost use Rattle.auction_terms.specs.RulesText.{version_of};
-ghost use Rattle.input_faults.specs.FaultLines.{fault_line, more_line, message_of};
+ghost use Rattle.input_faults.specs.FaultLines.{more_line, message_of};
 ghost use Rattle.input_faults.specs.TextDetails.{detail, detail_in_rules, detail_in_texts, detail_of_counted, detail_under, numbered, within_limit};
-ghost use Rattle.input_faults.specs.inside.Cursors.{ReadsForm, StandsAt, StandsAtName};
+ghost use Rattle.input_faults.specs.inside.Cursors.{ReadsForm, StandsAt};
 ghost use Rattle.input_faults.specs.inside.DetailText.{detail_text};
-ghost use Rattle.input_faults.specs.inside.HeldLines.{held_lines};
+ghost use Rattle.input_faults.specs.inside.HeldLines.{held_lines, kept_line};
 ghost use Rattle.byte_sinks.specs.Adds.{Adds};
 ghost use Rattle.byte_sinks.specs.Sinks.{HasFailed, SentFront, written_of};
 
@@ -22,7 +22,6 @@ use crate::finding::check_part_fault;
 use crate::form_details::form_detail;
 use crate::form_reading::{FormReading, within_limit};
 use crate::group_details::group_detail;
-use crate::name_cursor::NameCursor;
 use crate::part_details::{count_detail, part_detail, unmet_detail};
 use crate::placed::add_message;
 use crate::reading::rules_in;
@@ -32,7 +31,7 @@ use crate::wording::add_wording;
 use auction_input::{
     Input, Part, PartKind, Places, Request, count_of, miscounted, split_parts, text_of, texts_of,
 };
-use auction_terms::{Faults, Found, Rules, Version, Wording, version_of};
+use auction_terms::{All, FaultAt, Rules, Version, Wording, version_of};
 use byte_sinks::{MemorySink, Sink, WriteFault, Writer};
 use std::alloc::{AllocError, Global};
 
@@ -59,12 +58,12 @@ fn add_line_of_rules<S: Sink>(
     places: &Places<'_>,
     cursor: &mut RecordCursor<'_>,
     version: Option<Version>,
-    at: Found<Fault>,
+    at: &FaultAt<'_, Fault>,
 ) -> Result<(), AllocError>
     ensures added { (text : List ℕ) → StandsAt cursor.old text
         → version ≡ version_of (numbered 1 (records_of text))
         → OnOk result (Adds S.taken S.failures writer.old writer.new
-        (fault_line (message_of places.now) (detail_in_rules (records_of text)) at)) }
+        (kept_line (message_of places.now) (detail_in_rules (records_of text)) at.now)) }
     ensures stands { (text : List ℕ) → StandsAt cursor.old text
         → OnOk result (StandsAt cursor.new text) }
 {
@@ -88,48 +87,37 @@ fn add_lines_of_rules<S: Sink>(
     writer: &mut Writer<'_, S>,
     places: &Places<'_>,
     text: &[u8],
-    faults: &[Found<Fault>],
+    faults: &[FaultAt<'_, Fault>],
 ) -> Result<(), AllocError>
     ensures { OnOk result (Adds S.taken S.failures writer.old writer.new
-        (flat_map (fault_line (message_of places.now) (detail_in_rules (records_of text.now)))
+        (flat_map (kept_line (message_of places.now) (detail_in_rules (records_of text.now)))
         faults.now)) }
 {
     let mut cursor = RecordCursor::new(alloc, text);
     cursor.go_to(alloc, 1)?;
     let version = version_of(&cursor.row);
     for at in faults {
-        add_line_of_rules(alloc, writer, places, &mut cursor, version, *at)?;
+        add_line_of_rules(alloc, writer, places, &mut cursor, version, at)?;
     }
     Ok(())
-}
-
-// A fault, and where the parts with faults are.
-#[derive(Clone, Copy)]
-struct Placed<'p, 'i> {
-    places: &'p Places<'i>,
-    at: Found<Fault>,
 }
 
 // Adds the line of a fault where the rules are read.
 fn add_line_under<'t, S: Sink>(
     alloc: Global,
     writer: &mut Writer<'_, S>,
+    places: &Places<'_>,
     rules: &Rules,
     forms: &[&'t [u8]],
     form: &mut FormReading<'t>,
-    names: &mut NameCursor<'_>,
-    placed: Placed<'_, '_>,
+    at: &FaultAt<'_, Fault>,
 ) -> Result<(), AllocError>
     requires { ReadsForm rules.now (bytes_of forms.now) form.old }
-    ensures added { (groups : List ℕ) → StandsAtName names.old (within_limit groups)
-        → OnOk result (Adds S.taken S.failures writer.old writer.new
-        (fault_line (message_of placed.entry.places.now)
-        (detail_under rules.now (bytes_of forms.now) groups) placed.entry.at)) }
+    ensures added { OnOk result (Adds S.taken S.failures writer.old writer.new
+        (kept_line (message_of places.now) (detail_under rules.now (bytes_of forms.now))
+        at.now)) }
     ensures form { OnOk result (ReadsForm rules.now (bytes_of forms.now) form.new) }
-    ensures names { (text : List ℕ) → StandsAtName names.old text
-        → OnOk result (StandsAtName names.new text) }
 {
-    let Placed { places, at } = placed;
     match at.fault {
         Fault::Form {
             form: number,
@@ -141,8 +129,7 @@ fn add_line_under<'t, S: Sink>(
             Ok(())
         }
         Fault::Groups(fault) => {
-            names.go_to(fault.place(), at.field);
-            let detail = group_detail(names.name, at.field, fault);
+            let detail = group_detail(at.text, at.field, fault);
             add_line(writer, places, at.fault, &detail);
             Ok(())
         }
@@ -157,25 +144,22 @@ fn add_line_under<'t, S: Sink>(
     }
 }
 
-// Adds the lines of faults where the rules are read. Each form, and the groups, are gone over once.
+// Adds the lines of faults where the rules are read. Each form is gone over once.
 fn add_lines_under<S: Sink>(
     alloc: Global,
     writer: &mut Writer<'_, S>,
     places: &Places<'_>,
     rules: &Rules,
     forms: &[&[u8]],
-    groups: &[u8],
-    faults: &[Found<Fault>],
+    faults: &[FaultAt<'_, Fault>],
 ) -> Result<(), AllocError>
     ensures { OnOk result (Adds S.taken S.failures writer.old writer.new
-        (flat_map (fault_line (message_of places.now)
-        (detail_under rules.now (bytes_of forms.now) groups.now)) faults.now)) }
+        (flat_map (kept_line (message_of places.now)
+        (detail_under rules.now (bytes_of forms.now))) faults.now)) }
 {
     let mut form = FormReading::begin(alloc, rules, forms, 0)?;
-    let mut names = NameCursor::new(within_limit(groups));
     for at in faults {
-        let placed = Placed { places, at: *at };
-        add_line_under(alloc, writer, rules, forms, &mut form, &mut names, placed)?;
+        add_line_under(alloc, writer, places, rules, forms, &mut form, at)?;
     }
     Ok(())
 }
@@ -184,11 +168,11 @@ fn add_lines_under<S: Sink>(
 fn add_lines_alike<S: Sink>(
     writer: &mut Writer<'_, S>,
     places: &Places<'_>,
-    faults: &[Found<Fault>],
+    faults: &[FaultAt<'_, Fault>],
     detail: &Detail<'_>,
 )
     ensures { Adds S.taken S.failures writer.old writer.new
-        (flat_map (fault_line (message_of places.now) (λ field fault. detail_text detail.now))
+        (flat_map (kept_line (message_of places.now) (λ at. detail_text detail.now))
         faults.now) }
 {
     for at in faults {
@@ -203,15 +187,14 @@ fn add_lines_in<S: Sink>(
     places: &Places<'_>,
     rules: &[u8],
     forms: &[&[u8]],
-    groups: &[u8],
-    faults: &[Found<Fault>],
+    faults: &[FaultAt<'_, Fault>],
 ) -> Result<(), AllocError>
     ensures { OnOk result (Adds S.taken S.failures writer.old writer.new
-        (flat_map (fault_line (message_of places.now) (detail_in_texts (parsed_terms rules.now) rules.now
-        (bytes_of forms.now) groups.now)) faults.now)) }
+        (flat_map (kept_line (message_of places.now) (detail_in_texts (parsed_terms rules.now) rules.now
+        (bytes_of forms.now))) faults.now)) }
 {
     match rules_in(alloc, rules)? {
-        Some(rules) => add_lines_under(alloc, writer, places, &rules, forms, groups, faults),
+        Some(rules) => add_lines_under(alloc, writer, places, &rules, forms, faults),
         None => add_lines_of_rules(alloc, writer, places, within_limit(rules), faults),
     }
 }
@@ -223,11 +206,12 @@ fn add_lines_of_parts<S: Sink>(
     places: &Places<'_>,
     request: &Request,
     parts: &[Part<'_>],
-    faults: &[Found<Fault>],
+    faults: &[FaultAt<'_, Fault>],
 ) -> Result<(), AllocError>
     ensures { OnOk result (Adds S.taken S.failures writer.old writer.new
-        (flat_map (fault_line (message_of places.now) (detail_of_counted request.now
-        (miscounted request.now (parts_held parts.now)) (parts_held parts.now))) faults.now)) }
+        (flat_map (kept_line (message_of places.now) (detail_of_counted request.now
+        (miscounted request.now (parts_held parts.now)) (parts_held parts.now)))
+        faults.now)) }
 {
     if let Some(kind) = miscounted(request, parts) {
         let detail = count_detail(request, kind, count_of(parts, kind));
@@ -235,17 +219,8 @@ fn add_lines_of_parts<S: Sink>(
         return Ok(());
     }
     let rules = text_of(parts, PartKind::Rules);
-    let groups = text_of(parts, PartKind::Groups);
     let forms = texts_of(alloc, parts, PartKind::Form)?;
-    add_lines_in(
-        alloc,
-        writer,
-        places,
-        rules,
-        forms.as_slice(),
-        groups,
-        faults,
-    )?;
+    add_lines_in(alloc, writer, places, rules, forms.as_slice(), faults)?;
     Ok(())
 }
 
@@ -256,10 +231,11 @@ fn add_lines<S: Sink>(
     places: &Places<'_>,
     request: &Request,
     input: &Input,
-    faults: &[Found<Fault>],
+    faults: &[FaultAt<'_, Fault>],
 ) -> Result<(), AllocError>
     ensures { OnOk result (Adds S.taken S.failures writer.old writer.new
-        (flat_map (fault_line (message_of places.now) (detail request.now input.now)) faults.now)) }
+        (flat_map (kept_line (message_of places.now) (detail request.now input.now))
+        faults.now)) }
 {
     match split_parts(alloc, request, input) {
         Ok(parts) => {
@@ -293,7 +269,7 @@ fn lines_at(
     places: &Places<'_>,
     request: &Request,
     input: &Input,
-    faults: &Faults<Fault>,
+    faults: &All<'_, Fault>,
 ) -> Result<Vec<u8>, AllocError>
     ensures { IfOk result (λ lines. lines.items
         ≡ held_lines (message_of places.now) (detail request.now input.now) faults.now) }
@@ -320,7 +296,7 @@ pub fn lines_of(
     alloc: Global,
     request: &Request,
     input: &Input,
-    faults: &Faults<Fault>,
+    faults: &All<'_, Fault>,
 ) -> Result<Vec<u8>, AllocError>
     ensures { IfOk result (λ lines. lines.items
         ≡ held_lines (message_of input.now.texts) (detail request.now input.now) faults.now) }

@@ -3,20 +3,19 @@
 ghost use Rattle.std.specs.Prelude.{◌≡◌, Err, IfOk, MatchOption, Ok, OnOk, false, length};
 ghost use Rattle.auction_input.specs.ParsedTexts.{parsed_form, parsed_groups, parsed_terms};
 ghost use Rattle.auction_input.specs.declared.refusal.Refusal.{Refusal};
-ghost use Rattle.auction_terms.specs.AllFaults.{KeepsMore};
 ghost use Rattle.auction_terms.specs.Lines.{bytes_of};
 ghost use Rattle.auction_terms.specs.GroupsText.{is_groups_memory};
 ghost use Rattle.auction_terms.specs.RulesText.{is_rules_memory};
 ghost use Rattle.auction_terms.specs.Stages.{each_in_turn};
 ghost use Rattle.bid_forms.specs.FormText.{is_form_memory};
+ghost use Rattle.input_faults.specs.inside.Finding.{FindsMore};
 ghost use Rattle.input_faults.specs.InputFaults.{call_fault, faults_of_form, faults_of_forms, faults_of_groups, faults_of_rules, text_fault};
 
 use crate::fault::Fault;
 use crate::merging::{add_form, add_groups, add_rules};
 use auction_input::{AnotherForm, Calls, FormTexts};
 use auction_terms::{
-    Faults, GroupFault, Groups, Rules, RulesFault, group_faults, read_groups, read_rules,
-    rules_faults,
+    All, GroupFault, Groups, Rules, RulesFault, group_faults, read_groups, read_rules, rules_faults,
 };
 use bid_forms::{Form, FormFault, form_faults, read_form};
 use std::alloc::{AllocError, Global};
@@ -83,10 +82,10 @@ pub fn groups_in(alloc: Global, text: &[u8], rules: &Rules) -> Result<Option<Gro
 /// Adds the faults of a text of rules, or returns the rules.
 pub fn take_rules(
     alloc: Global,
-    faults: &mut Faults<Fault>,
+    faults: &mut All<'_, Fault>,
     text: &[u8],
 ) -> Result<Option<Rules>, AllocError>
-    ensures faults { OnOk result (KeepsMore faults.old faults.new (faults_of_rules text.now)) }
+    ensures faults { OnOk result (FindsMore faults.old faults.new (faults_of_rules text.now)) }
     ensures rules { IfOk result (λ rules. MatchOption rules
         ((r : Refusal) × (parsed_terms text.now ≡ Err r)) (λ t. parsed_terms text.now ≡ Ok t)) }
 {
@@ -104,12 +103,12 @@ pub fn take_rules(
 // Adds the faults of the form of that number, or returns the form.
 fn take_form(
     alloc: Global,
-    faults: &mut Faults<Fault>,
+    faults: &mut All<'_, Fault>,
     number: usize,
     text: &[u8],
     rules: &Rules,
 ) -> Result<Option<Form>, AllocError>
-    ensures faults { OnOk result (KeepsMore faults.old faults.new
+    ensures faults { OnOk result (FindsMore faults.old faults.new
         (faults_of_form rules.now number text.now)) }
     ensures form { IfOk result (λ form. MatchOption form
         ((r : Refusal) × (parsed_form rules.now number text.now ≡ Err r))
@@ -139,14 +138,14 @@ pub struct Together {
 /// read.
 pub fn take_forms(
     alloc: Global,
-    faults: &mut Faults<Fault>,
+    faults: &mut All<'_, Fault>,
     texts: &[&[u8]],
     numbers: &[usize],
     rules: &Rules,
     last_wins: bool,
 ) -> Result<Together, AllocError>
     requires { length numbers.now ≡ length texts.now }
-    ensures faults { OnOk result (KeepsMore faults.old faults.new
+    ensures faults { OnOk result (FindsMore faults.old faults.new
         (faults_of_forms rules.now (bytes_of texts.now))) }
     ensures another { IfOk result (λ together. together.another
         ≡ text_fault last_wins rules.now numbers.now
@@ -179,13 +178,13 @@ pub fn take_forms(
 }
 
 /// Adds the faults of a text of groups.
-pub fn take_groups(
+pub fn take_groups<'t>(
     alloc: Global,
-    faults: &mut Faults<Fault>,
-    text: &[u8],
+    faults: &mut All<'t, Fault>,
+    text: &'t [u8],
     rules: &Rules,
 ) -> Result<(), AllocError>
-    ensures { OnOk result (KeepsMore faults.old faults.new
+    ensures { OnOk result (FindsMore faults.old faults.new
         (faults_of_groups rules.now text.now)) }
 {
     let found = group_faults(alloc, text, rules)?;

@@ -9,6 +9,7 @@ use Rattle.auction_terms.specs.Entries.{Entries, is_member_of}
 use Rattle.auction_terms.specs.declared.rules.Bidder.{Bidder}
 use Rattle.auction_terms.specs.declared.rules.Category.{Category}
 
+-- the entries that consist of these categories, bidders, pools and members of pools
 abbrev pub entries : List Category → List Bidder → List NamedCap → List Member → Entries
 entries categories bidders pools members = record { categories = categories; bidders = bidders; pools = pools; members = members }
 

@@ -7,7 +7,7 @@ abbrev pub Tells : {T F : Type 0} → (F → Bool) → Result T F → Option F �
 Tells is_memory (Ok x) found value = (found ≡ None) × (x ≡ value)
 Tells is_memory (Err f) found value = MatchBool (is_memory f) ⊤ (found ≡ Some f)
 
--- the same, of the fault alone
+-- the result, whatever its value, agrees with the checks: there is one only if they found no fault, and else it is their fault, or memory was short
 abbrev pub TellsFault : {T F : Type 0} → (F → Bool) → Result T F → Option F → Type 0
 TellsFault is_memory (Ok x) found = found ≡ None
 TellsFault is_memory (Err f) found = MatchBool (is_memory f) ⊤ (found ≡ Some f)

@@ -6,6 +6,7 @@ use Rattle.auction_terms.specs.Domination.{is_kept}
 use Rattle.auction_terms.specs.Keeping.{Offer}
 use Rattle.auction_terms.specs.Packages.{Lots}
 
+-- the choice that takes an offered bid: its bidder and its number
 abbrev pub choice_of : Offer → Choice
 choice_of o = record { bidder = o.bidder; bid = o.number }
 

@@ -6,6 +6,7 @@ use Rattle.csv.specs.declared.parser.State.{State}
 use Rattle.csv.specs.declared.parser.State.TheVariants as st
 use Rattle.memchr.specs.Find.{is_byte3}
 
+-- the byte of a comma
 abbrev pub comma : ℕ
 comma = 44
 
@@ -17,16 +18,17 @@ quote = 34
 abbrev pub ends_field : ℕ → Bool
 ends_field = is_byte3 comma line_feed carriage_return
 
+-- whether bytes begin with this byte
 abbrev pub begins_with : ℕ → List ℕ → Bool
 begins_with byte [] = false
 begins_with byte (first ∷ bytes) = first == byte
 
--- they begin with no line end
+-- bytes begin with no line end
 abbrev pub BeginsNoLineEnd : List ℕ → Type 0
 BeginsNoLineEnd [] = ⊤
 BeginsNoLineEnd (byte ∷ bytes) = (byte ≢ line_feed) × (byte ≢ carriage_return)
 
--- there are none, or the first one ends a field
+-- there are no bytes, or the first one ends a field
 abbrev pub IsAtFieldEnd : List ℕ → Type 0
 IsAtFieldEnd [] = ⊤
 IsAtFieldEnd (byte ∷ bytes) = ends_field byte ≡ true

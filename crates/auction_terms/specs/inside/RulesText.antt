@@ -15,12 +15,15 @@ use Rattle.auction_terms.specs.declared.rules_text.Header.{Header}
 use Rattle.auction_terms.specs.declared.rules_text.RulesFault.{RulesFault}
 use Rattle.auction_terms.specs.declared.rules_text.RulesFault.TheVariants as fault
 
+-- the bidder that a record describes: its name, its eligibility and how many sessions it has
 abbrev pub bidder_of : Record → Bidder
 bidder_of r = record { name = record_field 2 r; eligibility = field_number 3 r; sessions = field_number 4 r }
 
+-- the pool that a record describes, without its weights: its name and its cap
 abbrev pub pool_of : Record → NamedCap
 pool_of r = record { name = record_field 2 r; cap = field_number 3 r }
 
+-- the member that a record describes: a pool, a category in it and the weight of that category
 abbrev pub member_of : Record → Member
 member_of r = record { pool = record_field 2 r; category = record_field 3 r; weight = field_number 4 r }
 

@@ -5,6 +5,7 @@ use Rattle.input_faults.specs.Shown.{shown_text}
 use Rattle.input_faults.specs.declared.detail.Detail.{Detail}
 use Rattle.input_faults.specs.declared.detail.Detail.TheVariants as of
 
+-- the words of a detail
 abbrev pub detail_text : Detail → List ℕ
 detail_text of.Nothing = []
 detail_text (of.Beginning line) = codes ": the text begins with " ++ (shown_text line.now ++ codes " and has no %rules before it")

@@ -4,9 +4,9 @@ use Rattle.auction_input.specs.Parts.{parts_held}
 use Rattle.auction_input.specs.Wanted.{numbers_in, proof_wants, solution_wants, wants}
 use Rattle.auction_input.specs.declared.wanted.Numbers.{Numbers}
 use Rattle.auction_input.specs.declared.wanted.Unmet.{Unmet}
-use Rattle.auction_terms.proofs.AllFaultsFacts.{keeps-both}
-use Rattle.auction_terms.specs.AllFaults.{KeepsMore}
-use Rattle.auction_terms.specs.declared.faults.Found.{Found}
+use Rattle.input_faults.proofs.MergeFacts.{finds-both}
+use Rattle.input_faults.specs.inside.Finding.{FindsMore}
+use Rattle.auction_terms.specs.Judged.{Fault as Judged}
 use Rattle.input_faults.specs.declared.fault.Fault.{Fault}
 use Rattle.input_faults.proofs.UnmetFacts.{unmet-both, unmet_of}
 use Rattle.auction_input.specs.declared.request.Target.{Target}
@@ -23,6 +23,6 @@ returns-in_ok-add_unmet-in-Verify c =
     ∙ ap (λ (m : Numbers). unmet_of (wants (Some target.Verify) m)) c.of_parts-numbers.ensures
     ∙ ap (λ (t : Target). unmet_of (wants (Some t) of_parts)) (sym c.in-Verify.is) in
     on_ok_weaker c.add_unmet-in-Verify-2.result
-    (λ second. subst (λ (fs : List (Found Fault)). KeepsMore c.args.faults.now c.add_unmet-in-Verify-2.new.faults fs) same
-    (keeps-both _ _ _ _ _ c.in_ok-add_unmet-in-Verify.ensures second))
+    (λ second. subst (λ (fs : List (Judged Fault)). FindsMore c.args.faults.now c.add_unmet-in-Verify-2.new.faults fs) same
+    (finds-both _ _ _ _ _ c.in_ok-add_unmet-in-Verify.ensures second))
     c.add_unmet-in-Verify-2.ensures

@@ -1,7 +1,8 @@
-use Rattle.std.proofs.Common.{◌∙◌, None, Some, sym}
-use Rattle.auction_terms.proofs.AllFaultsFacts.{keeps-none}
+use Rattle.std.proofs.Common.{◌∙◌, [], None, Some, sym}
+use Rattle.input_faults.proofs.MergeFacts.{finds-none}
 use Rattle.auction_input.specs.Parts.{parts_held}
-use Rattle.auction_terms.specs.AllFaults.{found}
+use Rattle.auction_terms.specs.Judged.{fault_at}
+use Rattle.auction_terms.specs.declared.limits.TheConstants.{MOST_FAULTS}
 use Rattle.input_faults.specs.declared.fault.Fault.TheVariants as fault
 use Rattle.input_faults.proofs.PartsFacts.{part-reported, parts-counted, parts-unknown}
 use Rattle.input_faults.proofs.finding.take_parts.Goals as goal
@@ -12,14 +13,14 @@ returns-in-Err c =
     let input = c.args.input.now in
     let f = c.in-Err.fault in
     let is = parts-unknown asked input f (part-reported asked input f c.in-Err.ensures c.in_ok-check_part_fault-in-Err.ensures) in
-    record { faults = rw is c.in_ok-add-in-Err.ensures; parts = (found 0 (fault.Parts f), is) }
+    record { faults = rw is (c.in_ok-add-in-Err.ensures MOST_FAULTS); parts = (fault_at 0 [] (fault.Parts f), is) }
 
 pub returns-in-None : goal.returns-in-None
 returns-in-None c =
     let (none, held) = c.in-Ok.ensures in
     let counted = rw c.as_slice.ensures.value at c.miscounted.ensures in
     let is = parts-counted c.args.request.now c.args.input.now (parts_held c.in-Ok.parts.items) None none held (sym counted ∙ c.in-None.is) in
-    record { faults = rw is (keeps-none c.args.faults.now); parts = (is, held) }
+    record { faults = rw is (finds-none c.args.faults.now); parts = (is, held) }
 
 pub returns : goal.returns
 returns c =
@@ -27,4 +28,4 @@ returns c =
     let kind = c.in-Some.kind in
     let counted = rw c.as_slice.ensures.value at c.miscounted.ensures in
     let is = parts-counted c.args.request.now c.args.input.now (parts_held c.in-Ok.parts.items) (Some kind) none held (sym counted ∙ c.in-Some.is) in
-    record { faults = rw is c.in_ok-add-in-Some.ensures; parts = (found 0 (fault.PartCount kind), is) }
+    record { faults = rw is (c.in_ok-add-in-Some.ensures MOST_FAULTS); parts = (fault_at 0 [] (fault.PartCount kind), is) }

@@ -3,8 +3,8 @@ use Rattle.std.specs.Prelude.{Result}
 use Rattle.auction_input.specs.Parts.{parts_held}
 use Rattle.auction_input.specs.ParsedTexts.{parsed_terms}
 use Rattle.auction_input.specs.declared.refusal.Refusal.{Refusal}
-use Rattle.auction_terms.proofs.AllFaultsFacts.{keeps-both}
-use Rattle.auction_terms.specs.AllFaults.{KeepsMore}
+use Rattle.input_faults.proofs.MergeFacts.{finds-both}
+use Rattle.input_faults.specs.inside.Finding.{FindsMore}
 use Rattle.auction_terms.specs.Terms.{Terms}
 use Rattle.input_faults.proofs.TextFacts.{texts-kept}
 use Rattle.input_faults.specs.InputFaults.{unmet_under, where_read}
@@ -16,8 +16,8 @@ returns c =
     let parts = parts_held c.args.parts.now in
     let texts =
     texts-kept c.args.faults.now c.take_under.new.faults c.args.last_wins c.in-Some.rules _ _ _ _ _ c.text_of-rules.ensures reported
-    (keeps-both _ _ _ _ _ c.in_ok-rules.ensures.faults c.in_ok-take_under.ensures) in
+    (finds-both _ _ _ _ _ c.in_ok-rules.ensures.faults c.in_ok-take_under.ensures) in
     let known = sym (ap parsed_terms c.text_of-rules.ensures) ∙ reported in
-    let unmet = subst (λ (r : Result Terms Refusal). KeepsMore c.take_under.new.faults c.take_wanted_by.new.faults
+    let unmet = subst (λ (r : Result Terms Refusal). FindsMore c.take_under.new.faults c.take_wanted_by.new.faults
     (where_read r (unmet_under c.args.command parts))) (sym known) c.in_ok-take_wanted_by.ensures in
-    keeps-both _ _ _ _ _ texts unmet
+    finds-both _ _ _ _ _ texts unmet

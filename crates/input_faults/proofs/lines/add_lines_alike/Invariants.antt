@@ -1,11 +1,12 @@
 use Rattle.std.proofs.Common.{take}
 use Rattle.std.specs.Prelude.{flat_map}
 use Rattle.byte_sinks.specs.Adds.{Adds}
-use Rattle.input_faults.specs.FaultLines.{fault_line, message_of}
+use Rattle.input_faults.specs.FaultLines.{message_of}
+use Rattle.input_faults.specs.inside.HeldLines.{kept_line}
 use Rattle.input_faults.specs.inside.DetailText.{detail_text}
 use Rattle.input_faults.proofs.lines.add_lines_alike.Given as goal
 
 -- the lines so far are added
 abbrev pub invariant-loop-at : goal.invariant-loop-at
 invariant-loop-at g l = Adds g.S.Sink.taken g.S.Sink.failures l.initial.writer l.writer
-    (flat_map (fault_line (message_of l.places) (λ field fault. detail_text l.detail)) (take l.at-index l.faults))
+    (flat_map (kept_line (message_of l.places) (λ at. detail_text l.detail)) (take l.at-index l.faults))

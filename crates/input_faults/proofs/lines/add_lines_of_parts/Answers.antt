@@ -3,10 +3,12 @@ use Rattle.std.specs.Prelude.{flat_map}
 use Rattle.auction_input.specs.Parts.{parts_held}
 use Rattle.auction_input.specs.Plan.{miscounted}
 use Rattle.auction_terms.specs.Lines.{bytes_of}
+use Rattle.auction_terms.specs.Judged.{Fault as Judged}
 use Rattle.byte_sinks.proofs.AddingFacts.{Adds-to}
 use Rattle.input_faults.proofs.PartsFacts.{count-detail, parts-detail}
 use Rattle.input_faults.specs.Details.{parts_count_message}
-use Rattle.input_faults.specs.FaultLines.{fault_line, message_of}
+use Rattle.input_faults.specs.FaultLines.{message_of}
+use Rattle.input_faults.specs.inside.HeldLines.{kept_line}
 use Rattle.input_faults.specs.declared.fault.Fault.{Fault}
 use Rattle.input_faults.proofs.lines.add_lines_of_parts.Goals as goal
 
@@ -16,8 +18,9 @@ returns-in-Some g c =
     let parts = parts_held c.args.parts.now in
     let kind = c.in-Some.kind in
     let reported = c.count_detail-detail.ensures ∙ ap (parts_count_message asked kind) c.count_of.ensures in
-    let alike : List ℕ → ℕ → Fault → List ℕ = λ reported n f. reported in
-    Adds-to c.add_lines_alike.ensures (ap (λ (d : ℕ → Fault → List ℕ). flat_map (fault_line (message_of c.args.places.now) d) c.args.faults.now)
+    let alike : List ℕ → Judged Fault → List ℕ = λ reported at. reported in
+    Adds-to c.add_lines_alike.ensures (ap (λ (d : Judged Fault → List ℕ). flat_map (kept_line (message_of c.args.places.now) d)
+    c.args.faults.now)
     (ap alike reported ∙ count-detail asked parts kind (sym c.miscounted.ensures ∙ c.in-Some.is)))
 
 pub returns : goal.returns
@@ -26,5 +29,5 @@ returns g c =
     let parts = parts_held c.args.parts.now in
     let none : miscounted asked parts ≡ None = sym c.miscounted.ensures ∙ search rules in
     let forms = ap bytes_of c.as_slice.ensures.value ∙ c.in_ok-forms.ensures in
-    Adds-to c.in_ok-add_lines_in.ensures (ap (λ (d : ℕ → Fault → List ℕ). flat_map (fault_line (message_of c.args.places.now) d)
-    c.args.faults.now) (parts-detail asked parts _ _ _ none c.text_of-rules.ensures forms c.text_of-groups.ensures))
+    Adds-to c.in_ok-add_lines_in.ensures (ap (λ (d : Judged Fault → List ℕ). flat_map (kept_line (message_of c.args.places.now) d)
+    c.args.faults.now) (parts-detail asked parts _ _ none c.text_of-rules.ensures forms))

@@ -3,7 +3,8 @@ use Rattle.auction_terms.specs.Records.{records_of}
 use Rattle.auction_terms.specs.RulesText.{version_of}
 use Rattle.byte_sinks.proofs.AddingFacts.{Adds-then, Adds-to}
 use Rattle.byte_sinks.proofs.KnownByteFacts.{flat_map-next_item}
-use Rattle.input_faults.specs.FaultLines.{fault_line, message_of}
+use Rattle.input_faults.specs.FaultLines.{message_of}
+use Rattle.input_faults.specs.inside.HeldLines.{kept_line}
 use Rattle.input_faults.specs.TextDetails.{detail_in_rules, numbered}
 use Rattle.input_faults.proofs.lines.add_lines_of_rules.Goals as goal
 
@@ -22,7 +23,7 @@ loop-at-preserved g c =
     let (added, stands, known) = c.loop-at.invariant in
     let text = c.args.text.now in (
       Adds-to (Adds-then added (c.in_ok-add_line_of_rules.ensures.added text stands known))
-          (flat_map-next_item (fault_line (message_of c.args.places.now) (detail_in_rules (records_of text))) c.args.faults.now
+          (flat_map-next_item (kept_line (message_of c.args.places.now) (detail_in_rules (records_of text))) c.args.faults.now
           c.loop-at.at-index c.at-item.result c.at-item.is (omega arith)),
       c.in_ok-add_line_of_rules.ensures.stands text stands,
       known,

@@ -1,8 +1,8 @@
 use Rattle.std.proofs.Common.{take}
-use Rattle.auction_terms.specs.AllFaults.{KeepsMore}
-use Rattle.input_faults.specs.FaultsAs.{faults_as}
+use Rattle.input_faults.proofs.MergeFacts.{kept_as}
+use Rattle.input_faults.specs.inside.Finding.{FindsMore}
 use Rattle.input_faults.specs.declared.fault.Fault.TheVariants as fault
 use Rattle.input_faults.proofs.merging.add_groups.Given as goal
 
 abbrev pub invariant-loop-at : goal.invariant-loop-at
-invariant-loop-at l = KeepsMore l.initial.faults l.faults (faults_as fault.Groups (take l.at-index l.found.kept.items))
+invariant-loop-at l = FindsMore l.initial.faults l.faults (kept_as fault.Groups (take l.at-index l.found.kept.items))

@@ -6,5 +6,5 @@ use Rattle.input_faults.proofs.merging.add_rules.Goals as goal
 pub returns : goal.returns
 returns c reported keeps =
     keeps-others fault.Rules c.args.faults.now c.loop-at.faults (record
-    { kept = c.loop-at.faults.kept; more = c.saturating_add-faults.result }) c.args.found.now reported
-    c.loop-at.at-index keeps (rw c.deref-at-items.ensures.value at c.loop-at-test.false) c.loop-at.invariant refl c.saturating_add-faults.ensures
+    { most = c.loop-at.faults.most; kept = c.loop-at.faults.kept; more = c.saturating_add-faults.result }) c.args.found.now reported
+    c.loop-at.at-index keeps (rw c.deref-at-items.ensures.value at c.loop-at-test.false) c.loop-at.invariant refl refl c.saturating_add-faults.ensures

@@ -3,24 +3,25 @@ use Rattle.std.proofs.lemmas.List.{drop_more}
 use Rattle.auction_input.proofs.InputTextFacts.{Text}
 use Rattle.auction_input.proofs.StageFacts.{left-first}
 use Rattle.auction_input.specs.ParsedTexts.{parsed_form}
-use Rattle.auction_terms.proofs.AllFaultsFacts.{found-all, found-more, keeps-both, keeps-none}
+use Rattle.auction_terms.proofs.AllFaultsFacts.{found-all, found-more}
+use Rattle.input_faults.proofs.MergeFacts.{finds-both, finds-none}
 use Rattle.auction_terms.specs.AllFaults.{accepted_with, all_faults}
 use Rattle.auction_terms.specs.Lines.{bytes_of}
 use Rattle.auction_terms.specs.Terms.{Terms}
-use Rattle.auction_terms.specs.declared.faults.Found.{Found}
+use Rattle.auction_terms.specs.Judged.{Fault as Judged}
 use Rattle.input_faults.specs.InputFaults.{faults_of_form, faults_of_forms}
 use Rattle.input_faults.specs.declared.fault.Fault.{Fault}
 use Rattle.input_faults.proofs.FormsFacts.{Seen, calls-known, form-less, form-more, texts-known}
 use Rattle.input_faults.proofs.reading.take_forms.Goals.{in-Some, in-None}
 use Rattle.input_faults.proofs.reading.take_forms.Goals as goal
 
-abbrev faults_by_form : Terms → ℕ → List (List ℕ) → List ℕ → List (Found Fault)
+abbrev faults_by_form : Terms → ℕ → List (List ℕ) → List ℕ → List (Judged Fault)
 faults_by_form t = λ number before text. faults_of_form t number text
 
 pub loop-place-init : goal.loop-place-init
 loop-place-init c =
     let t = c.args.rules.now in
-    ([], [], refl, keeps-none _, ([], refl, left-first (parsed_form t) (bytes_of c.args.texts.now), c.new-calls.ensures, c.new-known.ensures t))
+    ([], [], refl, finds-none _, ([], refl, left-first (parsed_form t) (bytes_of c.args.texts.now), c.new-calls.ensures, c.new-known.ensures t))
 
 pub loop-place-preserved : goal.loop-place-preserved
 loop-place-preserved c =
@@ -38,7 +39,7 @@ loop-place-preserved c =
       so_far ++ of_text,
       accepted_with of_text accepted text,
       found-more (faults_by_form t) _ so_far (place + 1) accepted _ _ text found next,
-      keeps-both _ _ _ _ _ keeps c.in_ok-form.ensures.faults,
+      finds-both _ _ _ _ _ keeps c.in_ok-form.ensures.faults,
       elim c.match-branch-2.branch [
         | in-Some w ↦ (
             let reported = rw w.in-Some.is at c.in_ok-form.ensures.form in
@@ -52,7 +53,7 @@ loop-place-preserved c =
     )
 
 -- what was found is all, where no form is left
-all-found : (t : Terms) (texts : List Text) (place : ℕ) (so_far : List (Found Fault)) (accepted : List (List ℕ)) → length texts ≤ place
+all-found : (t : Terms) (texts : List Text) (place : ℕ) (so_far : List (Judged Fault)) (accepted : List (List ℕ)) → length texts ≤ place
     → faults_of_forms t (bytes_of texts) ≡ so_far ++ all_faults (faults_by_form t) (place + 1) accepted (bytes_of (drop place texts))
     → faults_of_forms t (bytes_of texts) ≡ so_far
 all-found t texts place so_far accepted all found =
