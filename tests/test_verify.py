@@ -17,7 +17,8 @@ from damage import damage_certificate
 from oracle import Checker
 from trials.judging import KINDS, done, refused, row, seen
 from wdp.certify.layout import Layout
-from wdp.certify.search import Beaten, OnlySearch, Search
+from wdp.certify.other_points import Beaten, UniquenessSearch
+from wdp.certify.search import CertificateSearch
 from wdp.texts.zero_one import read_program, read_solution, format_solution
 
 # so many auctions are tried in one test
@@ -48,8 +49,8 @@ class Group:
         assert self.kept, "nothing of the greatest total has columns"
         self.won = draw.choice(self.kept)
         self.ones = point_of(program, self.won)
-        self.certificate = Search(Layout(program), self.ones).certificate()
-        verdict = Checker(program).verdict(program.objective(self.ones), self.certificate)
+        self.certificate = CertificateSearch(Layout(program), self.ones).find_certificate()
+        verdict = Checker(program).verdict(program.compute_objective(self.ones), self.certificate)
         assert verdict == (None, [])
 
 
@@ -75,9 +76,9 @@ def claimed(wdp, number):
         with row(f"auction {number}: {tied.input_text(auction, [()])}"):
             assert seen(wdp, ["verify"], text + claim) == done(report + outcome)
 
-    search = OnlySearch(Layout(first.program), [first.ones], None, lambda text: None)
+    search = UniquenessSearch(Layout(first.program), [first.ones])
     try:
-        only = b"%unique\n" + search.certificate()
+        only = b"%unique\n" + search.find_certificate()
     except Beaten as beaten:
         other = next(it for it in first.kept if point_of(first.program, it) == search.ones)
         assert beaten.gain == 0 and other != first.won
@@ -124,7 +125,7 @@ class Certified:
         program = programs_of(wdp, uncertified.removeprefix(b"%solution\n" + of[b"solution"]))[0]
         ones, checker = read_solution(of[b"solution"], program, "the solution"), Checker(program)
         self.report, self.what = seen(wdp, ["report"], uncertified)[1], "certificate 1"
-        self.judge = lambda it: checker.verdict(program.objective(ones), it)
+        self.judge = lambda it: checker.verdict(program.compute_objective(ones), it)
         if kind == b"unique":
             self.report, self.what = self.report + b"unique\n", "unique"
             self.judge = lambda it: checker.only_verdict([ones], it)

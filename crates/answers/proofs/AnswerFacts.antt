@@ -5,7 +5,7 @@ use Rattle.answers.specs.Answer.{answer, output_of}
 use Rattle.answers.specs.Exact.{Ends, IsUnwritten, MeetsLimit, Writes, by_refusal}
 use Rattle.answers.specs.Outside.{SinkState}
 use Rattle.answers.specs.Sold.{HasSold}
-use Rattle.answers.specs.inside.Output.{IsBeyondLimit, IsWithoutOutput}
+use Rattle.answers.specs.Output.{IsBeyondLimit, IsWithoutOutput}
 use Rattle.answers.proofs.FaithfulFacts.{faithful-without}
 use Rattle.auction_input.specs.Auction.{Auction, parsed_auction}
 use Rattle.auction_input.specs.Settled.{RefusesAuction}

@@ -7,15 +7,10 @@ use Rattle.std.proofs.lemmas.Bool.{and_parts, true_from_ne_false}
 use Rattle.std.proofs.lemmas.List.{append_cancel_right}
 use Rattle.auction_terms.specs.Allocations.{total}
 use Rattle.auction_terms.specs.Groups.{has}
-use Rattle.auction_terms.specs.Limits.{IsBook}
 use Rattle.auction_terms.specs.Only.{IsOnly}
 use Rattle.auction_terms.specs.Terms.{Terms}
 use Rattle.auction_terms.specs.declared.choices.Choice.{Choice}
-use Rattle.auction_input.proofs.AnswerFacts.{ok-is}
-use Rattle.auction_input.proofs.WithinFacts.{auction-within}
-use Rattle.auction_input.specs.Auction.{Auction, parsed_auction}
-use Rattle.auction_input.specs.Input.{Input}
-use Rattle.auction_input.specs.declared.request.Request.TheVariants as request
+use Rattle.auction_input.specs.Auction.{Auction}
 use Rattle.bid_desk.specs.Sale.{Sale}
 use Rattle.outcome.proofs.TieFacts.{others_differ, the_only_is_greatest}
 use Rattle.outcome.specs.Others.{Others, others_text}
@@ -30,12 +25,11 @@ use Rattle.prices.specs.Alone.{AreCostsAlone}
 use Rattle.prices.specs.Parts.{AreThePrices}
 use Rattle.prices.specs.Prices.{reserves_in}
 use Rattle.program_rows.specs.Faithful.{IsGreatest}
-use Rattle.answers.specs.Answer.{answer}
 use Rattle.answers.specs.Verified.{AreAmong, AreSameAward, AreTruePrices, ArePricesOfRule, AwardFollows, AwardsFollow, IsAward, IsGreatestWithout, IsListedFor}
 use Rattle.answers.specs.Verified.{IsTrueReport, award_lines, winners_of}
 use Rattle.answers.proofs.EndFacts.{report-ends, says-by-rule, says-unique}
 use Rattle.answers.proofs.OthersFacts.{only-of}
-use Rattle.answers.proofs.VerifiedFacts.{answered}
+use Rattle.answers.proofs.VerifiedFacts.{has-report}
 
 -- ---- the same winners
 
@@ -100,7 +94,7 @@ ruled auction out award =
     let true_of = subst (λ (o : Option Priced). IfSome o (AreTruePrices auction (winners_of auction out award))) award.priced award.report.prices in
     true_of.by_rule award.by_rule
 
-module _ (auction auction' : Auction) (out out' : List ℕ) (within : IsBook auction.sale.lots auction.sale.book) (rules : auction.rules ≡ auction'.rules)
+module _ (auction auction' : Auction) (out out' : List ℕ) (rules : auction.rules ≡ auction'.rules)
     (sale : auction.sale ≡ auction'.sale) (one : IsAward auction out) (other : IsAward auction' out') where
   abbrev first : List Choice
   first = winners_of auction out one
@@ -128,7 +122,7 @@ module _ (auction auction' : Auction) (out out' : List ℕ) (within : IsBook auc
       record {
         winners = same;
         prices = the_prices_follow (reserves_in auction.rules) auction.sale.lots auction.sale.book first alone alone' one.pricing.parts other.pricing.parts
-            (price_in one.pricing.prices) (price_in other.pricing.prices) within alone_are by_rule alone_are' by_rule';
+            (price_in one.pricing.prices) (price_in other.pricing.prices) one.report.book alone_are by_rule alone_are' by_rule';
         groups = λ group a a' listed listed'.
             let here = listed-greatest auction.sale group a auction.groups one.report.won one.report.greatest listed in
             let there = listed-greatest auction.sale group a' auction'.groups other.report.won greatest' listed' in
@@ -140,9 +134,8 @@ module _ (auction auction' : Auction) (out out' : List ℕ) (within : IsBook auc
       }
 
 pub awards_follow : AwardsFollow
-awards_follow workers workers' input input' auction auction' out out' parsed parsed' one other rules sale =
-    let within = (auction-within (request.Verify workers) input auction parsed).1 in
-    (among auction auction' out out' within rules sale one other, same-award auction auction' out out' within rules sale one other)
+awards_follow auction auction' out out' one other rules sale =
+    (among auction auction' out out' rules sale one other, same-award auction auction' out out' rules sale one other)
 
 -- ---- what is printed
 
@@ -151,9 +144,9 @@ record PrintsAward (auction : Auction) (out : List ℕ) : Type 0 where
   award : IsAward auction out
   alone : award.report.others.awards ≡ []
 
-prints-award : (auction : Auction) (before : List ℕ) (report : IsTrueReport auction (before ++ award_lines)) → 1 ≤ length (zip auction.groups report.won)
-    → PrintsAward auction (before ++ award_lines)
-prints-award auction before report some =
+prints-award : (auction : Auction) (before : List ℕ) → IsTrueReport auction (before ++ award_lines) → PrintsAward auction (before ++ award_lines)
+prints-award auction before report =
+    let some = has-report auction (before ++ award_lines) report in
     let first = slice_index_or report.won 0 [] in
     let text = report_text auction.sale auction.groups report.won in
     let ends = report-ends auction.sale auction.groups report.won some in
@@ -169,24 +162,19 @@ prints-award auction before report some =
     let (p, priced, by_rule) = says-by-rule auction.sale text ends first before report.pricing (append_cancel_right front (text ++ prices) (codes "unique\n") apart) in
     record { award = record { report = report; pricing = p; priced = priced; by_rule = by_rule; no_other = none }; alone = alone }
 
--- the award that `verify` answers of an input
-printed-award : (workers : ℕ) (input : Input) (auction : Auction) (before : List ℕ) → parsed_auction (request.Verify workers) input ≡ Ok auction
-    → answer (request.Verify workers) input ≡ Ok (before ++ award_lines) → PrintsAward auction (before ++ award_lines)
-printed-award workers input auction before parsed written =
-    let (found, found_is, (report, some)) = answered workers input (before ++ award_lines) written in
-    let same : found ≡ auction = ok-is _ found auction found_is parsed in
-    let printed = prints-award found before report some in
-    subst (λ (a : Auction). PrintsAward a (before ++ award_lines)) same printed
-
 pub award_follows : AwardFollows
-award_follows workers workers' input input' auction auction' before before' parsed parsed' rules sale answered answered' =
-    let one = printed-award workers input auction before parsed answered in
-    let other = printed-award workers' input' auction' before' parsed' answered' in
-    let within = (auction-within (request.Verify workers) input auction parsed).1 in
+award_follows auction auction' before before' rules sale report report' =
+    let one = prints-award auction before report in
+    let other = prints-award auction' before' report' in
     let first = slice_index_or one.award.report.won 0 [] in
     let first' = slice_index_or other.award.report.won 0 [] in
     let only = only-of auction.sale first one.award.report.others one.award.report.others_true one.award.no_other one.alone in
     let only' = subst (λ (s : Sale). IsOnly s.lots s.book (λ b. false) first') (sym sale)
     (only-of auction'.sale first' other.award.report.others other.award.report.others_true other.award.no_other other.alone) in
-    let same = winners-same auction.sale first first' only only' one.award.report.rising other.award.report.rising in
-    (one.award, other.award, same-award auction auction' (before ++ award_lines) (before' ++ award_lines) within rules sale one.award other.award same)
+    let same = winners-same auction.sale first first' only only' one.award.report.rising other.award.report.rising in (
+      one.award,
+      other.award,
+      one.alone,
+      other.alone,
+      same-award auction auction' (before ++ award_lines) (before' ++ award_lines) rules sale one.award other.award same,
+    )

@@ -35,8 +35,9 @@ use Rattle.auction_terms.specs.Stages.{and_then, each_in_turn, refused_as}
 use Rattle.answers.specs.Exact.{Writes}
 use Rattle.answers.specs.Claimed.{parsed_claims}
 use Rattle.answers.specs.Pricing.{parsed_pricing}
-use Rattle.answers.specs.Verified.{AreTruePrices, IsGreatestWithout, IsOnlyOutcome, IsOwnCost, IsPricedOutcome, IsWholeOutcome}
-use Rattle.answers.specs.Verified.{IsTrueReport, NoOtherIsSo, PricesCover, UniqueIsOnly, VerifiedIsTrue, WritesTrueReport}
+use Rattle.answers.specs.Verified.{AreTruePrices, IsGreatestWithout, IsOnlyOutcome, IsOwnCost, IsWholeOutcome}
+use Rattle.answers.specs.Verified.{IsTrueReport, NoOtherIsSo, UniqueIsOnly}
+use Rattle.answers.specs.VerifiedInputs.{VerifiedIsTrue, WritesTrueReportOn}
 use Rattle.answers.specs.SolutionWinners.{solution_refused, winners_by, winners_of_groups}
 use Rattle.answers.specs.inside.SolutionWinners.{winners}
 use Rattle.auction_input.specs.declared.part_kind.PartKind.TheVariants as part
@@ -198,27 +199,15 @@ module _ (auction : Auction) (out : List ℕ) (within : IsBook auction.sale.lots
     pricing = v.pricing;
     others = v.others;
     text = v.text;
+    book = within;
+    starts = (wins-first auction v.won v.wins).0;
     greatest = greatest;
     rising = rises;
     costs = own-costs auction.sale (slice_index_or v.won 0 []) first auction.groups v.won greatest;
     prices = priced.0;
+    unpriced = priced.1;
     others_true = claims-hold auction within (slice_index_or v.won 0 []) first rises (wins-first auction v.won v.wins).3 v.others v.claims;
   }
-
-  priced-outcome : auction.prices ≢ [] → IsPricedOutcome auction out
-  priced-outcome some = by v.pricing refl
-    where
-      by : (o : Option Priced) → v.pricing ≡ o → IsPricedOutcome auction out
-      by None is = absurd (some (priced.1 is))
-      by (Some p) is = record {
-        won = v.won;
-        pricing = p;
-        others = v.others;
-        text = subst (λ (x : Option Priced). out ≡ report_text auction.sale auction.groups v.won ++
-            (pricing_text auction.sale (slice_index_or v.won 0 []) x ++ others_text auction.sale v.others)) is v.text;
-        greatest = first;
-        prices = subst (λ (x : Option Priced). IfSome x (AreTruePrices auction (slice_index_or v.won 0 []))) is priced.0;
-      }
 
 -- ---- an input
 
@@ -231,15 +220,6 @@ verified-is-true workers input out parsed =
           (request.Verify workers) input auction auction_is) (verdicts workers auction out text),
     )
 
-pub prices-cover : PricesCover
-prices-cover workers input out parsed =
-    let (auction, auction_is, text) = ok-after (parsed_auction (request.Verify workers) input) (output_of (request.Verify workers)) out parsed in (
-      auction,
-      auction_is,
-      priced-outcome auction out (auction-within (request.Verify workers) input auction auction_is).1 (auction-sized
-          (request.Verify workers) input auction auction_is) (verdicts workers auction out text),
-    )
-
 -- some group has a report
 pub some-report : (sale : Sale) (groups : List (List ℕ)) (won : List (List Choice)) → 1 ≤ length groups
     → AllZip (IsGreatestWithout sale) groups won → 1 ≤ length (zip groups won)
@@ -247,21 +227,14 @@ some-report sale [] won some each = absurd (omega arith)
 some-report sale (group ∷ groups) [] some each = absurd each
 some-report sale (group ∷ groups) (a ∷ won) some each = omega arith
 
--- what `verify` answers is a true report, and group 1 has one
-pub answered : (workers : ℕ) (input : Input) (out : List ℕ) → answer (request.Verify workers) input ≡ Ok out
-    → (auction : Auction) × (parsed_auction (request.Verify workers) input ≡ Ok auction)
-    × ((report : IsTrueReport auction out) × (1 ≤ length (zip auction.groups report.won)))
-answered workers input out parsed =
-    let (auction, auction_is, text) = ok-after (parsed_auction (request.Verify workers) input) (output_of (request.Verify workers)) out parsed in
-    let v = verdicts workers auction out text in
-    let report = true-report auction out (auction-within (request.Verify workers) input auction auction_is).1
-    (auction-sized (request.Verify workers) input auction auction_is) v in
-    (auction, auction_is, (report, some-report auction.sale auction.groups report.won (some-group auction.groups (wins-first auction v.won v.wins).0) report.greatest))
+-- so group 1 has one
+pub has-report : (auction : Auction) (out : List ℕ) (report : IsTrueReport auction out) → 1 ≤ length (zip auction.groups report.won)
+has-report auction out report = some-report auction.sale auction.groups report.won (some-group auction.groups report.starts) report.greatest
 
 -- a true report that ends with the line `unique`
-only-outcome : (auction : Auction) (before : List ℕ) (report : IsTrueReport auction (before ++ codes "unique\n")) → 1 ≤ length (zip auction.groups report.won)
-    → IsOnlyOutcome auction (before ++ codes "unique\n")
-only-outcome auction before report some =
+pub unique-is-only : UniqueIsOnly
+unique-is-only auction before report =
+    let some = has-report auction (before ++ codes "unique\n") report in
     let first = slice_index_or report.won 0 [] in
     let text = report_text auction.sale auction.groups report.won in
     let (none, alone) = says-unique auction.sale text (report-ends auction.sale auction.groups report.won some) first before report.pricing report.others report.text in
@@ -276,15 +249,10 @@ only-outcome auction before report some =
       costs = settled-costs auction.sale first only auction.groups report.won report.greatest;
     }
 
-pub unique-is-only : UniqueIsOnly
-unique-is-only workers input before parsed =
-    let (auction, auction_is, (report, some)) = answered workers input (before ++ codes "unique\n") parsed in
-    (auction, auction_is, only-outcome auction before report some)
-
 -- a true report that ends with the line `no other`
-whole-outcome : (auction : Auction) (before : List ℕ) (report : IsTrueReport auction (before ++ codes "no other\n")) → 1 ≤ length (zip auction.groups report.won)
-    → IsWholeOutcome auction (before ++ codes "no other\n")
-whole-outcome auction before report some =
+pub no-other-is-so : NoOtherIsSo
+no-other-is-so auction before report =
+    let some = has-report auction (before ++ codes "no other\n") report in
     let first = slice_index_or report.won 0 [] in
     let text = report_text auction.sale auction.groups report.won in
     let (none, is) = says-no-other auction.sale text (report-ends auction.sale auction.groups report.won some) first before report.pricing report.others report.text in
@@ -296,15 +264,10 @@ whole-outcome auction before report some =
       all = all-of auction.sale first report.others report.others_true none;
     }
 
-pub no-other-is-so : NoOtherIsSo
-no-other-is-so workers input before parsed =
-    let (auction, auction_is, (report, some)) = answered workers input (before ++ codes "no other\n") parsed in
-    (auction, auction_is, whole-outcome auction before report some)
-
--- what is written at Ok is a true report
-pub writes-true : {T E : Type 0} (workers : ℕ) (input : Input) (result : Result T E) (taken taken' : Option (List ℕ))
-    → OnOk result (Writes (answer (request.Verify workers) input) taken taken') → OnOk result (WritesTrueReport workers input taken taken')
-writes-true workers input (Ok x) taken taken' (out, parsed, sent) =
+-- what is written of an input at Ok is a true report
+pub writes-true-on : {T E : Type 0} (workers : ℕ) (input : Input) (result : Result T E) (taken taken' : Option (List ℕ))
+    → OnOk result (Writes (answer (request.Verify workers) input) taken taken') → OnOk result (WritesTrueReportOn workers input taken taken')
+writes-true-on workers input (Ok x) taken taken' (out, parsed, sent) =
     let (auction, auction_is, report) = verified-is-true workers input out parsed in
-    record { auction = auction; out = out; parsed = auction_is; is_true = report; sent = sent }
-writes-true workers input (Err e) taken taken' written = tt
+    (auction, auction_is, record { out = out; is_true = report; sent = sent })
+writes-true-on workers input (Err e) taken taken' written = tt

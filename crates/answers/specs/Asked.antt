@@ -185,7 +185,7 @@ faults_of words = or_else (fault_of wdp (spelled words)) (target_fault (subcomma
 abbrev pub asked : List Text → Asked
 asked words = by_faults (faults_of words) (named (subcommand_of wdp (spelled words)))
 
--- the same of the words that std gives, and nothing if it gives none
+-- what the command line asks for, by the words that std gives, and nothing if it gives none
 abbrev pub asked_of : {Z E : Type 0} → Result (IntoIter (String Z) Z) E → Asked
 asked_of (Ok words) = asked (map text_of (into_iter_items words))
 asked_of (Err e) = for_nothing

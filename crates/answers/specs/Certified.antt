@@ -22,6 +22,7 @@ use Rattle.program_rows.specs.Program.{Table}
 abbrev pub bound_of : Sale → (List ℕ × List Choice) × List ℕ → Table × ℤ × List ℕ
 bound_of sale item = (program_for sale item.0.0, neg_ℤ (pos (total sale.lots sale.book item.0.1)), item.1)
 
+-- what the certificates of all groups are to show of what is won without each group, group by group
 abbrev pub bounds_of : Auction → List (List Choice) → List (Table × ℤ × List ℕ)
 bounds_of auction won = map (bound_of auction.sale) (zip (zip auction.groups won) auction.certificates)
 

@@ -80,6 +80,7 @@ parsed_ties auction first before (text ∷ texts) =
 
 -- ---- no other award
 
+-- the refusal of the text that is to show that there is no other award, by the line of its first fault and what is wrong there
 abbrev pub unique_refused : ℕ × CertificateFaultKind → Refusal
 unique_refused f = refusal.Unique (record { line = f.0; kind = f.1 })
 

@@ -30,8 +30,8 @@ pub data Ends (parsed : Result (List ℕ) Refusal) (before after : SinkState) : 
   by_put : {written : ℕ} → (out : List ℕ) → parsed ≡ Ok out → SentFront before.taken after.taken out written
       → HasFailed before.failures after.failures → Ends parsed before after (refusal.Write (write.Sink written))
 
--- after solutions that are accepted it is a certificate of the groups; after all of these the text that is to show that there is no other award;
--- and after an accepted one the cover of prices
+-- a text isn't judged, since one of its leaves has a size of 2^126 or more: a certificate of the groups, once the solutions are accepted; or, once
+-- the certificates are, the text that is to show that there is no other award; or, once the claims on other awards are, the cover of prices
 abbrev pub IsBeyondSums : Auction → Refusal → Type 0
 IsBeyondSums auction r =
     (won : List (List Choice)) × (winners_of_groups auction ≡ Ok won)

@@ -1,17 +1,15 @@
 -- What `text` and `compile` write where they end well: texts that are faithful to the auction that the input describes.
 use Rattle.std.specs.Prelude.{◌≡◌, ℕ, false, List, Ok}
 use Rattle.auction_input.specs.Input.{Input}
-use Rattle.std.specs.List.{AllByRecursion}
 use Rattle.auction_input.specs.Auction.{Auction, parsed_auction}
 use Rattle.answers.specs.Programs.{program_for}
 use Rattle.auction_input.specs.declared.request.Request.TheVariants.{Compile, Text}
 use Rattle.auction_terms.specs.Groups.{has}
 use Rattle.mps_text.specs.FaithfulText.{IsFaithfulText}
 use Rattle.mps_text.specs.Text.{text}
-use Rattle.outcome.specs.Report.{in_turn}
 use Rattle.bid_desk.specs.Sale.{Sale}
 use Rattle.answers.specs.Answer.{answer}
-use Rattle.answers.specs.GroupTexts.{program_text}
+use Rattle.answers.specs.FaithfulTexts.{AreFaithfulTexts}
 
 -- the text of a group's program says of the auction, and of the group left out, what the allocations say
 abbrev pub IsFaithfulToSale : Sale → List ℕ → Type 0
@@ -22,12 +20,7 @@ abbrev pub TextIsFaithful : Type 0
 TextIsFaithful = (input : Input) (out : List ℕ) → answer Text input ≡ Ok out
     → (auction : Auction) × (parsed_auction Text input ≡ Ok auction) × IsFaithfulText auction.sale.lots auction.sale.book (λ b. false) out
 
--- the line and the text of each group in order, and each text faithful
-pub record AreFaithfulTexts (auction : Auction) (out : List ℕ) : Type 0 where
-  pub texts : out ≡ in_turn (program_text auction.sale) 1 auction.groups
-  pub faithful : AllByRecursion (IsFaithfulToSale auction.sale) auction.groups
-
--- what `compile` answers of an input is these of the auction which the input describes
+-- what `compile` answers of an input is the line and a faithful text of each group of the auction which the input describes
 abbrev pub CompiledIsFaithful : Type 0
 CompiledIsFaithful = (workers : ℕ) (input : Input) (out : List ℕ) → answer (Compile workers) input ≡ Ok out
-    → (auction : Auction) × (parsed_auction (Compile workers) input ≡ Ok auction) × AreFaithfulTexts auction out
+    → (auction : Auction) × (parsed_auction (Compile workers) input ≡ Ok auction) × AreFaithfulTexts auction.sale 1 auction.groups out

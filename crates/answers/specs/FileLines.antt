@@ -34,7 +34,7 @@ abbrev pub file_text : List ℕ → FileFault → List ℕ → List ℕ
 file_text name fault.OutOfMemory other = codes "out of memory"
 file_text name f other = shown_name name ++ (codes ": " ++ words_with f other)
 
--- and its line
+-- the line that reports a file's fault
 abbrev pub file_line : List ℕ → FileFault → List ℕ → List ℕ
 file_line name f other = codes "wdp: " ++ (file_text name f other ++ 10 ∷ [])
 
@@ -42,7 +42,7 @@ file_line name f other = codes "wdp: " ++ (file_text name f other ++ 10 ∷ [])
 abbrev pub refusal_line : CommandLine → FileRefusal → List ℕ
 refusal_line command r = file_line (name_at command r.file) r.fault (other_file command r.fault)
 
--- and that of what isn't read
+-- the line that reports why the input wasn't read: the input itself is refused, or a file that the command line names
 abbrev pub unread_line : CommandLine → Unread → List ℕ
 unread_line command (unread.Input f) = line (refusal.Input f)
 unread_line command (unread.File r) = refusal_line command r

@@ -15,12 +15,12 @@ abbrev pub program_text : Sale → ℕ → List ℕ → List ℕ
 program_text sale k group =
     heading (codes "* program ") sale.names k group ++ text (program_for sale group)
 
--- those of what was compiled for group k
+-- the line and the program of what was compiled for group k
 abbrev pub program_bytes : Closing → ℕ → GroupProgram → List ℕ
 program_bytes book k c =
     heading (codes "* program ") (sale_of book).names k c.group ++ text c.program
 
--- those of all groups
+-- the lines and the programs of what was compiled for all groups, group by group
 abbrev pub programs_bytes : Closing → List GroupProgram → List ℕ
 programs_bytes book programs = in_turn (program_bytes book) 1 programs
 

@@ -8,13 +8,16 @@ pub mod Answer
 pub mod Exact
 pub mod ExplainedFor
 pub mod FaithfulAnswers
+pub mod FaithfulTexts
 pub mod Sold
 pub mod FeasibleAnswers
 pub mod FileLines
 pub mod Forms
 pub mod GroupTexts
+pub mod Output
 pub mod Outside
 pub mod Runs
 pub mod Sizes
 pub mod Verified
+pub mod VerifiedInputs
 pub mod inside

@@ -105,6 +105,7 @@ rule_of auction won (line.Scaled scales ∷ more) = Ok (record {
   push = scales.push;
 })
 
+-- the rule that a text describes, or why the text is refused
 abbrev pub parsed_rule : Auction → List (List Choice) → List Choice → List ℕ → Result Rule Refusal
 parsed_rule auction won first text = and_then (refused_as refusal.Rule (parsed_rule_lines (known_by auction first) text)) (rule_of auction won)
 
@@ -155,6 +156,7 @@ abbrev pub priced_by : Auction → List (List Choice) → List (List ℕ) → Li
 priced_by auction won [] covers = Ok None
 priced_by auction won (text ∷ more) covers = and_then (priced auction won (slice_index_or won 0 []) text (slice_index_or covers 0 [])) (λ p. Ok (Some p))
 
+-- the prices of an auction, which its cover shows to cover every group; nothing if it has no text of prices; or the first refusal
 abbrev pub parsed_pricing : Auction → List (List Choice) → Result (Option Priced) Refusal
 parsed_pricing auction won = unless (first_failed (pricing_counts auction)) (priced_by auction won auction.prices auction.covers)
 
@@ -164,6 +166,7 @@ IsTooWidePriced auction first r =
     (p : InParts) × (parsed_prices auction first (slice_index_or auction.prices 0 []) ≡ Ok p)
     × IsTooWideCover auction first p (slice_index_or auction.covers 0 []) r
 
+-- the one text of prices is accepted, but its cover isn't judged, since one of the cover's leaves has a size of 2^126 or more
 abbrev pub IsTooWidePricing : Auction → List (List Choice) → Refusal → Type 0
 IsTooWidePricing auction won r =
     (first_failed (pricing_counts auction) ≡ None) × (length auction.prices ≡ 1) × IsTooWidePriced auction (slice_index_or won 0 []) r

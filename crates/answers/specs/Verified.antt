@@ -1,13 +1,12 @@
--- What `verify` writes if it ends well: allocations of greatest total, and so the groups' own opportunity costs; prices that cover every
--- group; and what it says of other awards.
-use Rattle.std.specs.Prelude.{◌≡◌, ◌≢◌, ◌⊎◌, ◌++◌, ◌∷◌, All, Any, IsPermutation, ℕ, false, true, List, [], Option, Some, IfSome, Ok, codes, flat_map, slice_index_or}
-use Rattle.auction_input.specs.Input.{Input}
+-- What `verify` writes of an auction if it ends well: allocations of greatest total, and so the groups' own opportunity costs; prices that
+-- cover every group; and what it says of other awards. Nothing here is about the texts of an input.
+use Rattle.std.specs.Prelude.{◌≡◌, ◌≢◌, ◌⊎◌, ◌++◌, ◌∷◌, All, Any, IsPermutation, ℕ, false, true, List, [], Option, None, Some, IfSome, Ok, codes, flat_map, slice_index_or}
 use Rattle.std.specs.Io.KnownBytes.{Appends}
 use Rattle.std.specs.List.{AllByRecursion, AllZip}
-use Rattle.auction_input.specs.Auction.{Auction, parsed_auction}
-use Rattle.auction_input.specs.declared.request.Request.TheVariants.{Verify}
+use Rattle.auction_input.specs.Auction.{Auction}
 use Rattle.auction_terms.specs.Allocations.{total}
-use Rattle.auction_terms.specs.Groups.{has}
+use Rattle.auction_terms.specs.Groups.{has, starts_empty}
+use Rattle.auction_terms.specs.Limits.{IsBook}
 use Rattle.auction_terms.specs.Only.{IsOnly}
 use Rattle.auction_terms.specs.declared.choices.Choice.{Choice}
 use Rattle.outcome.specs.Costs.{IsCost, IsGreatestTotal, opportunity_cost}
@@ -24,7 +23,6 @@ use Rattle.outcome.specs.PointAllocation.{HasRisingBidders}
 use Rattle.outcome.specs.Ties.{IsTheCost}
 use Rattle.outcome.specs.declared.others.Further.TheVariants.{NoOther}
 use Rattle.program_rows.specs.Faithful.{IsGreatest}
-use Rattle.answers.specs.Answer.{answer}
 
 -- a feasible allocation of greatest total without a group
 abbrev pub IsGreatestWithout : Sale → List ℕ → List Choice → Type 0
@@ -36,8 +34,8 @@ pub record IsOwnCost (sale : Sale) (first : List Choice) (group : List ℕ) (a :
       → cost sale.lots sale.book first group a ≡ opportunity_cost of_all without (amounts_of_group sale.book group first)
   pub law : IsCost sale.lots sale.book first group a
 
--- prices in these parts of a pound are the prices of the rule: of all that cover every group and meet the reserves those of least sum, and of
--- these the ones nearest to what each winner costs alone
+-- prices in these parts of a pound are the prices of the rule: of all that cover every group and meet the reserves those of least sum, and
+-- among several of least sum the ones nearest to what each winner costs alone
 abbrev pub ArePricesOfRule : Auction → List Choice → ℕ → (ℕ → ℕ) → Type 0
 ArePricesOfRule auction first parts price =
     (alone : ℕ → ℕ) × AreCostsAlone (reserves_in auction.rules) auction.sale.lots auction.sale.book first alone
@@ -52,24 +50,28 @@ pub record AreTruePrices (auction : Auction) (first : List Choice) (p : Priced) 
   pub at_least : MeetReserves (reserves_in auction.rules) auction.sale.book first (in_pounds p.parts (price_in p.prices))
   pub by_rule : p.by_rule ≡ true → ArePricesOfRule auction first p.parts (price_in p.prices)
 
--- a report on an allocation of greatest total for each group, and on the groups' opportunity costs; and after it true prices, if there are
--- prices, and what is said of other awards, which is true
+-- a report on an allocation of greatest total for each group, of which the first leaves nobody out, and on the groups' opportunity costs; after
+-- it true prices, as there are if the input has prices, and what is said of other awards, which is true
 pub record IsTrueReport (auction : Auction) (out : List ℕ) : Type 0 where
   pub won : List (List Choice)
   pub pricing : Option Priced
   pub others : Others
   pub text : out ≡ report_text auction.sale auction.groups won ++
       (pricing_text auction.sale (slice_index_or won 0 []) pricing ++ others_text auction.sale others)
+  pub book : IsBook auction.sale.lots auction.sale.book
+  pub starts : starts_empty auction.groups ≡ true
   pub greatest : AllZip (IsGreatestWithout auction.sale) auction.groups won
   pub rising : HasRisingBidders (slice_index_or won 0 [])
   pub costs : AllZip (IsOwnCost auction.sale (slice_index_or won 0 [])) auction.groups won
   pub prices : IfSome pricing (AreTruePrices auction (slice_index_or won 0 []))
+  pub unpriced : pricing ≡ None → auction.prices ≡ []
   pub others_true : AreTrueOthers auction.sale.lots auction.sale.book (λ b. false) (slice_index_or won 0 []) others
 
--- what `verify` answers of an input is a true report on the auction that the input describes
-abbrev pub VerifiedIsTrue : Type 0
-VerifiedIsTrue = (workers : ℕ) (input : Input) (out : List ℕ) → answer (Verify workers) input ≡ Ok out
-    → (auction : Auction) × (parsed_auction (Verify workers) input ≡ Ok auction) × IsTrueReport auction out
+-- a true report on an auction was written, and nothing else
+pub record WritesTrueReport (auction : Auction) (taken taken' : Option (List ℕ)) : Type 0 where
+  pub out : List ℕ
+  pub is_true : IsTrueReport auction out
+  pub sent : Appends taken taken' out
 
 -- whichever allocations of greatest total are taken, the group's cost is the one that is written
 abbrev pub IsSettledCost : Sale → List Choice → List ℕ → List Choice → Type 0
@@ -83,25 +85,9 @@ pub record IsOnlyOutcome (auction : Auction) (out : List ℕ) : Type 0 where
   pub only : IsOnly auction.sale.lots auction.sale.book (λ b. false) (slice_index_or won 0 [])
   pub costs : AllZip (IsSettledCost auction.sale (slice_index_or won 0 [])) auction.groups won
 
--- a report on an allocation of greatest total, after it these prices, which are true, and what is said of other awards
-pub record IsPricedOutcome (auction : Auction) (out : List ℕ) : Type 0 where
-  pub won : List (List Choice)
-  pub pricing : Priced
-  pub others : Others
-  pub text : out ≡ report_text auction.sale auction.groups won ++
-      (pricing_text auction.sale (slice_index_or won 0 []) (Some pricing) ++ others_text auction.sale others)
-  pub greatest : IsGreatestWithout auction.sale [] (slice_index_or won 0 [])
-  pub prices : AreTruePrices auction (slice_index_or won 0 []) pricing
-
--- what `verify` answers of an input with prices has them among its bytes, and they are true
-abbrev pub PricesCover : Type 0
-PricesCover = (workers : ℕ) (input : Input) (out : List ℕ) → answer (Verify workers) input ≡ Ok out
-    → (auction : Auction) × (parsed_auction (Verify workers) input ≡ Ok auction) × (auction.prices ≢ [] → IsPricedOutcome auction out)
-
--- where what `verify` answers of an input ends with the line `unique`, that is so
+-- where a true report ends with the line `unique`, that is so
 abbrev pub UniqueIsOnly : Type 0
-UniqueIsOnly = (workers : ℕ) (input : Input) (before : List ℕ) → answer (Verify workers) input ≡ Ok (before ++ codes "unique\n")
-    → (auction : Auction) × (parsed_auction (Verify workers) input ≡ Ok auction) × IsOnlyOutcome auction (before ++ codes "unique\n")
+UniqueIsOnly = (auction : Auction) (before : List ℕ) → IsTrueReport auction (before ++ codes "unique\n") → IsOnlyOutcome auction (before ++ codes "unique\n")
 
 -- the awards that are printed are all that have so great a total: the winners of the report first, and each after a line `tie`
 pub record IsWholeOutcome (auction : Auction) (out : List ℕ) : Type 0 where
@@ -112,10 +98,9 @@ pub record IsWholeOutcome (auction : Auction) (out : List ℕ) : Type 0 where
       (flat_map (tie_text auction.sale) ties ++ codes "no other\n"))
   pub all : AreAllGreatest auction.sale.lots auction.sale.book (λ b. false) (slice_index_or won 0 [] ∷ ties)
 
--- where what `verify` answers of an input ends with the line `no other`, that is so
+-- where a true report ends with the line `no other`, that is so
 abbrev pub NoOtherIsSo : Type 0
-NoOtherIsSo = (workers : ℕ) (input : Input) (before : List ℕ) → answer (Verify workers) input ≡ Ok (before ++ codes "no other\n")
-    → (auction : Auction) × (parsed_auction (Verify workers) input ≡ Ok auction) × IsWholeOutcome auction (before ++ codes "no other\n")
+NoOtherIsSo = (auction : Auction) (before : List ℕ) → IsTrueReport auction (before ++ codes "no other\n") → IsWholeOutcome auction (before ++ codes "no other\n")
 
 -- ---------- the award follows from the sealed bids ----------
 
@@ -151,12 +136,11 @@ pub record AreSameAward (auction auction' : Auction) (out out' : List ℕ) (one 
       × (cost auction.sale.lots auction.sale.book (winners_of auction out one) group a
       ≡ cost auction'.sale.lots auction'.sale.book (winners_of auction' out' other) group a')
 
--- of two inputs with the same rules and the same last forms both print the same awards, and if they have the same one first, it is the same with
--- its prices and costs: whoever solved, certified and priced, and whichever groups are listed
+-- of two auctions with the same rules and the same last forms both print the same awards, and if they have the same one first, it is the same
+-- with its prices and costs: whoever solved, certified and priced, and whichever groups are listed
 abbrev pub AwardsFollow : Type 0
-AwardsFollow = (workers workers' : ℕ) (input input' : Input) (auction auction' : Auction) (out out' : List ℕ)
-    → parsed_auction (Verify workers) input ≡ Ok auction → parsed_auction (Verify workers') input' ≡ Ok auction'
-    → (one : IsAward auction out) (other : IsAward auction' out') → auction.rules ≡ auction'.rules → auction.sale ≡ auction'.sale
+AwardsFollow = (auction auction' : Auction) (out out' : List ℕ) (one : IsAward auction out) (other : IsAward auction' out')
+    → auction.rules ≡ auction'.rules → auction.sale ≡ auction'.sale
     → AreAmong (winners_of auction out one ∷ one.report.others.awards) (winners_of auction' out' other ∷ other.report.others.awards)
     × (winners_of auction out one ≡ winners_of auction' out' other → AreSameAward auction auction' out out' one other)
 
@@ -164,19 +148,10 @@ AwardsFollow = (workers workers' : ℕ) (input input' : Input) (auction auction'
 abbrev pub award_lines : List ℕ
 award_lines = codes "by the rule\nunique\n"
 
--- of two inputs with the same rules and the same last forms, of which `verify` answers so, the awards are the same
+-- of two auctions with the same rules and the same last forms, of which true reports end so, the awards are the same, and no other is printed
 abbrev pub AwardFollows : Type 0
-AwardFollows = (workers workers' : ℕ) (input input' : Input) (auction auction' : Auction) (before before' : List ℕ)
-    → parsed_auction (Verify workers) input ≡ Ok auction → parsed_auction (Verify workers') input' ≡ Ok auction'
-    → auction.rules ≡ auction'.rules → auction.sale ≡ auction'.sale
-    → answer (Verify workers) input ≡ Ok (before ++ award_lines) → answer (Verify workers') input' ≡ Ok (before' ++ award_lines)
+AwardFollows = (auction auction' : Auction) (before before' : List ℕ) → auction.rules ≡ auction'.rules → auction.sale ≡ auction'.sale
+    → IsTrueReport auction (before ++ award_lines) → IsTrueReport auction' (before' ++ award_lines)
     → (one : IsAward auction (before ++ award_lines)) × (other : IsAward auction' (before' ++ award_lines))
+    × (one.report.others.awards ≡ []) × (other.report.others.awards ≡ [])
     × AreSameAward auction auction' (before ++ award_lines) (before' ++ award_lines) one other
-
--- a true report on the auction that an input describes was written, and nothing else
-pub record WritesTrueReport (workers : ℕ) (input : Input) (taken taken' : Option (List ℕ)) : Type 0 where
-  pub auction : Auction
-  pub out : List ℕ
-  pub parsed : parsed_auction (Verify workers) input ≡ Ok auction
-  pub is_true : IsTrueReport auction out
-  pub sent : Appends taken taken' out

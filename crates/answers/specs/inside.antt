@@ -1,7 +1,6 @@
 pub mod Claiming
 pub mod Forms
 pub mod Judging
-pub mod Output
 pub mod Runs
 pub mod SolutionWinners
 pub mod RuleHeld

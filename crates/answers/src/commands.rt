@@ -7,7 +7,7 @@ ghost use Rattle.answers.specs.Exact.{IsUnwritten, Writes};
 ghost use Rattle.answers.specs.Runs.{AsksAnswer};
 ghost use Rattle.auction_input.specs.Requests.{IsRequestWithinLimits};
 ghost use Rattle.answers.specs.Sold.{HasSold};
-ghost use Rattle.answers.specs.inside.Output.{IsWithoutOutput};
+ghost use Rattle.answers.specs.Output.{IsWithoutOutput};
 ghost use Rattle.auction_input.specs.Settled.{held};
 
 pub mod check;
@@ -70,7 +70,7 @@ fn answer_auction<R: Threads + Wait + Sync + AllocGlobal, S: Sink>(
 ) -> Result<(), Refusal>
     requires limits { IsRequestWithinLimits request.now }
     requires auction { request.now ≢ Request.Check }
-    requires settled { request.now ≢ Request.Forms }
+    requires not_forms { request.now ≢ Request.Forms }
     ensures written { OnOk result (Writes (answer request.now input.now) (S.taken out.old)
         (S.taken out.new)) }
     ensures sold { OnOk result (HasSold request.now input.now) }
@@ -93,7 +93,7 @@ fn write_output<R: Threads + Wait + Sync + AllocGlobal, S: Sink>(
 ) -> Result<(), Refusal>
     requires limits { IsRequestWithinLimits request.now }
     requires auction { request.now ≢ Request.Check }
-    requires settled { request.now ≢ Request.Forms }
+    requires not_forms { request.now ≢ Request.Forms }
     ensures written { OnOk result (Writes (output_of request.now (held auction.now))
         (S.taken out.old) (S.taken out.new)) }
     ensures succeeded { OnOk result (S.failures out.new ≡ S.failures out.old) }

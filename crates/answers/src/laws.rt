@@ -5,7 +5,8 @@ ghost use Rattle.auction_input.specs.Input.{Input};
 ghost use Rattle.auction_input.specs.declared.request.Target.{Target};
 ghost use Rattle.answers.specs.FaithfulAnswers.{CompiledIsFaithful, TextIsFaithful};
 ghost use Rattle.answers.specs.FeasibleAnswers.{MappedIsFeasible, ReportedIsFeasible};
-ghost use Rattle.answers.specs.Verified.{AwardFollows, AwardsFollow, NoOtherIsSo, PricesCover, UniqueIsOnly, VerifiedIsTrue};
+ghost use Rattle.answers.specs.Verified.{AwardFollows, AwardsFollow, NoOtherIsSo, UniqueIsOnly};
+ghost use Rattle.answers.specs.VerifiedInputs.{VerifiedIsTrue};
 
 /// What `text` answers of an input is a text that is faithful to the auction that the input describes: each 0-1 point of its
 /// program maps back to a feasible allocation of the same total, and each feasible allocation is matched by a point of at least
@@ -31,43 +32,32 @@ pub fn reported_allocations_are_feasible()
     ensures { ReportedIsFeasible }
 {}
 
-/// What `verify` answers of an input is a report on allocations of greatest total, each without its group, of the auction that
-/// the input describes; and so each cost is the group's opportunity cost, and keeps the law on costs. What it says of other
-/// awards holds, too: each that is printed is of greatest total, no two have the same winners, and there is no other, or there are more.
+/// What `verify` answers of an input is a true report on the auction that the input describes.
 pub fn a_verified_report_is_true()
     ensures { VerifiedIsTrue }
 {}
 
-/// If an input has prices, what `verify` answers has them, too, and no list of bidders pays less than its opportunity cost,
-/// whichever allocations of greatest total are taken; each winner's exact price is at most its amount, and it pays at least the reserve of
-/// its lots. If `by the rule` is printed, the exact prices are those of the rule: of all that cover every list of bidders and meet the reserves
-/// those of least sum, and of these the ones nearest to what each winner costs alone.
-pub fn printed_prices_cover_every_group()
-    ensures { PricesCover }
-{}
-
-/// Where what `verify` answers of an input ends with the line `unique`, no other feasible allocation of the auction that the
-/// input describes has as great a total; and so the winners, and each group's cost, follow from the rules, the bids and the group
-/// alone.
+/// Where a true report ends with the line `unique`, no other feasible allocation of the auction has as great a total; and so the
+/// winners, and each group's cost, follow from the rules, the bids and the group alone.
 pub fn unique_winners_are_the_only_ones()
     ensures { UniqueIsOnly }
 {}
 
-/// Where what `verify` answers of an input ends with the line `no other`, the awards that are printed are all feasible allocations of
-/// greatest total of the auction that the input describes.
+/// Where a true report ends with the line `no other`, the awards that it prints are all feasible allocations of greatest total of the
+/// auction.
 pub fn no_other_winners_than_those_printed()
     ensures { NoOtherIsSo }
 {}
 
-/// Of two inputs with the same rules and the same last forms, with prices of the rule and no other award than those that are printed, both
-/// print the same awards; and if both have the same one first, each of its winners pays the same, and each group that both list has the same
-/// total and cost: whoever solved, certified and priced, and whichever groups are listed.
+/// Of two auctions with the same rules and the same last forms, with prices of the rule and no other award than those that are printed,
+/// true reports print the same awards; and if both have the same one first, each of its winners pays the same, and each group that both
+/// list has the same total and cost: whoever solved, certified and priced, and whichever groups are listed.
 pub fn tied_awards_follow_from_the_bids()
     ensures { AwardsFollow }
 {}
 
-/// If what `verify` answers of two inputs with the same rules and the same last forms ends with the lines `by the rule` and `unique`, both
-/// have the same winners with the same bids, each winner pays the same, and each group that both list has the same total and cost: whoever
+/// If true reports on two auctions with the same rules and the same last forms end with the lines `by the rule` and `unique`, both have
+/// the same winners with the same bids, each winner pays the same, and each group that both list has the same total and cost: whoever
 /// solved, certified and priced, and whichever groups are listed.
 pub fn the_award_follows_from_the_bids()
     ensures { AwardFollows }

@@ -24,7 +24,7 @@ pub use claimed::claim_of;
 pub use commands::answer;
 pub use commands::check::write_sizes;
 pub use commands::compile::run_compile;
-pub use commands::verify::verify;
+pub use commands::verify::{verify, write_verified};
 pub use file_lines::print_file_line;
 pub use group_texts::{RunFault, write_programs};
 pub use messages::print_refusal;

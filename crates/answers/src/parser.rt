@@ -59,7 +59,7 @@ const REPORT: Page = Page {
 const VERIFY: Page = Page {
     name: "verify",
     about: "Prints the report of solutions that certificates show to be optimal",
-    below: "Input: that of report, and a %certificate for each group; optionally %prices with %cover and %rule, and %unique or %tie\nOutput: that of report, then the prices if given, then unique, or tie and an allocation\nWrong number of parts: wdp explain --for verify prints how many were found and wanted\nExample: wdp verify examples/verified.txt",
+    below: "Input: that of report, and a %certificate for each group; optionally %prices with %cover and %rule, up to 64 %tie, and %unique\nOutput: that of report, then the prices if given, then each other award after tie, and last unique, no other, or and more\nWrong number of parts: wdp explain --for verify prints how many were found and wanted\nExample: wdp verify examples/verified.txt",
 };
 
 const EXPLAIN: Page = Page {

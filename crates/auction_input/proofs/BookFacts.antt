@@ -35,6 +35,7 @@ use Rattle.auction_input.specs.declared.request.Target.{Target}
 use Rattle.auction_input.proofs.AnswerFacts.{ok-after, ok-refused_as, unless-ok}
 use Rattle.auction_input.proofs.LastFormFacts.{forms-are, read_so}
 use Rattle.auction_input.proofs.StageFacts.{next}
+use Rattle.auction_terms.specs.AllFaults.{all_faults}
 use Rattle.auction_terms.specs.FirstFault.{first_failed, first_fault}
 use Rattle.auction_terms.specs.Stages.{and_then, each_in_turn, refused_as, unless}
 use Rattle.auction_terms.specs.Terms.{Terms}
@@ -213,7 +214,7 @@ agree-limit (Some n) x y = λ r. (refused-too (refusal.CallLimit n) r, refused-t
 
 -- a text without lines describes no group
 no-group : (t : Terms) → parsed_groups t [] ≡ Ok []
-unfolding first_fault
+unfolding all_faults
 no-group t = refl
 
 second-passes : (a b : Bool) (k l : PartKind) (more : List (Bool × PartKind)) → first_failed ((a, k) ∷ (b, l) ∷ more) ≡ None → b ≡ true

@@ -32,6 +32,8 @@ pub record Auction : Type 0 where
   pub covers : List (List ℕ)
   pub rule_texts : List (List ℕ)
 
+-- the auction that an input describes to a request, or its first refusal: for a part, the rules, a form, a bidder's forms in several texts, the
+-- groups or the call limit
 abbrev pub parsed_auction : Request → Input → Result Auction Refusal
 parsed_auction asked input =
     and_then (parsed_parts asked input) (λ parts.

@@ -15,7 +15,7 @@ use Rattle.byte_sinks.specs.Sinks.{HasFailed}
 abbrev pub is_standard_input : List ℕ → Bool
 is_standard_input name = bytes_eq name (codes "-") || bytes_eq name (codes "/dev/stdin")
 
--- these are the bytes of a file, where those are known
+-- bytes are those of a file, if the file's bytes are known
 abbrev pub IsContent : Option (List ℕ) → List ℕ → Type 0
 IsContent None bytes = ⊤
 IsContent (Some whole) bytes = bytes ≡ whole

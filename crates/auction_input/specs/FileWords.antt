@@ -5,6 +5,7 @@ use Rattle.auction_input.specs.declared.files.FileFault.TheVariants as fault
 use Rattle.auction_input.specs.declared.files.FileKind.{FileKind}
 use Rattle.auction_input.specs.declared.files.FileKind.TheVariants as kind
 
+-- the words for a kind of file that is not a regular one
 abbrev pub kind_words : FileKind → List ℕ
 kind_words kind.Folder = codes "a folder"
 kind_words kind.Pipe = codes "a named pipe"

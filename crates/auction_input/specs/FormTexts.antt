@@ -17,7 +17,7 @@ abbrev pub first_text : ℕ → List (Offers × ℕ) → Option ℕ
 first_text bidder [] = None
 first_text bidder (form ∷ more) = if form.0.bidder == bidder then Some form.1 else first_text bidder more
 
--- of a form in this text, if its bidder's first form is in another
+-- the fault of a form in this text, if its bidder's first form is in another
 abbrev pub elsewhere : ℕ → (ℕ → AnotherForm) → Option ℕ → Option AnotherForm
 elsewhere text another None = None
 elsewhere text another (Some first) = if first == text then None else Some (another first)
@@ -30,15 +30,16 @@ another t number form first = record { form = number; bidder = bidder_name (map 
 abbrev pub another_form : Terms → List (Offers × ℕ) → Offers × ℕ → Option AnotherForm
 another_form t before form = elsewhere form.1 (another t (length before + 1) form.0) (first_text form.0.bidder before)
 
--- that of the first form of these that has one, where each is in the text of its number; none, if the last form of a bidder counts in whichever text it is
+-- the fault of the first form that is in another text than its bidder's first form, where each form is in the text of its number; none if the last
+-- form of a bidder counts in whichever text it is
 abbrev pub form_elsewhere : Bool → Terms → List ℕ → List Offers → Option AnotherForm
 form_elsewhere last_wins t numbers forms = if last_wins then None else first_fault (another_form t) [] (zip forms numbers)
 
--- the forms, if none has that fault
+-- the forms, if each is in the same text as its bidder's first form, or the refusal of the first that isn't
 abbrev pub in_one_text : Bool → Terms → List ℕ → List Offers → Result (List Offers) Refusal
 in_one_text last_wins t numbers forms = refused_as refusal.AnotherForm (unless (form_elsewhere last_wins t numbers forms) (Ok forms))
 
--- of these forms the first one with that fault is known; and until there is one, the text of each bidder's first form
+-- the first form that is in another text than its bidder's first one is known; and until there is one, the text of each bidder's first form
 pub record KnowsTexts (t : Terms) (known : FormTexts) (forms : List (Offers × ℕ)) : Type 0 where
   pub refused : known.refused ≡ first_fault (another_form t) [] forms
   pub long : length known.first ≡ MOST_BIDDERS + 1

@@ -27,7 +27,8 @@ pub record FormParts : Type 0 where
   pub rules : Terms
   pub forms : List (Offers × List ℕ)
 
--- those of an input, or the first refusal: for its parts, its rules, a form, a bidder's forms in several texts, or the call limit
+-- the rules and the forms of an input with their bytes, or the first refusal: for its parts, its rules, a form, a bidder's forms in several texts, or
+-- the call limit
 abbrev pub parsed_forms : Input → Result FormParts Refusal
 parsed_forms input =
     and_then (parsed_parts Forms input) (λ parts.
@@ -64,7 +65,7 @@ pub record IsOfAuction (read : FormParts) (auction : Auction) : Type 0 where
 abbrev pub counted : Offers × List ℕ → ℕ × List ℕ
 counted form = (length form.0.bids, form.1)
 
--- the same of a form that is held
+-- how many bids a form that is held has, and its bytes
 abbrev pub counted_held : held.LastForm → ℕ × List ℕ
 counted_held form = (form.bids, form.bytes.now)
 

@@ -31,7 +31,7 @@ abbrev pub tie_words : Option ℕ → List ℕ
 tie_words None = codes "tie: "
 tie_words (Some n) = codes "tie " ++ (decimal n ++ codes ": ")
 
--- why it is refused
+-- the words for why a tie is refused
 abbrev pub tie_fault_text : TieFault → List ℕ
 tie_fault_text (tie.Solution f) = solution_fault_text f
 tie_fault_text (tie.BoundBroken name) = codes "7 BoundBroken at column " ++ name
@@ -97,7 +97,7 @@ refusal_text (refusal.Rule f) = codes "rule: " ++ price_fault_text f
 refusal_text (refusal.NoGroupAlone name) = codes "rule: 13 NoGroupAlone " ++ name
 refusal_text (refusal.Write (write.Sink written)) = codes "write failed after " ++ (decimal written ++ codes " bytes")
 
--- and its line
+-- the line on standard error for a refusal: the name of the program, and what is reported
 abbrev pub line : Refusal → List ℕ
 line r = codes "wdp: " ++ (refusal_text r ++ 10 ∷ [])
 

@@ -8,6 +8,7 @@ use Rattle.auction_input.specs.declared.refusal.Refusal.{Refusal}
 use Rattle.auction_input.specs.declared.request.Request.{Request}
 use Rattle.auction_terms.specs.Stages.{and_then, refused_as, unless}
 
+-- the parts of an input, or the first refusal: for bytes before the first part, for a part's name, or for how many there are of a kind
 abbrev pub parsed_parts : Request → Input → Result (List Part) Refusal
 parsed_parts asked input =
     and_then (refused_as refusal.Parts (unless (input_fault asked input) (Ok (input_parts input)))) (λ parts.

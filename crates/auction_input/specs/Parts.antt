@@ -18,6 +18,7 @@ use Rattle.auction_input.specs.declared.request.Target.{Target}
 use Rattle.auction_terms.specs.FirstFault.{first_fault}
 use Rattle.auction_terms.specs.Lines.{is_line_feed, lines_of}
 
+-- lines with one byte more before the first one
 abbrev pub onto_first_line : ℕ → List (List ℕ) → List (List ℕ)
 onto_first_line b [] = (b ∷ []) ∷ []
 onto_first_line b (line ∷ more) = (b ∷ line) ∷ more
@@ -73,6 +74,7 @@ names_for None = codes "%rules" ∷ codes "%form" ∷ codes "%groups" ∷ codes 
     "%tie" ∷ codes "%prices" ∷ codes "%cover" ∷ codes "%rule" ∷ []
 names_for (Some command) = codes "%rules" ∷ codes "%form" ∷ codes "%groups" ∷ codes "%solution" ∷ []
 
+-- the names that a part may have for a request
 abbrev pub part_names : Request → List (List ℕ)
 part_names asked = names_for (target_of asked)
 
@@ -80,7 +82,7 @@ part_names asked = names_for (target_of asked)
 abbrev pub unknown_part : ℕ → List ℕ → PartFault
 unknown_part n name = if bytes_eq name (codes "%weights") then fault.OfVersion1 n else fault.PartName n
 
--- a part of no such name, given the parts before it
+-- the fault of a part whose name the request doesn't know, given the parts before it
 abbrev pub part_fault : Request → List Part → Part → Option PartFault
 part_fault asked before p = if list_any (bytes_eq p.name) (part_names asked) then None else Some (unknown_part (length before + 1) p.name)
 
@@ -94,7 +96,7 @@ input_fault asked input =
 abbrev pub parts_named : List ℕ → List Part → List (List ℕ)
 parts_named name parts = map (λ p. p.bytes) (filter (λ (p : Part). bytes_eq p.name name) parts)
 
--- and the numbers of their texts
+-- the numbers of the texts that the parts of a name are in, in the order of the input
 abbrev pub text_numbers : List ℕ → List Part → List ℕ
 text_numbers name parts = map (λ p. p.text) (filter (λ (p : Part). bytes_eq p.name name) parts)
 

@@ -60,6 +60,7 @@ counted_as (refusal.Unique f) = elim (f.kind) [ certificate.OutOfMemory ↦ None
 counted_as (refusal.Tie n f) = Some (counted.Kind kind_of_part.Tie, unwrap_or n 1)
 counted_as r = None
 
+-- the text, among these, that has the part of this number, counting parts of its kind through all texts, and its number there
 abbrev spot_by : List Given → Option (Counted × ℕ) → Option Spot
 spot_by texts None = None
 spot_by texts (Some (what, n)) = located (map (count_in what) texts) n

@@ -19,7 +19,7 @@ takes (Some target.Report) groups solutions = (groups == 1, true)
 takes (Some target.Verify) groups solutions = (groups == 1, true)
 takes None groups solutions = (nat_le groups 1, true)
 
--- whether a request does; any number, if it ignores them
+-- whether a request takes so many parts of groups, and so many of solutions; it takes any number if it ignores them
 abbrev pub taken_by : Request → ℕ → ℕ → Bool × Bool
 taken_by asked groups solutions = if ignores_others asked then (true, true) else takes (target_of asked) groups solutions
 

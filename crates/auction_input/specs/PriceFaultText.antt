@@ -3,6 +3,7 @@ use Rattle.std.specs.Prelude.{◌++◌, ℕ, List, codes, decimal}
 use Rattle.auction_input.specs.declared.price_fault.PriceFault.{PriceFault}
 use Rattle.auction_input.specs.declared.price_fault.PriceFault.TheVariants as fault
 
+-- the words printed for a fault of prices or of the rule, with the number of the line if it is in one
 abbrev pub price_fault_text : PriceFault → List ℕ
 price_fault_text (fault.Fields place) = codes "1 Fields at line " ++ decimal place
 price_fault_text (fault.UnknownName place) = codes "2 UnknownName at line " ++ decimal place

@@ -66,6 +66,7 @@ pub record IsWithinAmounts (g : GivenPrice) : Type 0 where
 abbrev pub price_given : List GivenPrice → ℕ → Option GivenPrice
 price_given given b = find (λ g. g.bidder == b) given
 
+-- whether a bidder is given a price already
 abbrev pub has_price : List GivenPrice → ℕ → Bool
 has_price given b = list_any (λ g. g.bidder == b) given
 
@@ -79,7 +80,7 @@ checked_price parts place b (Some f) =
     (nat_le (lcm parts f.denominator) MOST_PARTS, fault.TooManyParts place) ∷ []))
     (Ok (record { bidder = b; price = f; place = place }))
 
--- and after these lines
+-- the price that a line at this place gives a bidder, after lines that gave these; a fault if it has one already
 abbrev pub parsed_price : List GivenPrice → ℕ → List ℕ → ℕ → Result GivenPrice PriceFault
 parsed_price before place text b =
     if has_price before b then Err (fault.RepeatedName place) else checked_price (common_parts before) place b (fraction_of text)
@@ -101,6 +102,7 @@ parsed_subject known place name =
       | None ↦ and_then (winner_named known place name) (λ b. Ok (subject.Bidder b))
     ]
 
+-- whether two subjects of weights are the same group, or the same winner
 abbrev pub same_subject : Subject → Subject → Bool
 same_subject (subject.Group k) (subject.Group l) = k == l
 same_subject (subject.Bidder b) (subject.Bidder c) = b == c
@@ -150,9 +152,11 @@ parsed_lines in_fields before place [] = Ok before
 parsed_lines in_fields before place (line ∷ more) =
     and_then (in_fields before place (given_fields line)) (λ g. parsed_lines in_fields (with_given before g) (place + 1) more)
 
+-- the prices that a text gives to winners, or its first fault
 abbrev pub parsed_price_text : Known → List ℕ → Result (List GivenPrice) PriceFault
 parsed_price_text known text = parsed_lines (price_in_fields known) [] 1 (lines_of text)
 
+-- what each line of a text of the rule gives, or the first fault
 abbrev pub parsed_rule_lines : Known → List ℕ → Result (List RuleLine) PriceFault
 parsed_rule_lines known text = parsed_lines (rule_in_fields known) [] 1 (lines_of text)
 
@@ -176,9 +180,10 @@ weight_for aim.Nearest w = w.nearest
 abbrev pub weight_given : Aim → List RuleLine → Subject → ℕ
 weight_given a given s = option_map_or (λ line. option_map_or (weight_for a) (weights_in line) 0) (find (is_of s) given) 0
 
--- the weights that are given to the groups up to this one, and to that many bidders
+-- the weights for an aim that are given to the groups up to this one; 0 for each that is given none
 abbrev pub weights_of_groups : Aim → List RuleLine → ℕ → List ℕ
 weights_of_groups a given count = map (λ k. weight_given a given (subject.Group k)) (range_with_len 1 count)
 
+-- the weights for an aim that are given to the bidders up to this one; 0 for each that is given none
 abbrev pub weights_of_bidders : Aim → List RuleLine → ℕ → List ℕ
 weights_of_bidders a given count = map (λ b. weight_given a given (subject.Bidder b)) (range_with_len 1 count)

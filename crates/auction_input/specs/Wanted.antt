@@ -21,7 +21,7 @@ use Rattle.auction_input.specs.declared.request.Target.{Target}
 
 -- ---- the numbers
 
--- of parts, whose groups are these
+-- how many parts of each kind an input has, with these groups
 abbrev pub numbers_in : List Part → List (List ℕ) → Numbers
 numbers_in parts groups =
     let count : PartKind → ℕ = λ kind. length (parts_named (name_of kind) parts) in record {
@@ -36,7 +36,7 @@ numbers_in parts groups =
       rule_texts = count part.Rule;
     }
 
--- of an auction
+-- how many texts of each kind an auction has
 abbrev pub numbers_of : Auction → Numbers
 numbers_of auction = record {
   starts_empty = starts_empty auction.groups;
@@ -52,30 +52,30 @@ numbers_of auction = record {
 
 -- ---- what is wanted: each test, and what is unmet where it fails
 
--- of a report: group 1 is empty, and there is a solution for each group
+-- what a report needs: that group 1 is empty, and that there is a solution for each group
 abbrev pub solution_wants : Numbers → List (Bool × Unmet)
 solution_wants n =
     (n.starts_empty, unmet.FirstGroupNotEmpty) ∷
     (n.solutions == n.groups, unmet.Number part.Solution n.solutions n.groups) ∷ []
 
--- of certificates: one for each group
+-- whether there is a certificate for each group
 abbrev pub has_certificates : Numbers → Bool
 has_certificates n = n.certificates == n.groups
 
--- of other awards: one text at most that shows that there is no other, and no more ties than may be
+-- what claims of other awards need: one text at most that shows that there is no other, and no more ties than may be
 abbrev pub claim_wants : Numbers → List (Bool × Unmet)
 claim_wants n =
     (nat_le n.uniques 1, unmet.Number part.Unique n.uniques 1) ∷
     (nat_le n.ties MOST_TIES, unmet.Number part.Tie n.ties MOST_TIES) ∷ []
 
--- of prices: one text at most, a cover with it, and a rule only beside them
+-- what prices need: one text of them at most, a cover with it, and a rule only beside them
 abbrev pub pricing_wants : Numbers → List (Bool × Unmet)
 pricing_wants n =
     (nat_le n.prices 1, unmet.Number part.Prices n.prices 1) ∷
     (n.covers == n.prices, unmet.Number part.Cover n.covers n.prices) ∷
     (nat_le n.rule_texts n.prices, unmet.Number part.Rule n.rule_texts n.prices) ∷ []
 
--- of what shows a report to be true
+-- what `verify` needs to show a report true: a certificate for each group, and what the claims and the prices need
 abbrev pub proof_wants : Numbers → List (Bool × Unmet)
 proof_wants n =
     (has_certificates n, unmet.Number part.Certificate n.certificates n.groups) ∷
@@ -94,7 +94,7 @@ abbrev pub unmet_refusal : Unmet → Refusal
 unmet_refusal unmet.FirstGroupNotEmpty = refusal.FirstGroupNotEmpty
 unmet_refusal (unmet.Number kind count by) = refusal.PartCount kind
 
--- each test, and the refusal where it fails
+-- each test of what a command wants, with the refusal if it fails
 abbrev pub refused_unless : List (Bool × Unmet) → List (Bool × Refusal)
 refused_unless tests = map (λ (test : Bool × Unmet). (test.0, unmet_refusal test.1)) tests
 
@@ -102,7 +102,7 @@ refused_unless tests = map (λ (test : Bool × Unmet). (test.0, unmet_refusal te
 abbrev pub wanted : Option Target → Auction → Result Auction Refusal
 wanted command auction = unless (first_failed (refused_unless (wants command (numbers_of auction)))) (Ok auction)
 
--- the same, after what an input describes; where no command is named nothing is wanted
+-- the auction that was parsed, if it has what a command wants, or the first refusal; if no command is named nothing is wanted
 abbrev pub with_wanted : Option Target → Result Auction Refusal → Result Auction Refusal
 with_wanted None parsed = parsed
 with_wanted (Some command) parsed = and_then parsed (wanted (Some command))

@@ -22,7 +22,7 @@ winners_at sale groups texts n = winners sale (n + 1) (slice_index_or groups n [
 abbrev pub IsParsedAnswer : Result (List Choice) Refusal → Result (List Choice) Refusal → Type 0
 IsParsedAnswer parsed answer = IfOk answer (λ a. parsed ≡ Ok a) × IfErr answer (Refuses parsed)
 
--- these are the winners of all groups by their solutions, where they were found
+-- for each group either no winners were found, or those that its solution describes
 abbrev pub AreMade : Compiling → List (List ℕ) → List (Option (List Choice)) → Type 0
 AreMade c texts made = AllZip (λ n found. IfSome found (λ a. winners_at (sale_of c.book) c.groups texts n ≡ Ok a)) (range_with_len 0 (length c.groups)) made
 

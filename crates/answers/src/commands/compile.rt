@@ -1,17 +1,14 @@
 //! The command `compile`: the programs of all groups.
 
-ghost use Rattle.std.specs.Prelude.{◌≡◌, ◌≤◌, [], All, IfErr, OnOk, length, map};
+ghost use Rattle.std.specs.Prelude.{◌≡◌, ◌≤◌, [], IfErr, OnOk, length, map};
 ghost use Rattle.std.specs.Io.KnownBytes.{Appends};
-ghost use Rattle.auction_terms.specs.Groups.{has};
-ghost use Rattle.auction_terms.specs.Terms.{lots_in};
-ghost use Rattle.bid_desk.specs.Closing.{book_of};
-ghost use Rattle.mps_text.specs.FaithfulText.{IsFaithfulText};
-ghost use Rattle.mps_text.specs.Text.{text};
-ghost use Rattle.group_compiler.specs.Compiled.{compiled, program_without};
+ghost use Rattle.bid_desk.specs.Sale.{sale_of};
+ghost use Rattle.group_compiler.specs.Compiled.{compiled};
 ghost use Rattle.group_compiler.specs.Gates.{AreAllPast};
 ghost use Rattle.auction_terms.specs.declared.limits.TheConstants.{MOST_WORKERS};
 ghost use Rattle.answers.specs.Exact.{Ends, Writes};
 ghost use Rattle.answers.specs.Answer.{output_of};
+ghost use Rattle.answers.specs.FaithfulTexts.{WritesFaithfulTexts};
 ghost use Rattle.answers.specs.GroupTexts.{FailsAsReported, StopsAsReported, programs_bytes};
 ghost use Rattle.auction_input.specs.Settled.{held};
 
@@ -45,8 +42,8 @@ pub fn run_compile<R: Threads + Wait + Sync, G: Gate + Sync, S: Sink>(
     requires few { workers ≤ MOST_WORKERS }
     ensures ok { OnOk result (Appends (S.taken out.old) (S.taken out.new)
         (programs_bytes book.now (map (compiled book.now) groups.now))) }
-    ensures faithful { All (λ group. IsFaithfulText (lots_in book.now.rules) (book_of book.now)
-        (has group) (text (program_without book.now group))) groups.now }
+    ensures faithful { OnOk result (WritesFaithfulTexts (sale_of book.now) groups.now
+        (S.taken out.old) (S.taken out.new)) }
     ensures stopped { IfErr result (StopsAsReported book.now (map (compiled book.now) groups.now)
         (S.taken out.old) (S.taken out.new)) }
     ensures failed { IfErr result (FailsAsReported (S.failures out.old) (S.failures out.new)) }

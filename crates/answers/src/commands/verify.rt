@@ -8,7 +8,8 @@ ghost use Rattle.auction_input.specs.Settled.{held};
 ghost use Rattle.answers.specs.Exact.{IsUnwritten, Writes};
 ghost use Rattle.answers.specs.Sold.{HasSold};
 ghost use Rattle.answers.specs.Verified.{WritesTrueReport};
-ghost use Rattle.answers.specs.inside.Output.{IsWithoutOutput};
+ghost use Rattle.answers.specs.VerifiedInputs.{WritesTrueReportOn};
+ghost use Rattle.answers.specs.Output.{IsWithoutOutput};
 
 use crate::certified::check_certificates;
 use crate::claimed::claim_of;
@@ -37,7 +38,7 @@ pub fn verify<R: Threads + Wait + Sync + AllocGlobal, S: Sink>(
     ensures written { OnOk result (Writes (answer (Request.Verify workers) input.now)
         (S.taken out.old) (S.taken out.new)) }
     ensures sold { OnOk result (HasSold (Request.Verify workers) input.now) }
-    ensures true_report { OnOk result (WritesTrueReport workers input.now (S.taken out.old)
+    ensures true_report { OnOk result (WritesTrueReportOn workers input.now (S.taken out.old)
         (S.taken out.new)) }
     ensures succeeded { OnOk result (S.failures out.new ≡ S.failures out.old) }
     ensures refused { IfErr result (IsUnwritten (Request.Verify workers) input.now
@@ -47,7 +48,9 @@ pub fn verify<R: Threads + Wait + Sync + AllocGlobal, S: Sink>(
     answer_auction(rt, &Request::Verify { workers }, input, out)
 }
 
-/// Writes what the solutions of an auction win, and the groups' opportunity costs, where certificates show that nobody wins more.
+/// Writes what the solutions of an auction win, and the groups' opportunity costs, where certificates show that nobody wins more
+/// without its group; after it, if there are prices, what the winners pay; and what is known of other awards. What is written is
+/// true of the auction, whatever texts of solutions, certificates, ties and prices it came with.
 pub fn write_verified<R: Threads + Wait + Sync + AllocGlobal, S: Sink>(
     rt: &R,
     auction: &Auction<'_>,
@@ -58,6 +61,8 @@ pub fn write_verified<R: Threads + Wait + Sync + AllocGlobal, S: Sink>(
     requires few { workers ≤ MOST_WORKERS }
     ensures written { OnOk result (Writes (output_of (Request.Verify workers) (held auction.now))
         (S.taken out.old) (S.taken out.new)) }
+    ensures true_report { OnOk result (WritesTrueReport (held auction.now) (S.taken out.old)
+        (S.taken out.new)) }
     ensures succeeded { OnOk result (S.failures out.new ≡ S.failures out.old) }
     ensures refused { IfErr result (IsWithoutOutput (Request.Verify workers) (held auction.now)
         (record { taken = S.taken out.old; failures = S.failures out.old })

@@ -39,7 +39,7 @@ pub record Tell (last_wins : Bool) (parts : List Part) (t : Terms) (forms : List
   pub known : parsed_groups t (only_text (parts_named (codes "%groups") parts)) ≡ Ok groups
   pub accepted : first_fault one_too_many [] forms ≡ None
 
--- each input with these parts is refused so
+-- each input with these parts is refused for this reason
 abbrev pub RefusesInputs : Bool → List Part → Refusal → Type 0
 RefusesInputs last_wins parts r = (asked : Request) → (input : Input) → input.last_wins ≡ last_wins → parsed_parts asked input ≡ Ok parts
     → Refuses (parsed_auction asked input) r

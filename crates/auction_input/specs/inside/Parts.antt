@@ -33,6 +33,7 @@ kinds_for (Some target.Verify) = kind.Rules ∷ kind.Form ∷ kind.Groups ∷ ki
 kinds_for None = kind.Rules ∷ kind.Form ∷ kind.Groups ∷ kind.Solution ∷ kind.Certificate ∷ kind.Unique ∷ kind.Tie ∷ kind.Prices ∷ kind.Cover ∷ kind.Rule ∷ []
 kinds_for (Some command) = kind.Rules ∷ kind.Form ∷ kind.Groups ∷ kind.Solution ∷ []
 
+-- the kinds of parts that a request knows
 abbrev pub known_kinds : Request → List PartKind
 known_kinds asked = kinds_for (target_of asked)
 

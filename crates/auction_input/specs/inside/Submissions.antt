@@ -21,6 +21,7 @@ pub record IsFormOf (t : Terms) (bidder : ℕ) (form : Offers) : Type 0 where
   pub bidder_is : form.bidder ≡ bidder
   pub meets : Meets t form
 
+-- all of these forms are of this bidder and meet the rules
 abbrev pub AreFormsOf : Terms → ℕ → List Offers → Type 0
 AreFormsOf t bidder forms = All (IsFormOf t bidder) forms
 

@@ -12,16 +12,16 @@ returns-in_err-auction-clause-refused g c =
     let before = state (g.S.Sink.taken c.args.out.now) (g.S.Sink.failures c.args.out.now) in
     let r = c.in_err-auction.field-0.0 in
     if-err-of (IsUnwritten asked input before before) c.from_residual.result r c.from_residual.ensures.1
-    (no-auction asked input c.requires.auction c.requires.settled before r c.in_err-auction.ensures.refuses)
+    (no-auction asked input c.requires.auction c.requires.not_forms before r c.in_err-auction.ensures.refuses)
 
 pub returns-clause-written : goal.returns-clause-written
 returns-clause-written g c =
-    written c.args.request.now c.args.input.now c.requires.auction c.requires.settled (held c.in_ok-auction.auction) c.in_ok-auction.ensures.parsed
+    written c.args.request.now c.args.input.now c.requires.auction c.requires.not_forms (held c.in_ok-auction.auction) c.in_ok-auction.ensures.parsed
     c.write_output.result (g.S.Sink.taken c.args.out.now) (g.S.Sink.taken c.write_output.new.out) c.write_output.ensures.written
 
 pub returns-clause-refused : goal.returns-clause-refused
 returns-clause-refused g c =
-    unwritten c.args.request.now c.args.input.now c.requires.auction c.requires.settled (held c.in_ok-auction.auction) c.in_ok-auction.ensures.parsed
+    unwritten c.args.request.now c.args.input.now c.requires.auction c.requires.not_forms (held c.in_ok-auction.auction) c.in_ok-auction.ensures.parsed
     c.write_output.result (state (g.S.Sink.taken c.args.out.now) (g.S.Sink.failures c.args.out.now))
     (state (g.S.Sink.taken c.write_output.new.out) (g.S.Sink.failures c.write_output.new.out)) c.write_output.ensures.refused
 

@@ -7,12 +7,12 @@ use Rattle.outcome.specs.Others.{others_text}
 use Rattle.auction_input.specs.declared.request.Request.TheVariants as request
 use Rattle.auction_input.specs.Settled.{held}
 use Rattle.answers.specs.Exact.{by_refusal}
-use Rattle.answers.specs.inside.Output.{IsWithoutOutput}
+use Rattle.answers.specs.Output.{IsWithoutOutput}
 use Rattle.auction_input.specs.declared.refusal.Refusal.TheVariants as refusal
 use Rattle.answers.proofs.CommandFacts.{cut-short, state}
 use Rattle.auction_input.proofs.StepFacts.{if-err-of}
 use Rattle.auction_input.proofs.StageFacts.{next, stop}
-use Rattle.answers.proofs.VerifiedFacts.{certified-greatest}
+use Rattle.answers.proofs.VerifiedFacts.{certified-greatest, true-report, verdicts}
 use Rattle.answers.proofs.VerifyFacts.{unclaimed, unpriced, unshown}
 use Rattle.answers.proofs.commands.verify.write_verified.Goals as goal
 
@@ -30,6 +30,17 @@ returns-clause-written g c =
           (next _ others _ _ c.in_ok-others.ensures.parsed (next _ pricing _ _ c.in_ok-pricing.ensures.parsed refl)),
       sent,
     )
+
+pub returns-clause-true_report : goal.returns-clause-true_report
+returns-clause-true_report g c =
+    let (out, parsed, sent) = returns-clause-written g c in
+    let auction = held c.args.auction.now in
+    let limits = c.within_limits.ensures in
+    record {
+      out = out;
+      is_true = true-report auction out limits.book limits.bidders (verdicts c.args.workers auction out parsed);
+      sent = sent;
+    }
 
 pub returns-in_err-check_counts-clause-refused : goal.returns-in_err-check_counts-clause-refused
 returns-in_err-check_counts-clause-refused g c =
