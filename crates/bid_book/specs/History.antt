@@ -37,11 +37,13 @@ module _ {F : Type 0} where
   abbrev pub entries_beside : Caller → List (Entry F) → List (Entry F)
   entries_beside caller history = filter (λ e. is_beside caller e.caller) history
 
+  -- whether a reply says that a form was accepted or withdrawn
   abbrev pub is_change_reply : Reply F → Bool
   is_change_reply (Accepted n) = true
   is_change_reply (Withdrawn n) = true
   is_change_reply _ = false
 
+  -- whether a call is one to close the round
   abbrev pub is_close : Call F → Bool
   is_close Close = true
   is_close _ = false
@@ -59,6 +61,7 @@ module _ {F : Type 0} where
   abbrev pub standing_after : List (Entry F) → Option (Standing F)
   standing_after entries = option_and_then (λ (e : Entry F). left_standing e.call e.reply) (last_or None (changes entries))
 
+  -- the number of the standing form after these entries of one bidder, if there is one
   abbrev pub standing_number : List (Entry F) → Option ℕ
   standing_number entries = option_map (λ (s : Standing F). s.number) (standing_after entries)
 
@@ -95,6 +98,7 @@ module _ {F : Type 0} where
   run_from history [] = history
   run_from history (c ∷ calls) = run_from (after history c.0 c.1) calls
 
+  -- the history of a round in which just these calls are made
   abbrev pub run : List (Caller × Call F) → List (Entry F)
   run calls = run_from [] calls
 
@@ -129,17 +133,20 @@ pub record IsRightAfter (before : List (Entry Offers)) (e : Entry Offers) : Type
 pub record IsLegalHistory (history : List (Entry Offers)) : Type 0 where
   pub each : (k : ℕ) (e : Entry Offers) → slice_get history k ≡ Some e → IsRightAfter (take k history) e
 
--- The same with the form out of its share.
+-- Calls, replies and entries with the form out of its share.
 module _ {X Z : Type 0} where
+  -- a call with its form, if it has one, out of its share
   abbrev pub call_value : Call (Arc X Z) → Call X
   call_value (Submit form over) = Submit (arc_value form) over
   call_value (Withdraw over) = Withdraw over
   call_value Show = Show
   call_value Close = Close
 
+  -- a standing form with its number, out of its share
   abbrev pub standing_value : Standing (Arc X Z) → Standing X
   standing_value s = record { number = s.number; form = arc_value s.form }
 
+  -- a reply with the form that it shows, if it shows one, out of its share
   abbrev pub reply_value : Reply (Arc X Z) → Reply X
   reply_value (Accepted n) = Accepted n
   reply_value (Withdrawn n) = Withdrawn n
@@ -149,5 +156,6 @@ module _ {X Z : Type 0} where
   reply_value RoundOver = RoundOver
   reply_value CallLimit = CallLimit
 
+  -- an entry of a history with the forms of its call and its reply out of their shares
   abbrev pub entry_value : Entry (Arc X Z) → Entry X
   entry_value e = record { caller = e.caller; call = call_value e.call; reply = reply_value e.reply }

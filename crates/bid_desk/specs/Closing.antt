@@ -15,6 +15,7 @@ pub record Closing : Type 0 where
   pub rules : Terms
   pub history : List (Entry Offers)
 
+-- the closed book of these rules and this history
 abbrev pub closing : Terms → List (Entry Offers) → Closing
 closing rules history = record { rules = rules; history = history }
 

@@ -56,14 +56,15 @@ pub record IsRecorded (before after : Holding) (caller : Caller) (own own' : Lis
   pub own_is : own' ≡ own ++ (call, reply) ∷ []
   pub share_is : share' ≡ share + 1
 
+-- the caller that a session is: its bidder and its number
 abbrev pub caller_of : SessionOwn → Caller
 caller_of s = Session s.bidder s.session
 
--- the same, of a session
+-- a call of a session and its reply are recorded in the history, and in the session's own list
 abbrev pub IsRecordedBy : Holding → Holding → SessionOwn → SessionOwn → Call Offers → Reply Offers → Type 0
 IsRecordedBy before after session session' call reply =
     IsRecorded before after (caller_of session) session.pairs session'.pairs session.share session'.share call reply
 
--- the same, of the chair
+-- a call of the chair and its reply are recorded in the history, and in the chair's own list
 abbrev pub IsRecordedByChair : Holding → Holding → ChairOwn → ChairOwn → Call Offers → Reply Offers → Type 0
 IsRecordedByChair before after chair chair' call reply = IsRecorded before after Chair chair.pairs chair'.pairs chair.share chair'.share call reply

@@ -4,6 +4,7 @@ use Rattle.std.specs.List.{range_with_len}
 use Rattle.auction_terms.specs.declared.rules.Bidder.{Bidder}
 use Rattle.bid_desk.specs.Holding.{SessionOwn}
 
+-- a session of a bidder before its first call
 abbrev pub fresh_session : ℕ → ℕ → SessionOwn
 fresh_session b s = record { bidder = b; session = s; pairs = []; share = 0 }
 

@@ -5,12 +5,14 @@ use Rattle.auction_terms.specs.Terms.{lots_in}
 use Rattle.auction_terms.specs.Allocations.{Book}
 use Rattle.bid_desk.specs.Closing.{Closing, book_of}
 
+-- what was for sale, to whom, and what was bid
 pub record Sale : Type 0 where
   -- the names of the bidders, in the order of their numbers
   pub names : List (List ℕ)
   pub lots : Lots
   pub book : Book
 
+-- what was for sale by the rules of a closed book, to whom, and the bids that its history leaves standing
 abbrev pub sale_of : Closing → Sale
 sale_of closing = record { names = map (λ bidder. bidder.name) closing.rules.bidders; lots = lots_in closing.rules; book = book_of closing }
 

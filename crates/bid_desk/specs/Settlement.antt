@@ -11,6 +11,7 @@ use Rattle.bid_desk.specs.declared.settle.Cause.TheVariants.{StillOpen, Sessions
 use Rattle.bid_desk.specs.Holding.{SessionOwn, ChairOwn, IsCallerOf}
 use Rattle.bid_desk.specs.Sessions.{IsSessionOf}
 
+-- whether a session is the one of this bidder and this number
 abbrev pub is_named : ℕ → ℕ → SessionOwn → Bool
 is_named b s x = (x.bidder == b) && (x.session == s)
 

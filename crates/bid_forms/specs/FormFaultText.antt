@@ -3,6 +3,7 @@ use Rattle.std.specs.Prelude.{◌++◌, ℕ, List, codes, decimal}
 use Rattle.bid_forms.specs.declared.form_text.FormFault.{FormFault}
 use Rattle.bid_forms.specs.declared.form_text.FormFault.TheVariants as fault
 
+-- the words printed for a fault of a form, with the number of the record if it is in one
 abbrev pub form_fault_text : FormFault → List ℕ
 form_fault_text fault.TooLarge = codes "1 TooLarge"
 form_fault_text (fault.Header place) = codes "2 Header at record " ++ decimal place

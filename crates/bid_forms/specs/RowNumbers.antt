@@ -15,11 +15,11 @@ use Rattle.bid_forms.specs.declared.form_text.FormFault.TheVariants as fault
 abbrev pub parsed_package : Terms → Record → Option (List ℕ)
 parsed_package t r = if is_none (first_failed (count_checks t 0 r ++ quantity_checks 0 r)) then Some (parsed_bid r).package else None
 
--- its eligibility points
+-- the eligibility points of the package of a record, if the package is within the limits
 abbrev pub parsed_points : Terms → Record → Option ℕ
 parsed_points t r = option_map (points_of t.categories) (parsed_package t r)
 
--- its least price
+-- the least price of the package of a record, if the package is within the limits
 abbrev pub parsed_reserve : Terms → Record → Option ℕ
 parsed_reserve t r = option_map (reserve_of t.categories) (parsed_package t r)
 

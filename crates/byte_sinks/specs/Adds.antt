@@ -17,7 +17,7 @@ pub record IsNew {X : Type 0} (sink : MutBor X) (writer : Writer X) : Type 0 whe
 abbrev pub bytes_given : {X : Type 0} → (X → Option (List ℕ)) → Writer X → Option (List ℕ)
 bytes_given taken writer = append_known (taken writer.sink.now) writer.waiting.items
 
--- These bytes were added, to the same sink.
+-- from one state of a writer to a later one bytes were added to its sink, unless a put failed
 pub record Adds {X : Type 0} (taken : X → Option (List ℕ)) (failures : X → ℕ) (old new : Writer X) (bytes : List ℕ) : Type 0 where
   pub same_sink : new.sink.ghost_name ≡ old.sink.ghost_name
   pub counted : Counts (taken old.sink.now) (taken new.sink.now) old.sent new.sent

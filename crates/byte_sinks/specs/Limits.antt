@@ -1,6 +1,7 @@
 -- Sinks in memory, as contracts see them: one with limits, and one that grows.
 use Rattle.std.specs.Prelude.{ℕ, List}
 
+-- a sink in memory with limits: on all bytes that it takes, and on those of one put
 pub record Limited : Type 0 where
   -- the bytes that it has taken
   pub taken : List ℕ
@@ -10,6 +11,7 @@ pub record Limited : Type 0 where
   -- how many puts have failed
   pub failures : ℕ
 
+-- a sink in memory that grows as it takes bytes
 pub record Grown : Type 0 where
   -- the bytes that it has taken
   pub taken : List ℕ

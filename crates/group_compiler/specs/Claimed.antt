@@ -2,6 +2,7 @@
 use Rattle.std.specs.Prelude.{◌≡◌, ℕ, List}
 use Rattle.atomic_table.specs.Seated.{TableId}
 
+-- what contracts see of a claim: the counter that it draws from, the numbers that it has drawn, and how many draws it has left
 pub record Claimed : Type 0 where
   pub counter : TableId
   -- the numbers that the claim has drawn, in order

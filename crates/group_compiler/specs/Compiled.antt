@@ -14,6 +14,7 @@ pub record GroupProgram : Type 0 where
   pub group : List ℕ
   pub program : Table
 
+-- a group with this program
 abbrev pub group_program : List ℕ → Table → GroupProgram
 group_program group program = record { group = group; program = program }
 
@@ -34,5 +35,6 @@ pub record Compiling : Type 0 where
   pub book : Closing
   pub groups : List (List ℕ)
 
+-- a book with the groups that are to be left out of its programs
 abbrev pub compiling : Closing → List (List ℕ) → Compiling
 compiling book groups = record { book = book; groups = groups }

@@ -8,6 +8,7 @@ use Rattle.group_compiler.specs.declared.section.Section.{Section}
 use Rattle.group_compiler.specs.declared.section.Section.TheVariants.{Rows, Columns, RightSides, Bounds}
 use Rattle.group_compiler.specs.Pages.{PageText, AllPages, section_lines, outside, pages_of}
 
+-- there is at least one byte
 abbrev pub has_any : List ℕ → Bool
 has_any [] = false
 has_any (byte ∷ bytes) = true
@@ -26,6 +27,7 @@ section_end Columns any = cond any (codes " M2 'MARKER' 'INTEND'\n") []
 section_end RightSides any = []
 section_end Bounds any = codes "ENDATA\n"
 
+-- the text of a section with these lines: its opening, the lines, and its end
 abbrev pub section_text : Section → List ℕ → List ℕ
 section_text section lines = opening section (has_any lines) ++ (lines ++ section_end section (has_any lines))
 

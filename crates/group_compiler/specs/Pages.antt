@@ -18,9 +18,11 @@ pub record PageText : Type 0 where
   pub right_sides : List ℕ
   pub bounds : List ℕ
 
+-- the page with these lines for each of the four sections
 abbrev pub page_text : List ℕ → List ℕ → List ℕ → List ℕ → PageText
 page_text rows columns right_sides bounds = record { rows = rows; columns = columns; right_sides = right_sides; bounds = bounds }
 
+-- the lines that a page has for a section
 abbrev pub section_lines : Section → PageText → List ℕ
 section_lines Rows page = page.rows
 section_lines Columns page = page.columns
@@ -60,8 +62,10 @@ pub record AllPages : Type 0 where
   pub forms : List PageText
   pub lots : PageText
 
+-- the pages of an auction, from the forms' pages and the lots' page
 abbrev pub all_pages : List PageText → PageText → AllPages
 all_pages forms lots = record { forms = forms; lots = lots }
 
+-- the pages of an auction by its lots and its book: one for each bidder's form, from bidder 1 on, and that of the lots
 abbrev pub pages_of : Lots → Book → AllPages
 pages_of lots book = all_pages (pages_from lots 1 book) (page_of_lots lots)

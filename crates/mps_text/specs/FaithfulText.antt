@@ -21,7 +21,7 @@ pub record IsFaithfulText (lots : Lots) (book : Book) (group : ℕ → Bool) (by
 abbrev pub presolved_text : Lots → Book → (ℕ → Bool) → List ℕ
 presolved_text lots book group = text (program_of lots (kept_of lots book group))
 
--- it is faithful
+-- the text of the program of the kept bids is faithful
 abbrev pub PresolvedTextIsFaithful : Type 0
 PresolvedTextIsFaithful = (lots : Lots) (book : Book) (group : ℕ → Bool) → IsLots lots → IsBook lots book
     → IsFaithfulText lots book group (presolved_text lots book group)

@@ -17,6 +17,7 @@ written (Header word more) = join_with_byte 32 (word ∷ more) ++ 10 ∷ []
 written (Data fields) = 32 ∷ (join_with_byte 32 fields ++ 10 ∷ [])
 written line = 10 ∷ []
 
+-- the letter of a row's kind: L for at most, G for at least, E for equal
 abbrev pub kind_letter : RowKind → List ℕ
 kind_letter AtMost = codes "L"
 kind_letter AtLeast = codes "G"
@@ -37,7 +38,7 @@ abbrev pub if_any : {X : Type 0} → List TableColumn → List X → List X
 if_any [] lines = []
 if_any (c ∷ columns) lines = lines
 
--- its lines in their order: each row, each column with its cost, also if that is 0, and its entries, between markers, each right side, and
+-- the text of a program, line by line: each row, each column with its cost, also if that is 0, and its entries, between markers, each right side, and
 -- the bounds of each column
 unfoldable pub text : Table → List ℕ
 text p = flat_map written (

@@ -19,5 +19,6 @@ least_part ZeroOrOne number = if int_lt number (pos 0) then number else pos 0
 least_part Zero number = pos 0
 least_part One number = number
 
+-- the right side of the row at a place; 0 if there is no row
 abbrev pub right_side_at : List TableRow → ℕ → ℤ
 right_side_at rows place = option_map_or (λ r. r.right_side) (slice_get rows place) (pos 0)

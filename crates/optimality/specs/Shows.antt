@@ -8,6 +8,7 @@ use Rattle.program_rows.specs.Program.{Table, TableRow}
 use Rattle.optimality.specs.Certificates.{Form, Cut, Certificate, Bound, Split, side, sum_of}
 use Rattle.optimality.specs.Reduced.{reduced, least_part, right_side_at}
 
+-- a row of this kind may have this multiplier: 0 or more for an upper limit, 0 or less for a lower limit, any number for an equation
 abbrev pub has_sign : RowKind → ℤ → Bool
 has_sign AtMost y = int_le (pos 0) y
 has_sign AtLeast y = int_le y (pos 0)
@@ -28,11 +29,12 @@ pub record LeafShows (p : Table) (least : ℤ) (cuts : List Cut) (scale : ℕ) (
   pub signs : AllByRecursion (λ t. may_have p.rows t ≡ true) rows
   pub above : (pos scale *ℤ (least -ℤ pos 1)) <ℤ leaf_value p cuts scale ys rows
 
--- the same for a tree: each of its leaves does, within the cuts on the way to it
+-- a certificate shows `least` for the points within the cuts: each of its leaves does, within these cuts and those on the way to the leaf
 abbrev pub ShowsWithin : Table → ℤ → List Cut → Certificate → Type 0
 ShowsWithin p least cuts (Bound scale ys rows) = LeafShows p least cuts scale ys rows
 ShowsWithin p least cuts (Split form most low high) =
     ShowsWithin p least (cuts ++ side false form most ∷ []) low × ShowsWithin p least (cuts ++ side true form most ∷ []) high
 
+-- a certificate shows `least` for a program: that no point of the program has an objective below it
 abbrev pub Shows : Table → ℤ → Certificate → Type 0
 Shows p least certificate = ShowsWithin p least [] certificate

@@ -25,6 +25,7 @@ cut_size cut = size_of (λ t. unsigned_abs t.1) cut.form + unsigned_abs cut.most
 abbrev pub coefficients_size : List TableColumn → ℕ → ℕ
 coefficients_size columns row = size_of (λ c. unsigned_abs (coefficient_at row c)) columns
 
+-- of the row at a place: the absolute values of its coefficients and of its right side, added up
 abbrev pub row_size : Table → ℕ → ℕ
 row_size p row = coefficients_size p.columns row + unsigned_abs (right_side_at p.rows row)
 
@@ -45,6 +46,7 @@ abbrev pub IsLargeParsed : Table → ℤ → List Branch → Result ParsedLine C
 IsLargeParsed p least above (Ok (BoundLine scale ys rows)) = 2 ^ 126 ≤ leaf_size p least (cuts_above above) scale ys rows
 IsLargeParsed p least above parsed = ⊥
 
+-- a line below the splits that are open describes a leaf of size 2^126 or more; no line does after the last subtree
 abbrev pub IsLargeLine : Table → ℤ → Option (List Branch) → List ℕ → Type 0
 IsLargeLine p least None line = ⊥
 IsLargeLine p least (Some above) line = IsLargeParsed p least above (parsed_certificate_line p (length above) (fields line))

@@ -34,7 +34,7 @@ abbrev pub SolutionsComeBack : Type 0
 SolutionsComeBack = (lots : Lots) (book : Book) (group : ℕ → Bool) (solved : List ℕ) (values : List Bool) → IsBook lots book
     → solution (program_of lots (kept_of lots book group)) solved ≡ Ok values → ComesBack lots book group (program_of lots (kept_of lots book group)) values
 
--- and so does what they describe against the program that is read from its text
+-- what solutions describe against the program that a solver reads from the text of the kept bids comes back
 abbrev pub AnswersOfSolversComeBack : Type 0
 AnswersOfSolversComeBack = (lots : Lots) (book : Book) (group : ℕ → Bool) (p : Table) (solved : List ℕ) (values : List Bool) → IsLots lots → IsBook lots book
     → meaning (presolved_text lots book group) ≡ Ok p → solution p solved ≡ Ok values → ComesBack lots book group p values

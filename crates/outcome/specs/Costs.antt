@@ -22,7 +22,7 @@ CostsAreBounded = (lots : Lots) (book : Book) (group : List ℕ) (first a : List
 abbrev pub worth_of_group : Lots → Book → List ℕ → List Choice → ℕ
 worth_of_group lots book group a = sum_by (weighed_choice lots.values book) (filter (λ c. has group c.bidder) a)
 
--- and a group's cost is at least that: nobody has its lots for less than they are worth unsold
+-- a group's cost is at least what the lots that it wins would be worth, were they left: nobody has lots for less than they are worth unsold
 abbrev pub CostsCoverLots : Type 0
 CostsCoverLots = (lots : Lots) (book : Book) (group : List ℕ) (first a : List Choice) → IsSized lots book
     → IsGreatest lots book (λ b. false) first → IsGreatest lots book (has group) a → pos (worth_of_group lots book group first) ≤ℤ cost lots book first group a
@@ -37,7 +37,7 @@ pub record IsGreatestTotal (lots : Lots) (book : Book) (group : ℕ → Bool) (a
 abbrev pub opportunity_cost : ℕ → ℕ → ℕ → ℤ
 opportunity_cost of_all without own = pos without -ℤ (pos of_all -ℤ pos own)
 
--- so the costs of allocations of greatest total are the auction's own, whichever allocations these are
+-- a group's cost by allocations of greatest total is the auction's own opportunity cost, whichever of these allocations are taken
 abbrev pub CostsAreOwn : Type 0
 CostsAreOwn = (lots : Lots) (book : Book) (group : List ℕ) (first a : List Choice) (of_all without : ℕ)
     → IsGreatestTotal lots book (λ b. false) of_all → IsGreatestTotal lots book (has group) without

@@ -40,15 +40,15 @@ abbrev pub variants : Lots → Book → List Choice → List (List Choice)
 variants lots book [] = [] ∷ []
 variants lots book (c ∷ a) = flat_map (λ d. map (λ others. d ∷ others) (variants lots book a)) (c ∷ stand_ins lots book c)
 
--- those that the lots suffice for; the first is the award itself
+-- the variants of an award that the lots suffice for; the first is the award itself
 abbrev pub awards : Lots → Book → List Choice → List (List Choice)
 awards lots book a = filter (λ b. fits lots (loads lots book b)) (variants lots book a)
 
--- and the others follow from it
+-- the awards that follow from an award: its variants that the lots suffice for, without the award itself
 abbrev pub following : Lots → Book → List Choice → List (List Choice)
 following lots book a = drop 1 (awards lots book a)
 
--- these awards, and after them those that follow from the first, from the second, and so on
+-- the listed awards, and after them those that follow from the first, from the second, and so on
 abbrev pub with_following : Lots → Book → List (List Choice) → List (List Choice)
 with_following lots book listed = listed ++ flat_map (following lots book) listed
 

@@ -26,6 +26,7 @@ ones_named [] values name = 0
 ones_named (c ∷ columns) [] name = 0
 ones_named (c ∷ columns) (value ∷ values) name = (if value && bytes_eq c.name name then 1 else 0) + ones_named columns values name
 
+-- a choice is the bid of this number of this bidder
 abbrev pub is_choice : ℕ → ℕ → Choice → Bool
 is_choice bidder bid c = (c.bidder == bidder) && (c.bid == bid)
 

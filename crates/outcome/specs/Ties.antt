@@ -43,7 +43,7 @@ OnlyFirstTellsCosts = (lots : Lots) (book : Book) (group : List ℕ) (first : Li
 
 -- ---- ties
 
--- the same bidders with the same bids, in order
+-- two allocations have the same bidders with the same bids, in the same order
 abbrev pub same_choices : List Choice → List Choice → Bool
 same_choices = pointwise (λ c d. (c.bidder == d.bidder) && (c.bid == d.bid))
 

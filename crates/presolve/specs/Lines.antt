@@ -7,10 +7,11 @@ use Rattle.bid_desk.specs.Sale.{bidder_name}
 use Rattle.presolve.specs.declared.reason.Reason.{Reason}
 use Rattle.presolve.specs.declared.reason.Reason.TheVariants as reason
 
--- the names of a category and of a pool, by their places
+-- the name of a category by its place; no bytes if there is none
 abbrev pub category_name : Terms → ℕ → List ℕ
 category_name t place = option_map_or (λ category. category.name) (slice_get t.categories place) []
 
+-- the name of a pool by its place; no bytes if there is none
 abbrev pub pool_name : Terms → ℕ → List ℕ
 pool_name t place = option_map_or (λ pool. pool.name) (slice_get t.pools place) []
 
@@ -41,7 +42,7 @@ abbrev pub replaced_line : Terms → ℕ → ℕ → ℕ → List ℕ
 replaced_line t bidder last number = bidder_name (map (λ b. b.name) t.bidders) bidder ++
     (codes ": form " ++ (decimal number ++ (codes " is replaced by form " ++ (decimal last ++ 10 ∷ []))))
 
--- those of its forms but the last
+-- the lines of all forms of a bidder that its last one replaces
 abbrev pub replaced_lines : Terms → List ℕ → ℕ → List ℕ
 replaced_lines t bidders bidder = option_map_or (λ last. flat_map
     (λ number. if number == last then [] else replaced_line t bidder last number) (forms_by bidders bidder))

@@ -29,17 +29,18 @@ below_worth lots x = if int_le (pos 0) (net lots x) then None else Some (reason.
 abbrev pub dominated : Lots → List Bid → Bid → Option Reason
 dominated lots form x = option_map (λ number. reason.Dominated number) (position_from (λ y. dominates lots y x) 1 form)
 
--- the first of these, if there is one
+-- the first reason for which a bid of a form is in no program, if there is one
 abbrev pub why_left_out : Lots → List Bid → Bid → Option Reason
 why_left_out lots form x = option_or (over_supply lots x.package) (option_or (over_cap lots x.package) (option_or (below_worth lots x) (dominated lots form x)))
 
--- why each bid of a form, and of each form of a book, is in no program; none where the bid is kept
+-- why each bid of a form is in no program; no reason if the bid is kept
 abbrev pub reasons_of_form : Lots → List Bid → List (Option Reason)
 reasons_of_form lots form = map (why_left_out lots form) form
 
+-- why each bid of a book, form by form, is in no program; no reason if the bid is kept
 abbrev pub reasons_of : Lots → Book → List (List (Option Reason))
 reasons_of lots book = map (reasons_of_form lots) book
 
--- there is none just where the bid is kept
+-- there is no reason to leave out a bid if and only if it is kept
 abbrev pub KeptWithoutReason : Type 0
 KeptWithoutReason = (lots : Lots) (form : List Bid) (x : Bid) → is_none (why_left_out lots form x) ≡ is_kept lots form x

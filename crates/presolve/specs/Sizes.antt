@@ -13,7 +13,7 @@ size_at form j = option_map_or (λ x. size x.package) (bid_at form j) 0
 abbrev pub is_fitting : Lots → List Bid → ℕ → Bool
 is_fitting lots form j = option_map_or (λ x. fits lots x.package) (bid_at form j) false
 
--- of smaller size, or of the same size and not a higher number
+-- one bid comes before another or is the same: it has a smaller size, or the same size and not a higher number
 abbrev pub IsUpTo : ℕ → ℕ → ℕ → ℕ → Type 0
 IsUpTo size number other_size other_number = (size < other_size) ⊎ ((size ≡ other_size) × (number ≤ other_number))
 

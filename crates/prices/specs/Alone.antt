@@ -19,7 +19,7 @@ abbrev pub cost_alone : List ℕ → Lots → Book → List Choice → List Choi
 cost_alone reserves lots book first without c =
     unsigned_abs (int_max (cost lots book first (c.bidder ∷ []) without) (pos (weighed_choice reserves book c)))
 
--- these are what the winners cost alone, whichever allocations of greatest total there are without them
+-- the amount for each winner is what that winner costs alone, whichever allocation of greatest total without it is taken
 abbrev pub AreCostsAlone : List ℕ → Lots → Book → List Choice → (ℕ → ℕ) → Type 0
 AreCostsAlone reserves lots book first alone = All (λ c. (without : List Choice) → IsGreatest lots book (has (c.bidder ∷ [])) without
     → alone c.bidder ≡ cost_alone reserves lots book first without c) first

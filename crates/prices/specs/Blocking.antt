@@ -42,7 +42,7 @@ UnblockedSuffice = (reserves : List ℕ) (lots : Lots) (book : Book) (first : Li
     → 1 ≤ parts → ArePrices book first parts price → AreAtLeastReserves reserves book first parts price
     → NoneBlocks lots book first parts price → Suffice reserves lots book first parts price
 
--- and the winners' allocation is of greatest total
+-- the winners' allocation is of greatest total if no feasible allocation blocks
 abbrev pub UnblockedIsGreatest : Type 0
 UnblockedIsGreatest = (lots : Lots) (book : Book) (first : List Choice) (parts : ℕ) (price : ℕ → ℕ) → IsFeasible lots book (λ b. false) first
     → 1 ≤ parts → ArePrices book first parts price → NoneBlocks lots book first parts price → IsGreatest lots book (λ b. false) first

@@ -24,6 +24,7 @@ pub record Suffice (reserves : List ℕ) (lots : Lots) (book : Book) (first : Li
 abbrev pub apart : ℕ → ℕ → ℕ
 apart m n = (m - n) + (n - m)
 
+-- a number times itself
 abbrev pub square : ℕ → ℕ
 square n = n * n
 
@@ -35,7 +36,7 @@ distance_from_alone alone first parts price = sum_by (λ c. square (apart (price
 abbrev pub in_smaller : ℕ → (ℕ → ℕ) → ℕ → ℕ
 in_smaller times price b = times * price b
 
--- the same prices
+-- each winner's first price is the same amount as its second, whatever parts of a pound the two are in
 abbrev pub AreSame : List Choice → ℕ → (ℕ → ℕ) → ℕ → (ℕ → ℕ) → Type 0
 AreSame first parts price parts' price' = All (λ c. parts' * price c.bidder ≡ parts * price' c.bidder) first
 

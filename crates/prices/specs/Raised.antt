@@ -28,12 +28,15 @@ raise_by raise bid = option_map_or (λ c. raise c.bidder) bid 0
 abbrev pub raised_cost : (ℕ → ℕ) → TableColumn → ℤ
 raised_cost raise c = c.cost +ℤ pos (raise_by raise (column_bid c.name))
 
+-- a column with its cost raised by what is given for the bidder of its bid; unchanged if the column is of no bid
 abbrev pub raised_column : (ℕ → ℕ) → TableColumn → TableColumn
 raised_column raise c = record c { cost = raised_cost raise c }
 
+-- a program with the cost of each bid's column raised by what is given for the bid's bidder
 abbrev pub raised : (ℕ → ℕ) → Table → Table
 raised raise p = record p { columns = map (raised_column raise) p.columns }
 
+-- a column whose cost is in parts of a pound
 abbrev pub column_in_parts : ℕ → TableColumn → TableColumn
 column_in_parts parts c = record c { cost = pos parts *ℤ c.cost }
 
@@ -57,7 +60,7 @@ abbrev pub RaisedBoundExcludesBlocking : Type 0
 RaisedBoundExcludesBlocking = (lots : Lots) (book : Book) (first : List Choice) (parts : ℕ) (price : ℕ → ℕ) → IsBook lots book
     → IsBound (raised_program lots book first parts price) (raised_bound lots book first parts price) ↔ NoneBlocks lots book first parts price
 
--- so a certificate of that bound shows that prices that are at least the reserves suffice
+-- prices that are at least the reserves suffice if a certificate shows the bound of minus the revenue for the raised program
 abbrev pub ShownSuffice : Type 0
 ShownSuffice = (reserves : List ℕ) (lots : Lots) (book : Book) (first : List Choice) (parts : ℕ) (price : ℕ → ℕ) (certificate : Certificate) → IsBook lots book
     → IsFeasible lots book (λ b. false) first → 1 ≤ parts → ArePrices book first parts price

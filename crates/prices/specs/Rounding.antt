@@ -13,7 +13,7 @@ RoundedUpSuffice = (reserves : List ℕ) (lots : Lots) (book : Book) (first : Li
     → Suffice reserves lots book first parts price
     → CoversEveryGroup lots book first (in_pounds parts price) × MeetReserves reserves book first (in_pounds parts price)
 
--- and what is rounded up from the prices of the rule is the same, whoever finds them
+-- the prices of the rule, rounded up to whole pounds, are the same, whoever finds them
 abbrev pub RoundedUpIsOne : Type 0
 RoundedUpIsOne = (reserves : List ℕ) (lots : Lots) (book : Book) (first : List Choice) (alone : ℕ → ℕ) (parts parts' : ℕ) (price price' : ℕ → ℕ)
     → AreThePrices reserves lots book first alone parts price → AreThePrices reserves lots book first alone parts' price'

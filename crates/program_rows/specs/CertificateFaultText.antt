@@ -3,7 +3,7 @@ use Rattle.std.specs.Prelude.{◌++◌, ℕ, List, codes, decimal}
 use Rattle.program_rows.specs.declared.certificate_fault.CertificateFaultKind.{CertificateFaultKind}
 use Rattle.program_rows.specs.declared.certificate_fault.CertificateFaultKind.TheVariants as kind
 
--- by its line and its kind
+-- the words printed for a fault of a certificate, by its line and its kind
 abbrev pub certificate_fault_text : ℕ → CertificateFaultKind → List ℕ
 certificate_fault_text line kind.TooLarge = codes "1 TooLarge at line " ++ decimal line
 certificate_fault_text line kind.Beyond = codes "2 Beyond at line " ++ decimal line

@@ -7,5 +7,6 @@ abbrev pub costed : List TableColumn → List ℤ → List TableColumn
 costed (c ∷ columns) (cost ∷ costs) = record c { cost = cost } ∷ costed columns costs
 costed _ _ = []
 
+-- a program whose columns have these costs instead, in their order
 abbrev pub costed_program : Table → List ℤ → Table
 costed_program p costs = record p { columns = costed p.columns costs }

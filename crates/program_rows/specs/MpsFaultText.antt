@@ -3,7 +3,7 @@ use Rattle.std.specs.Prelude.{◌++◌, ℕ, List, codes, decimal}
 use Rattle.program_rows.specs.declared.mps_fault_kind.MpsFaultKind.{MpsFaultKind}
 use Rattle.program_rows.specs.declared.mps_fault_kind.MpsFaultKind.TheVariants as kind
 
--- by its line and its kind, with the column if the kind has one
+-- the words printed for a fault of an MPS text, by its line and its kind, with the column if the kind has one
 abbrev pub mps_fault_text : ℕ → MpsFaultKind → List ℕ
 mps_fault_text line kind.TooLarge = codes "1 TooLarge"
 mps_fault_text line kind.NotText = codes "2 NotText at line " ++ decimal line

@@ -85,6 +85,7 @@ header_fault s word more = earliest_fault (
 abbrev pub is_declared : List LineFields → List ℕ → Bool
 is_declared rows name = list_any (λ row. bytes_eq name (field 1 row)) rows
 
+-- the fault of a line of ROWS: a wrong number of fields, an unknown type, or a name that a line before it has
 abbrev pub row_fault : List LineFields → LineFields → Option MpsFaultKind
 row_fault rows fields = earliest_fault (
     when (not (length fields == 2)) Fields
@@ -111,12 +112,14 @@ pairs_fault rows objective earlier (pair ∷ more) = earliest_fault (
     ∷ when (option_map_or (bytes_eq pair.0) objective false && not (int_eq (value pair.1) (pos 0))) ObjectiveConstant
     ∷ pairs_fault rows objective (pair ∷ earlier) more ∷ [])
 
+-- the fault of a line of COLUMNS: a wrong number of fields, a marker out of turn, a column in two runs of lines, or a faulty pair
 abbrev pub column_fault : Sections → LineFields → Option MpsFaultKind
 column_fault s fields = earliest_fault (
     when (not ((length fields == 3) || (length fields == 5))) Fields
     ∷ (if is_marker fields then marker_fault s.columns fields else option_or (when (is_split s.columns (field 0 fields)) ColumnSplit)
     (pairs_fault s.rows None (column_pairs s.columns (field 0 fields)) (pairs (drop 1 fields)))) ∷ [])
 
+-- the fault of a line of RHS: a wrong number of fields, or a faulty pair of a row and its right side
 abbrev pub right_side_fault : Sections → LineFields → Option MpsFaultKind
 right_side_fault s fields = earliest_fault (
     when (not (nat_le 2 (length fields) && nat_le (length fields) 5)) Fields

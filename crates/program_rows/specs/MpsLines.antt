@@ -14,6 +14,7 @@ pub data Line : Type 0 where
   -- the fields of a data line
   Data : (fields : List (List ℕ)) → Line
 
+-- what the bytes of a line are: skipped, unprintable, data if they begin with white space, or else a header
 unfoldable pub line_of : List ℕ → Line
 line_of bytes =
     if (slice_index bytes 0 == 42) || (length (fields bytes) == 0) then Skipped

@@ -16,5 +16,6 @@ meaning_after count s [] = Err (count, NoEnd)
 meaning_after count s (line ∷ after) =
     unless (option_map (λ kind. (count + 1, kind)) (fault s line)) (if is_end line then Ok (program s) else meaning_after (count + 1) (with_line s line) after)
 
+-- the program that an MPS text describes, or the number of its first faulty line with the fault
 unfoldable pub meaning : List ℕ → Result Table (ℕ × MpsFaultKind)
 meaning text = meaning_after 0 no_lines (map line_of (lines_of text))

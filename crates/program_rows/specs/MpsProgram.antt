@@ -99,12 +99,12 @@ bound_pair fields = drop (if length fields == (if is_binary_bound fields then 2 
 abbrev pub last_bound : List (List ℕ) → List LineFields → List ℕ → Option LineFields
 last_bound types bounds column = find (λ fields. is_one_of (field 0 fields) types && bytes_eq column (field 0 (bound_pair fields))) bounds
 
--- by the last LO, FX or BV; 0 if there is none
+-- the lower bound of a column, by the last LO, FX or BV; 0 if there is none
 abbrev pub lower : List LineFields → List ℕ → ℤ
 lower bounds column = option_map_or (λ fields. if is_binary_bound fields then pos 0 else value (field 1 (bound_pair fields)))
     (last_bound (codes "LO" ∷ codes "FX" ∷ codes "BV" ∷ []) bounds column) (pos 0)
 
--- by the last UP, FX or BV
+-- the upper bound of a column, by the last UP, FX or BV, if there is one
 abbrev pub upper : List LineFields → List ℕ → Option ℤ
 upper bounds column = option_map (λ fields. if is_binary_bound fields then pos 1 else value (field 1 (bound_pair fields)))
     (last_bound (codes "UP" ∷ codes "FX" ∷ codes "BV" ∷ []) bounds column)

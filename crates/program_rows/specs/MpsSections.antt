@@ -11,11 +11,11 @@ pub record Sections : Type 0 where
   pub right_sides : List LineFields
   pub bounds : List LineFields
 
--- before the first line
+-- the gathered lines of a text before its first line: none
 abbrev pub no_lines : Sections
 no_lines = record { section = []; rows = []; columns = []; right_sides = []; bounds = [] }
 
--- with a line more: a header opens its section, and a data line goes to the section that is open
+-- the gathered lines with one more: a header opens its section, and a data line goes to the section that is open
 abbrev pub with_line : Sections → Line → Sections
 with_line s (Header word more) = record s { section = word }
 with_line s (Data fields) = record s {

@@ -6,12 +6,15 @@ use Rattle.program_rows.specs.declared.column.Column.{Column}
 use Rattle.program_rows.specs.declared.parts.ProgramParts.{ProgramParts}
 use Rattle.program_rows.specs.Program.{Table, TableRow, TableColumn}
 
+-- a row that the code holds, as contracts see it
 abbrev pub shown_row : Row → TableRow
 shown_row r = record { name = r.name.items; kind = r.kind; right_side = r.right_side }
 
+-- a column that the code holds, as contracts see it
 abbrev pub shown_column : Column → TableColumn
 shown_column c = record { name = c.name.now; bounds = c.bounds; cost = c.cost; entries = c.entries.now }
 
+-- the program that is made of these parts, as contracts see it
 abbrev pub table_of : ProgramParts → Table
 table_of p = record { objective = p.objective_name.items; rows = map shown_row p.rows.items; columns = p.columns }
 
@@ -28,6 +31,7 @@ abbrev pub AreEntries : ℕ → List (ℕ × ℤ) → Type 0
 AreEntries rows [] = Unit {0}
 AreEntries rows (e ∷ entries) = (e.0 < rows) × (e.1 ≢ pos 0) × AllByRecursion (λ later. e.0 < later.0) entries × AreEntries rows entries
 
+-- a program is well formed: its rows, and its columns, have names that differ, and each column's coefficients are in row order, none of them 0
 pub record IsProgram (p : Table) : Type 0 where
   pub row_names : AllByRecursion IsName (p.objective ∷ map (λ r. r.name) p.rows)
   pub rows_differ : AreDistinct (p.objective ∷ map (λ r. r.name) p.rows)

@@ -3,6 +3,7 @@ use Rattle.std.specs.Prelude.{ℕ, List, ℤ}
 use Rattle.program_rows.specs.declared.row.RowKind.{RowKind}
 use Rattle.program_rows.specs.declared.bounds.Bounds.{Bounds}
 
+-- a row of a program: its name, whether its sum is to be at most, at least or equal to its right side, and that right side
 pub record TableRow : Type 0 where
   pub name : List ℕ
   pub kind : RowKind
@@ -15,6 +16,7 @@ pub record TableColumn : Type 0 where
   pub cost : ℤ
   pub entries : List (ℕ × ℤ)
 
+-- a 0-1 program: the name of its objective, its rows and its columns
 pub record Table : Type 0 where
   pub objective : List ℕ
   pub rows : List TableRow

@@ -8,9 +8,11 @@ use Rattle.std.specs.Hash.FoldHasher as folding
 use Rattle.std.specs.declared.hash.DefaultHasher.{DefaultHasher}
 use Rattle.std.specs.declared.hash.FoldHasher.{FoldHasher}
 
+-- the names of a program's columns, in their order
 abbrev pub column_names : Table → List (List ℕ)
 column_names p = map (λ c. c.name) p.columns
 
+-- the names of a program's rows, in their order
 abbrev pub row_names : Table → List (List ℕ)
 row_names p = map (λ r. r.name) p.rows
 
@@ -26,5 +28,6 @@ started hasher = folding.write folding.initial (le_bytes 8 (sip.finish hasher))
 abbrev pub seed : List (List ℕ) → FoldHasher
 seed texts = started (fold sip.write sip.initial texts)
 
+-- the names of a program's columns, and after them those of its rows
 abbrev pub all_names : Table → List (List ℕ)
 all_names p = map (λ c. c.name) p.columns ++ map (λ r. r.name) p.rows

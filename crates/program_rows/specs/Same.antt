@@ -5,9 +5,11 @@ use Rattle.program_rows.specs.declared.bounds.Bounds.{Bounds}
 use Rattle.program_rows.specs.Program.{Table, TableRow, TableColumn}
 use Rattle.program_rows.specs.Points.{coefficient_at}
 
+-- the first row with this name, if there is one
 abbrev pub row_named : List TableRow → List ℕ → Option TableRow
 row_named rows name = find (λ r. bytes_eq name r.name) rows
 
+-- the first column with this name, if there is one
 abbrev pub column_named : List TableColumn → List ℕ → Option TableColumn
 column_named columns name = find (λ c. bytes_eq name c.name) columns
 
@@ -23,6 +25,7 @@ coefficient_by_names p column row = option_map_or (λ c. coefficient_in p.rows c
 abbrev pub bounds_and_cost : TableColumn → Bounds × ℤ
 bounds_and_cost c = (c.bounds, c.cost)
 
+-- two programs are equal name by name: they have the same objective, rows, bounds, costs and coefficients
 pub record IsSameProgram (p q : Table) : Type 0 where
   pub objective : p.objective ≡ q.objective
   pub rows : (name : List ℕ) → row_named p.rows name ≡ row_named q.rows name

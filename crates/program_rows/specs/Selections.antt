@@ -13,9 +13,11 @@ use Rattle.program_rows.specs.declared.subject.Subject.TheVariants.{Bidder, Cate
 
 -- ---- a selection
 
+-- the row at a place, counted from 0; one without a name if there is none
 abbrev pub row_at : List TableRow → ℕ → TableRow
 row_at rows place = slice_index_or rows place (record { name = []; kind = AtMost; right_side = pos 0 })
 
+-- the column at a place, counted from 0; one without a name if there is none
 abbrev pub column_at : List TableColumn → ℕ → TableColumn
 column_at columns place = slice_index_or columns place (record { name = []; bounds = ZeroOrOne; cost = pos 0; entries = [] })
 
@@ -53,6 +55,7 @@ pub record Shared : Type 0 where
   pub rows : List (Option ℕ)
   pub columns : List (Option ℕ)
 
+-- a shared program with these bidders of its rows and its columns
 abbrev pub shared : Table → List (Option ℕ) → List (Option ℕ) → Shared
 shared program rows columns = record { program = program; rows = rows; columns = columns }
 
@@ -62,11 +65,13 @@ selection_without s group = selection_of s.program (places_left group 0 s.rows) 
 
 -- ---- the program of offers
 
+-- the bidder that a row is of; a row of a category or of a pool is of no bidder
 abbrev pub owner_of : Subject → Option ℕ
 owner_of (Bidder b) = Some b
 owner_of (Category c) = None
 owner_of (Pool p) = None
 
+-- the program of all offers, with the bidder of each row and each column that has one
 abbrev pub shared_of : Lots → List Offer → Shared
 shared_of lots offers = record {
   program = program_of lots offers;

@@ -3,6 +3,7 @@ use Rattle.std.specs.Prelude.{◌++◌, ℕ, List, codes, decimal}
 use Rattle.program_rows.specs.declared.solution_fault.SolutionFault.{SolutionFault}
 use Rattle.program_rows.specs.declared.solution_fault.SolutionFault.TheVariants as fault
 
+-- the words printed for a fault of a solution, with the number of the line if it is in one
 abbrev pub solution_fault_text : SolutionFault → List ℕ
 solution_fault_text fault.TooLarge = codes "1 TooLarge"
 solution_fault_text (fault.Fields place) = codes "2 Fields at line " ++ decimal place

@@ -17,6 +17,7 @@ use Rattle.bid_book.specs.History.{IsLegalHistory, entries_beside, changes, stan
 abbrev pub counts_at : {S : Type 0} → IndexMap ℕ Counts S → ℕ → Counts
 counts_at m b = unwrap_or (get nat_eq m b) (record { entries = 0; changes = 0 })
 
+-- the standing form that is kept of a bidder, if there is one, out of its share
 abbrev pub standing_at : {X Z S : Type 0} → IndexMap ℕ (Standing (Arc X Z)) S → ℕ → Option (Standing X)
 standing_at m b = option_map standing_value (get nat_eq m b)
 
@@ -30,9 +31,11 @@ pub record Summarizes (counts : ℕ → Counts) (standing : ℕ → Option (Stan
   pub chair_is : chair_entries ≡ length (entries_beside Chair history)
   pub open_is : is_open ≡ not (is_closed history)
 
+-- the history that the records of a book hold, with the forms out of their shares
 abbrev pub history_of : Records → List (Entry Offers)
 history_of r = map entry_value r.history.items
 
+-- the counts, the standing forms and the rest that the records of a book hold are those of the history that they hold
 abbrev pub AreOfBook : Records → Type 0
 AreOfBook r = Summarizes (counts_at r.counts) (standing_at r.standing) r.chair_entries r.is_open (history_of r)
 

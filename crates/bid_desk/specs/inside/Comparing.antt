@@ -15,6 +15,7 @@ abbrev pub IsCompared : {X : Type 0} → List X → List X → Comparison → Ty
 IsCompared theirs own (Agrees pairs) = (pairs ≤ length own) × (theirs ≡ take pairs own)
 IsCompared theirs own (Differs place) = IsFirstDifference theirs own place × (place ≤ length theirs)
 
+-- a comparison has found at most this many pairs that agree, or a difference
 abbrev pub IsWithin : ℕ → Comparison → Type 0
 IsWithin len (Agrees pairs) = pairs ≤ len
 IsWithin len (Differs place) = ⊤

@@ -11,9 +11,11 @@ use Rattle.bid_desk.specs.Settlement.{ComesBefore, is_named, times_session}
 abbrev pub slot_of : ℕ → ℕ → ℕ
 slot_of b s = (b - 1) * MOST_SESSIONS + (s - 1)
 
+-- the slot of a session that has not been met in the list
 abbrev pub empty_slot : Slot
 empty_slot = record { times = 0; place = 0 }
 
+-- the slot of a bidder's session; an empty one if there is none
 abbrev pub slot_at : List Slot → ℕ → ℕ → Slot
 slot_at slots b s = slice_index_or slots (slot_of b s) empty_slot
 

@@ -21,6 +21,6 @@ next_sum point lots sum four = (sum * point + four_from lots (4 * four)) % prime
 abbrev pub fingerprint : ℕ → List ℕ → ℕ
 fingerprint multiplier lots = fold (next_sum (multiplier % prime) lots) 0 (range_with_len 0 (div_ceil (length lots) 4))
 
--- these fingerprints have those of the packages of all these bids among them
+-- the fingerprint of each bid's package is among the fingerprints
 abbrev pub AreSeen : ℕ → List ℕ → List Bid → Type 0
 AreSeen multiplier fingerprints bids = All (λ bid. IsTrue (list_any (nat_eq (fingerprint multiplier bid.package)) fingerprints)) bids

@@ -3,5 +3,6 @@ use Rattle.std.specs.Prelude.{ℕ, List}
 use Rattle.atomic_table.specs.Seated.{TableId}
 use Rattle.group_compiler.specs.Claimed.{Claimed}
 
+-- a claim on this counter, with these numbers drawn and this many draws left
 abbrev pub claimed : TableId → List ℕ → ℕ → Claimed
 claimed counter drawn room = record { counter = counter; drawn = drawn; room = room }

@@ -5,6 +5,7 @@ use Rattle.group_compiler.specs.declared.steps.View.{View}
 use Rattle.group_compiler.specs.declared.limits.TheConstants.{ALL_DRAWS, WORKER_DRAWS}
 use Rattle.group_compiler.specs.Claims.{once_below, times_drawn}
 
+-- the view of a claim with these numbers drawn and this many draws left
 abbrev pub view : List ℕ → ℕ → View
 view drawn room = record { drawn = drawn; room = room }
 
@@ -21,11 +22,14 @@ pub record IsDrawn (before : Me ℕ View) (found : ℕ) (after : Me ℕ View) : 
   pub slots : after.1 ≡ before.1
   pub below : found < ALL_DRAWS
 
+-- a claim after another was split off: it keeps what it drew, and gives away the draws of one worker
 abbrev pub left_of : View → View
 left_of v = view v.drawn (v.room - WORKER_DRAWS)
 
+-- the claim that is split off: it has drawn nothing yet, and has the draws of one worker
 abbrev pub right_of : View → View
 right_of v = view [] WORKER_DRAWS
 
+-- two claims joined into one, which has what both drew and the draws that both had left
 abbrev pub views_joined : View → View → View
 views_joined v w = view (v.drawn ++ w.drawn) (v.room + w.room)

@@ -18,6 +18,7 @@ IsClosed sections.RightSides c = is_some c.current ≡ false
 IsClosed sections.Bounds c = is_some c.current ≡ false
 IsClosed sections.End c = is_some c.current ≡ false
 
+-- the rows and the columns of a reading fit to each other, and no column is open outside its section
 pub record ReadingFits (r : Reading) : Type 0 where
   pub rows : RowsFit r.rows
   pub both : BothFit r.rows r.columns

@@ -12,6 +12,7 @@ use Rattle.mps_reader.specs.declared.tables.OpenColumn.{OpenColumn}
 use Rattle.mps_reader.specs.declared.tables.ColumnTable.{ColumnTable}
 use Rattle.mps_reader.specs.declared.tables.Rows.{Rows}
 
+-- whether two entries are of the same row
 abbrev pub same_place : ℕ × ℤ → ℕ × ℤ → Bool
 same_place a b = a.0 == b.0
 
@@ -25,6 +26,7 @@ abbrev pub IsApart : List ℕ → List (Option ℕ) → ℕ → List (ℕ × ℤ
 IsApart stamps places stamp entries =
     (i p d : ℕ) → slice_get places i ≡ Some (Some p) → slice_get stamps i ≡ Some d → (d == stamp) ≡ false → AllByRecursion (λ e. (e.0 == p) ≡ false) entries
 
+-- the columns that are held are sound: their names are legal and differ, each has a state, and their entries are of rows that exist
 pub record ColumnsFit (count : ℕ) (c : ColumnTable) : Type 0 where
   pub distinct : IsDistinct bytes_eq (names_of c.names)
   pub plain : AllByRecursion IsName (names_of c.names)
@@ -61,6 +63,7 @@ pub record BothFit (r : Rows) (c : ColumnTable) : Type 0 where
   pub columns : ColumnsFit (length r.rows.items) c
   pub apart : IsApart r.stamps.items r.places.items (length (names_of c.names)) c.current_column.entries.items
 
+-- no column has been read, and no marker has begun integers
 pub record IsEmptyColumns (c : ColumnTable) : Type 0 where
   pub names : c.names.keys ≡ []
   pub states : c.states.items ≡ []

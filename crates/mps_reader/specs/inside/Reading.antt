@@ -51,7 +51,7 @@ AnswersFault (Ok x) fault = fault ≡ None
 AnswersFault (Err Memory) fault = Unit {0}
 AnswersFault (Err (Fault kind)) fault = fault ≡ Some kind
 
--- the same for checks that a last one follows: if they pass, the fault is that of the last
+-- the answer of all checks but the last: if they pass, the fault of the line is that of the last check, else it is theirs, unless memory ran out
 abbrev pub AnswersUpTo : {X : Type 0} → Result X Refusal → Option MpsFaultKind → Option MpsFaultKind → Type 0
 AnswersUpTo (Ok x) fault last = fault ≡ last
 AnswersUpTo (Err Memory) fault last = Unit {0}

@@ -20,6 +20,7 @@ use Rattle.mps_reader.specs.declared.tables.Rows.{Rows}
 use Rattle.auction_terms.specs.Decimals.{number as token_number}
 use Rattle.std.specs.Bool.{then_some as when}
 
+-- a set of names, in the order in which they were added
 abbrev pub NameSet : Type 0
 NameSet = IndexSet (Bor (List ℕ)) Seeded
 
@@ -27,6 +28,7 @@ NameSet = IndexSet (Bor (List ℕ)) Seeded
 abbrev pub names_of : NameSet → List (List ℕ)
 names_of s = bytes_of s.keys
 
+-- the names of the rows that the code holds, in their order
 abbrev pub declared_row_names : List Row → List (List ℕ)
 declared_row_names rows = map (λ r. r.name.items) rows
 
@@ -43,6 +45,7 @@ pub record IsObjective (names rows : List (List ℕ)) (objective : List ℕ) : T
   pub name : IsName objective
   pub apart : AllByRecursion (λ r. bytes_eq objective r ≡ false) rows
 
+-- the rows that are held are sound: their names are legal and differ, each has a stamp and, unless it is free, a place, and the objective is no row
 pub record RowsFit (r : Rows) : Type 0 where
   pub distinct : IsDistinct bytes_eq (names_of r.names)
   pub plain : AllByRecursion IsName (names_of r.names)
@@ -50,6 +53,7 @@ pub record RowsFit (r : Rows) : Type 0 where
   pub places : AreAt 0 (names_of r.names) r.places.items (declared_row_names r.rows.items)
   pub objective : IfSome r.objective (λ o. IsObjective (names_of r.names) (declared_row_names r.rows.items) o.now)
 
+-- the bytes of a name that is borrowed, if there is one
 abbrev pub option_now : Option (Bor (List ℕ)) → Option (List ℕ)
 option_now o = option_map (λ n. n.now) o
 
@@ -73,6 +77,7 @@ pub record AddsBound (letter name : List ℕ) (old new : Rows) : Type 0 where
 abbrev pub StampsAre : List ℕ → ℕ → List (List ℕ) → (List ℕ → Bool) → Type 0
 StampsAre stamps stamp names has = map (λ s. s == stamp) stamps ≡ map has names
 
+-- no row has been read, and so there is no objective
 pub record IsEmptyTable (r : Rows) : Type 0 where
   pub names : r.names.keys ≡ []
   pub places : r.places.items ≡ []
@@ -88,6 +93,7 @@ with_side (suc place) side (r ∷ rows) = r ∷ with_side place side rows
 
 -- ---- what the lines of ROWS and RHS say
 
+-- the names that the lines of ROWS declare, in the order of the text
 abbrev pub declared_names : List LineFields → List (List ℕ)
 declared_names rows = map (field 1) (reverse rows)
 

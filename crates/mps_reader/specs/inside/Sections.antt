@@ -3,6 +3,7 @@ use Rattle.std.specs.Prelude.{ℕ, List, [], codes, bytes_eq, if◌then◌else�
 use Rattle.mps_reader.specs.declared.sections.Section.{Section}
 use Rattle.mps_reader.specs.declared.sections.Section.TheVariants.{Start, Name, Sense, Rows, Columns, RightSides, Bounds, End}
 
+-- the word of the header of a section; no bytes before the first one
 abbrev pub word_of : Section → List ℕ
 word_of Start = []
 word_of Name = codes "NAME"
@@ -13,6 +14,7 @@ word_of RightSides = codes "RHS"
 word_of Bounds = codes "BOUNDS"
 word_of End = codes "ENDATA"
 
+-- the section whose header has this word; the start if there is none
 abbrev pub section_named : List ℕ → Section
 section_named word =
     if bytes_eq word (codes "NAME") then Name

@@ -24,6 +24,7 @@ use Rattle.mps_reader.specs.declared.tables.ColumnTable.{ColumnTable}
 use Rattle.mps_reader.specs.declared.tables.OpenColumn.{OpenColumn}
 use Rattle.mps_reader.specs.declared.tables.Reading.{Reading}
 
+-- the rows and the objective that are held are those that the lines of ROWS and RHS describe
 pub record RowsTell (rows rights : List LineFields) (r : Rows) : Type 0 where
   pub names : names_of r.names ≡ declared_names rows
   pub shown : map shown_row r.rows.items ≡ table_rows rows (flat_map line_right_sides rights)
@@ -43,6 +44,7 @@ pub record OpenTells (objective : Option (List ℕ)) (rows : List (List ℕ)) (n
   pub cost : column.cost ≡ number (unwrap_or objective [])
   pub entries : (place : ℕ) (row : List ℕ) → slice_get rows place ≡ Some row → number_at_place place column.entries.items ≡ number row
 
+-- the number that a bound is: true is 1, false is 0
 abbrev pub bit : Bool → ℤ
 bit true = pos 1
 bit false = pos 0
@@ -55,6 +57,7 @@ state_values s = (s.is_integer, bit s.lower, option_map bit s.upper)
 abbrev pub bounded_values : List ℕ → ℤ → Bool × ℤ × Option ℤ → Bool × ℤ × Option ℤ
 bounded_values word number v = (v.0, if bytes_eq word (codes "UP") then v.1 else number, if bytes_eq word (codes "LO") then v.2 else Some number)
 
+-- whether the lines make a column an integer, and the bounds that they give it
 abbrev pub parsed_values : List LineFields → List LineFields → List ℕ → Bool × ℤ × Option ℤ
 parsed_values lines bounds column = (
   stands_in_integers column lines || list_any (λ fields. is_binary_bound fields && bytes_eq column (field 0 (bound_pair fields))) bounds,
@@ -73,6 +76,7 @@ gathered_column objective rows lines name =
           entries_at 0 (number_beside (column_pairs lines name)) rows;
     }
 
+-- the columns that are held are those that the lines of COLUMNS and BOUNDS describe
 pub record ColumnsTell (objective : Option (List ℕ)) (rows : List (List ℕ)) (lines bounds : List LineFields) (c : ColumnTable) : Type 0 where
   pub names : names_of c.names ≡ columns_named lines
   pub begun : c.is_begun ≡ is_integer_open lines
@@ -104,22 +108,25 @@ pub record InColumns (lines rights bounds : List LineFields) (r : Rows) (c : Col
   pub stamps : IfSome c.current (λ name. StampsAre r.stamps.items (length (names_of c.names)) (names_of r.names)
       (λ row. list_any (λ other. bytes_eq row other.0) (column_pairs lines name.now)))
 
+-- in ROWS: no line of a later section has been read, and no stamp is above the number of columns
 pub record InRows (lines rights bounds : List LineFields) (r : Rows) (c : ColumnTable) : Type 0 where
   pub no_lines : lines ≡ []
   pub no_rights : rights ≡ []
   pub no_bounds : bounds ≡ []
   pub low : AreStampsUpTo (length (names_of c.names)) r
 
+-- before ROWS: no line of that section or a later one has been read, and no stamp is above the number of columns
 pub record BeforeRows (rows lines rights bounds : List LineFields) (r : Rows) (c : ColumnTable) : Type 0 where
   pub no_rows : rows ≡ []
   pub after : InRows lines rights bounds r c
 
--- those of a line of RHS are those of the rows that a right side has named
+-- in RHS: no line of BOUNDS has been read, and the rows that have its stamp are those that a right side has named
 pub record InRightSides (rights bounds : List LineFields) (r : Rows) (c : ColumnTable) : Type 0 where
   pub no_bounds : bounds ≡ []
   pub stamps : StampsAre r.stamps.items (length (names_of c.names) + 1) (names_of r.names)
       (λ row. list_any (λ other. bytes_eq row other.0) (flat_map line_right_sides rights))
 
+-- what holds of the lines of all sections and of the rows and columns that are held, by the section that is open
 abbrev pub SectionTells : Section → List LineFields → List LineFields → List LineFields → List LineFields → Rows → ColumnTable → Type 0
 SectionTells sections.Start rows lines rights bounds r c = BeforeRows rows lines rights bounds r c
 SectionTells sections.Name rows lines rights bounds r c = BeforeRows rows lines rights bounds r c
@@ -136,6 +143,7 @@ pub record LinesTell (rows lines rights bounds : List LineFields) (r : Reading) 
   pub of_columns : ColumnsTell (option_now r.rows.objective) (declared_row_names r.rows.rows.items) lines bounds r.columns
   pub of_section : SectionTells r.section rows lines rights bounds r.rows r.columns
 
+-- a reading has open the section that the lines before have opened, and holds what their data lines say
 pub record ReadingTells (before : Sections) (r : Reading) : Type 0 where
   pub section : before.section ≡ word_of r.section
   pub lines : LinesTell before.rows before.columns before.right_sides before.bounds r

@@ -15,6 +15,7 @@ number_at numbers place = slice_index_or numbers place (pos 0)
 
 -- ---------- which places have a number ----------
 
+-- a place is listed
 abbrev pub has_place : List ℕ → ℕ → Bool
 has_place [] q = false
 has_place (place ∷ places) q = (place == q) || has_place places q
@@ -23,11 +24,13 @@ has_place (place ∷ places) q = (place == q) || has_place places q
 abbrev pub AreListed : List ℕ → List ℤ → Type 0
 AreListed places numbers = (q : ℕ) → has_place places q ≡ false → number_at numbers q ≡ pos 0
 
+-- every place has 0
 abbrev pub AreNone : List ℤ → Type 0
 AreNone numbers = (q : ℕ) → number_at numbers q ≡ pos 0
 
 -- ---------- what is added ----------
 
+-- every place has the same number as before
 abbrev pub AreAsBefore : List ℤ → List ℤ → Type 0
 AreAsBefore before after = (q : ℕ) → number_at after q ≡ number_at before q
 
@@ -47,6 +50,7 @@ form_given factor form q = factor *ℤ number_in form q
 abbrev pub cuts_given : List ℕ → List Cut → ℕ → ℤ
 cuts_given ys cuts q = sum_of (λ e. pos e.0 *ℤ number_in e.1.form q) (zip ys cuts)
 
+-- the form of the row at a place; an empty one if there is no row
 abbrev pub form_at : List Form → ℕ → Form
 form_at forms row = slice_index_or forms row []
 
@@ -104,7 +108,7 @@ abbrev pub HaveRows : Table → Form → List ℤ → List ℤ → Type 0
 HaveRows p rows before after = (place : ℕ) (c : TableColumn) → slice_get p.columns place ≡ Some c
     → number_at after place ≡ number_at before place +ℤ sum_of (λ t. t.1 *ℤ coefficient_at t.0 c) rows
 
--- and of each cut, and nothing else
+-- each column is given a multiple of its number in each cut and of its coefficient in each row, and nothing else
 abbrev pub HaveAll : Table → List ℕ → List Cut → Form → List ℤ → Type 0
 HaveAll p ys cuts rows numbers = (place : ℕ) (c : TableColumn) → slice_get p.columns place ≡ Some c
     → number_at numbers place ≡ cuts_given ys cuts place +ℤ sum_of (λ t. t.1 *ℤ coefficient_at t.0 c) rows

@@ -14,12 +14,13 @@ AnswersSeen view (Err (Stopped limits.Memory)) parsed = Unit {0}
 AnswersSeen view (Err (Stopped limits.TooLarge)) parsed = ⊥
 AnswersSeen view (Err (Fault kind)) parsed = parsed ≡ Err kind
 
--- the same where a number may be too large
+-- the value, as it is seen, or the fault; if memory is short or a number is too large, the code says nothing
 abbrev pub AnswersClosed : {X Y : Type 0} → (X → Y) → Result X Refusal → Result Y CertificateFaultKind → Type 0
 AnswersClosed view (Ok x) parsed = parsed ≡ Ok (view x)
 AnswersClosed view (Err (Stopped limit)) parsed = Unit {0}
 AnswersClosed view (Err (Fault kind)) parsed = parsed ≡ Err kind
 
+-- the code stopped because memory was short
 abbrev pub IsStopped : Refusal → Type 0
 IsStopped (Stopped limits.Memory) = Unit {0}
 IsStopped (Stopped limits.TooLarge) = ⊥

@@ -9,6 +9,7 @@ use Rattle.optimality.specs.Branches.{Branch, At}
 use Rattle.optimality.specs.Sizes.{IsLargeFrom}
 use Rattle.optimality.specs.Verdict.{fault_from}
 
+-- an open split that the code holds, as a branch
 abbrev pub branch_of : OpenSplit → Branch
 branch_of s = At s.is_high s.form.items s.most
 

@@ -13,7 +13,7 @@ pub record AreRowsOf (p : Table) (rows : RowForms) : Type 0 where
   pub forms : forms_held rows.forms.items ≡ row_forms p
   pub alone : rows.alone ≡ least_alone p.columns
 
--- and so are the names of rows
+-- a checker is ready for its program: it has the names of the program's rows, and if it holds forms, those of the program's rows
 pub record IsPrepared (c : Checker) : Type 0 where
   pub rows : bytes_of c.rows.keys ≡ row_names c.program.now
   pub forms : IfSome c.row_forms (λ rows. AreRowsOf c.program.now rows)

@@ -14,11 +14,12 @@ abbrev pub with_entries : ℕ → List (ℕ × ℤ) → List Form → List Form
 with_entries place [] forms = forms
 with_entries place (e ∷ entries) forms = with_entries place entries (with_term e.0 (place, e.1) forms)
 
--- those of the columns from a place on
+-- the forms of rows with the entries of the columns from a place on added, each in the form of its row
 abbrev pub with_columns : ℕ → List TableColumn → List Form → List Form
 with_columns place [] forms = forms
 with_columns place (c ∷ columns) forms = with_columns (suc place) columns (with_entries place c.entries forms)
 
+-- the rows of a program, each as the form of its coefficients
 abbrev pub row_forms : Table → List Form
 row_forms p = with_columns 0 p.columns (replicate (length p.rows) [])
 
@@ -26,5 +27,6 @@ row_forms p = with_columns 0 p.columns (replicate (length p.rows) [])
 abbrev pub form_held : RowForm → Form
 form_held form = form.short.items ++ form.rest.items
 
+-- the forms of all rows that the code holds
 abbrev pub forms_held : List RowForm → List Form
 forms_held forms = map form_held forms

@@ -18,7 +18,7 @@ TooLargeOnly holds (Ok x) = Unit {0}
 TooLargeOnly holds (Err Memory) = Unit {0}
 TooLargeOnly holds (Err TooLarge) = holds
 
--- the same of a line
+-- the code refuses a line because a number is too large only if this holds
 abbrev pub RefusedLargeOnly : {X : Type 0} → Type 0 → Result X Refusal → Type 0
 RefusedLargeOnly holds (Ok x) = Unit {0}
 RefusedLargeOnly holds (Err (Stopped Memory)) = Unit {0}

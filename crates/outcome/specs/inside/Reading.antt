@@ -19,5 +19,6 @@ pair_checks columns before place name token =
 abbrev pub said_of : List (List ℕ) → List ℕ → Option Bool
 said_of text column = if list_any (names_column column) text then Some (is_one text column) else None
 
+-- what the lines of a solution say of each column, in the columns' order
 abbrev pub said_by : List (List ℕ) → List (List ℕ) → List (Option Bool)
 said_by columns text = map (said_of text) columns

@@ -14,7 +14,7 @@ IsMarked words i = bit_at (slice_index words (i / 64)) (i % 64) ≡ 1
 abbrev pub shortfall : ℤ → ℕ
 shortfall net = 2 ^ 64 - 1 - saturate_unsigned w64 net
 
--- so many of the sorted numbers are lower than a number, and no others
+-- the first numbers of a sorted list, as many as a count says, are lower than a given number, and the others are not
 pub record AreLower (sorted : List ℕ) (number count : ℕ) : Type 0 where
   pub within : count ≤ length sorted
   pub lower : (k : ℕ) → k < count → slice_index sorted k < number

@@ -12,10 +12,11 @@ pub record Sized : Type 0 where
   pub number : ℕ
   pub bid : Bid
 
+-- a bid with its size and its number that the code holds, as contracts see it
 abbrev pub sized_of : SizedBid → Sized
 sized_of s = record { size = s.size; number = s.number; bid = s.bid.now }
 
--- those of a form's bids that fit, numbered from j on
+-- the bids of a form that fit, numbered from j on, each with the size of its package
 abbrev pub fitting_from : Lots → ℕ → List Bid → List Sized
 fitting_from lots j [] = []
 fitting_from lots j (x ∷ form) =
@@ -23,11 +24,11 @@ fitting_from lots j (x ∷ form) =
     then record { size = size x.package; number = j; bid = x } ∷ fitting_from lots (j + 1) form
     else fitting_from lots (j + 1) form
 
--- it gives the size of its bid's package
+-- a bid that the code holds has the right size of its package with it
 abbrev pub TellsItsSize : SizedBid → Type 0
 TellsItsSize s = s.size ≡ size s.bid.now.package
 
--- it gives the net of its bid
+-- a bid that the code holds has the right net with it
 abbrev pub TellsItsNet : Lots → SizedBid → Type 0
 TellsItsNet lots s = s.net ≡ net lots s.bid.now
 

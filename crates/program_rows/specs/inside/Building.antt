@@ -7,7 +7,7 @@ use Rattle.program_rows.specs.declared.subject.Subject.TheVariants.{Bidder, Cate
 use Rattle.program_rows.specs.Program.{TableColumn}
 use Rattle.program_rows.specs.Rows.{column_of, entries_from, subjects}
 
--- there is such a category, or such a pool
+-- the lots have the category or the pool that a row is of
 abbrev pub IsThere : Lots → Subject → Type 0
 IsThere lots (Bidder b) = ⊤
 IsThere lots (Category c) = c < length lots.supply
