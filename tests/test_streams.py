@@ -272,3 +272,25 @@ def test_each_request_is_refused(wdp, failing, tmp_path, case):
         with row(f"request {number}"):
             assert given == wanted or is_refused() and given == OUT_OF_MEMORY
     assert number > 10, "there were few requests to refuse"
+
+
+@pytest.mark.parametrize("old", [None, b"of an earlier run"])
+def test_a_refused_request_leaves_no_file_beside_the_output(wdp, failing, tmp_path, old):
+    """Run n refuses its allocation n: the output is whole, or what was there before is, and no new file lies beside it."""
+    folder = tmp_path / "folder"
+    folder.mkdir()
+    output = folder / "out"
+    words = ["text", "-o", str(output)]
+    number = 0
+    for number, is_refused, env in refusals(failing, tmp_path):
+        output.unlink(missing_ok=True)
+        if old is not None:
+            output.write_bytes(old)
+        given = seen(wdp, words, TEXT, env=env)
+        is_whole = given == done("")
+        left = {path.name: path.read_bytes() for path in folder.iterdir()}
+        kept = {} if old is None else {"out": old}
+        with row(f"request {number}"):
+            assert is_whole or is_refused() and given == OUT_OF_MEMORY
+            assert left == ({"out": ONE_COLUMN.encode()} if is_whole else kept)
+    assert number > 10, "there were few requests to refuse"

@@ -78,10 +78,14 @@ fn make(rt: &HostRuntime, path: &str, is_private: bool) -> io::Result<File> {
         .mode(mode)
         .open(rt, path)?;
     // What is said on a standard stream that is closed must not come to stand in it.
-    if file.as_raw_fd() <= 2 {
-        return file.try_clone();
+    if file.as_raw_fd() > 2 {
+        return Ok(file);
     }
-    Ok(file)
+    let moved = file.try_clone();
+    if moved.is_err() {
+        let _ = fs::remove_file(rt, path);
+    }
+    moved
 }
 
 // Gives a file the rights of another, and its group and owner where this process may.
@@ -101,12 +105,14 @@ impl NewFile {
         let old = fs::metadata(rt, name).ok();
         let place = place_of(rt, name, old.is_some()).map_err(unwritten)?;
         let path = path_beside(rt, place.as_str())?;
+        // Copied before the file is made: were there no memory for it after that, the file would stay.
+        let name = String::from_str(rt.alloc(), name)?;
         let file = make(rt, path.as_str(), old.is_some()).map_err(unwritten)?;
         let new = NewFile {
             file,
             path,
             place,
-            name: String::from_str(rt.alloc(), name)?,
+            name,
         };
         match old {
             Some(old) if give_rights(&new.file, &old).is_err() => {
