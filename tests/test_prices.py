@@ -31,7 +31,9 @@ DAMAGES, PRICES = 30, 8  # of each auction
 @pytest.fixture(autouse=True)
 def no_solver(monkeypatch: pytest.MonkeyPatch) -> None:
     """A solver that only finds that nobody wins, at once: the search for certificates has to find what is better."""
-    monkeypatch.setattr(solve, "point_of", lambda program, *how: solve.nothing(program))
+    monkeypatch.setattr(
+        solve, "find_point", lambda program, *how, **more: solve.find_empty_solution(program)
+    )
 
 
 class Trial:
@@ -64,9 +66,9 @@ class Trial:
             bidder: int(parts * (amount - price))
             for bidder, amount, price in zip(costs.winners, costs.amounts, prices)
         }
-        problem = certify.read_problem(self.program).raised(surplus, parts)
+        problem = certify.read_problem(self.program).raise_costs(surplus, parts)
         first = next(it.text for it in parse_parts(self.rest) if it.kind == "solution")
-        return problem.certified(first).certificate
+        return problem.find_optimum(first).certificate
 
     def try_with(self, **others: bytes | None) -> bool:
         """Whether these parts in the place of its own are true, as the judge and the program agree."""

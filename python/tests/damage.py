@@ -82,7 +82,7 @@ OF_CERTIFICATE: dict[str, Callable[[random.Random, bytes], bytes]] = {
 }
 
 
-def damage_certificate(text: bytes, seed: int, number: int) -> tuple[bytes, list[str]]:
+def damage_certificate(text: bytes, seed: str, number: object) -> tuple[bytes, list[str]]:
     """The damaged certificate of this number, and the names of its damages."""
     draw = random.Random(f"{seed} {number}")
     weights = (6, 6, 4, 1, 1, 1, 1)

@@ -109,7 +109,7 @@ class Audit:
             columns.append(replace(column, cost=parts * column.cost + int(surplus)))
         raised = ZeroOne(self.program.rows, columns)
         revenue = parts * (sum(prices.values()) + self.unsold)
-        assert raised.objective(self.ones) == -revenue
+        assert raised.compute_objective(self.ones) == -revenue
         verdict = Checker(raised).verdict(-int(revenue), self.parts["cover"])
         self.is_large = bool(verdict.large_lines)
         hold(verdict.fault is None, f"cover: {verdict.fault}")

@@ -1,69 +1,94 @@
-"""Small random auctions with prices in parts of a pound, and whether prices are those of the rule, by its definition alone: in exact
-fractions, over all groups of winners, by a simplex method of its own."""
+"""Small random auctions with prices in parts of a pound, and whether prices are those of the rule, by
+its definition alone: in exact fractions, over all groups of winners, by a simplex method of its own.
+"""
 import random
+from collections.abc import Iterable, Iterator, Sequence
 from fractions import Fraction
 
 import tied_auctions as tied
 from tied_auctions import Auction, Bid, Pool, weighed
 
+Package = tuple[int, ...]  # lots of each category
+Allocation = tuple[tuple[int, int], ...]  # of each winner the bidder and the bid, from 1
+Number = int | Fraction
 
-def random_auction(draw):
-    """Either a few categories, or single lots that losers want together, which several winners have to pay for."""
-    return draw.choice([of_categories, of_single_lots])(draw)
+
+def random_auction(draw: random.Random) -> Auction:
+    """Either a few categories, or single lots that losers want together, which several winners have
+    to pay for.
+    """
+    return draw.choice([_draw_categories, _draw_single_lots])(draw)
 
 
-def drawn(number):
+def drawn(number: int) -> tuple[Auction, list[tuple[int, ...]]]:
     """The random auction of this number, and the groups that are asked for."""
     draw = random.Random(f"rule {number}")
     auction = random_auction(draw)
     return auction, draw.choice([[()], [(), (1,)], [(), (2,), (1,), (2,)], [(), (1, 2)]])
 
 
-def of_categories(draw):
+def _draw_categories(draw: random.Random) -> Auction:
     kinds = range(draw.randint(1, 4))
     supply = tuple(draw.randint(1, 3) for _ in kinds)
-    values, reserves = values_of(draw, kinds)
+    values, reserves = _draw_values(draw, kinds)
     most = draw.choice([4, 10, 40])
     forms = []
     for _ in range(draw.randint(2, 6)):
         packages = {tuple(draw.choice([0, 0, 1, 1, 2]) for _ in kinds) for _ in range(3)}
-        forms.append(form_of(draw, sorted(packages), reserves, most))
-    return Auction(3, supply, values, pools_of(draw, supply), forms, reserves)
+        forms.append(_draw_form(draw, sorted(packages), reserves=reserves, most=most))
+    return Auction(
+        version=3,
+        supply=supply,
+        values=values,
+        pools=_draw_pools(draw, supply),
+        forms=forms,
+        reserves=reserves,
+    )
 
 
-def of_single_lots(draw):
+def _draw_single_lots(draw: random.Random) -> Auction:
     kinds = range(draw.randint(4, 6))
     supply = tuple(1 for _ in kinds)
-    values, reserves = values_of(draw, kinds)
-    one = [tuple(int(at == lot) for at in kinds) for lot in kinds]
+    values, reserves = _draw_values(draw, kinds)
+    single = [tuple(int(kind == lot) for kind in kinds) for lot in kinds]
     forms = []
     for lot in kinds:
-        packages = [one[lot], *draw.sample(one, draw.choice([0, 0, 1]))]
-        forms.append(form_of(draw, list(dict.fromkeys(packages)), reserves, 60))
+        packages = dict.fromkeys([single[lot], *draw.sample(single, draw.choice([0, 0, 1]))])
+        forms.append(_draw_form(draw, list(packages), reserves=reserves, most=60))
     for _ in range(draw.randint(1, len(kinds))):
         wanted = draw.sample(kinds, draw.randint(2, len(kinds) // 2 + 1))
         package = tuple(int(lot in wanted) for lot in kinds)
         amount = weighed(reserves, package) + draw.randint(8, 34) * len(wanted)
         forms.append([Bid(amount, package)])
     draw.shuffle(forms)
-    return Auction(3, supply, values, pools_of(draw, supply), forms, reserves)
+    return Auction(
+        version=3,
+        supply=supply,
+        values=values,
+        pools=_draw_pools(draw, supply),
+        forms=forms,
+        reserves=reserves,
+    )
 
 
-def values_of(draw, kinds):
+def _draw_values(draw: random.Random, kinds: Iterable[int]) -> tuple[Package, Package]:
     """What each lot is worth unsold, often nothing, and reserves, each at least that."""
     has_values = draw.random() < 0.4
     values = tuple(draw.choice([0, 1, 2]) if has_values else 0 for _ in kinds)
     return values, tuple(value + draw.choice([0, 0, 1, 3]) for value in values)
 
 
-def pools_of(draw, supply):
+def _draw_pools(draw: random.Random, supply: Package) -> list[Pool]:
     if draw.random() < 0.7:
         return []
     weights = tuple(draw.choice([0, 1, 1, 2]) for _ in supply)
     return [Pool(draw.randint(1, sum(supply) + 2), weights)]
 
 
-def form_of(draw, packages, reserves, most):
+def _draw_form(
+    draw: random.Random, packages: Iterable[Package], *, reserves: Package, most: int
+) -> list[Bid]:
+    """A bid for each package, of at most so much above the reserve for each lot."""
     return [
         Bid(max(1, weighed(reserves, package) + draw.randint(0, most) * sum(package)), package)
         for package in packages
@@ -72,100 +97,121 @@ def form_of(draw, packages, reserves, most):
 
 
 class Costs:
-    """What each group of an award's winners costs, and what each would pay alone, by all that is feasible."""
+    """What each group of an award's winners costs, and what each would pay alone, by all that is
+    feasible.
+    """
 
-    def __init__(self, auction, won):
+    def __init__(self, auction: Auction, won: Allocation) -> None:
         self.winners = [bidder for bidder, _ in won]
         bids = [tied.bid_of(auction, winner) for winner in won]
-        self.amounts = [bid.amount for bid in bids]
-        self.reserves = [tied.reserve_of(auction, bid) for bid in bids]
-        own = tied.total(auction, won)
+        self.amounts: list[int] = [bid.amount for bid in bids]
+        self.reserves: list[int] = [tied.reserve_of(auction, bid) for bid in bids]
+        total: int = tied.total(auction, won)
         # the greatest total by who of these winners wins in it
-        greatest = {}
+        greatest: dict[frozenset[int], int] = {}
         for allocation in feasible(auction):
             who = frozenset(self.winners).intersection(bidder for bidder, _ in allocation)
             greatest[who] = max(tied.total(auction, allocation), greatest.get(who, 0))
-        self.is_best = own == max(greatest.values())
-        self.costs = {}
+        self.is_best = total == max(greatest.values())
+        self.costs: dict[tuple[int, ...], int] = {}
         for group in filter(None, tied.subsets(range(len(won)))):
-            without = {self.winners[at] for at in group}
+            without = {self.winners[place] for place in group}
             best = max(total for who, total in greatest.items() if not who & without)
-            self.costs[group] = best - own + sum(self.amounts[at] for at in group)
-        self.alone = [max(self.costs[at,], reserve) for at, reserve in enumerate(self.reserves)]
+            self.costs[group] = best - total + sum(self.amounts[place] for place in group)
+        self.alone = [
+            max(self.costs[place,], reserve) for place, reserve in enumerate(self.reserves)
+        ]
 
-    def fault_of(self, prices):
+    def fault_of(self, prices: Sequence[Number]) -> str | None:
         """Why prices aren't those of the rule, or None.
 
-        Of the least sum are those of which no others have a lower one. The nearest of these are those from which, in the direction
-        of what each would pay alone, none of these lie farther.
+        Of the least sum are those of which no others have a lower one. The nearest of these are
+        those from which, in the direction of what each would pay alone, none of these lie farther.
         """
         count = len(self.winners)
-        rows = [[int(at in group) for at in range(count)] for group in self.costs]
-        needs = list(self.costs.values())
-        rows += [[int(at == own) for at in range(count)] for own in range(count)]
-        needs += self.reserves
-        if any(product(row, prices) < need for row, need in zip(rows, needs)):
+        rows = [[int(place in group) for place in range(count)] for group in self.costs]
+        rows += [[int(place == winner) for place in range(count)] for winner in range(count)]
+        needs: list[Number] = [*self.costs.values(), *self.reserves]
+        pairs = zip(rows, needs, strict=True)
+        if any(_multiply(row, prices) < need for row, need in pairs):
             return "a group isn't covered, or a reserve isn't met"
-        total = lowest(rows, needs, [1] * count)
+        total = _find_lowest(rows, needs, [1] * count)
         if sum(prices) != total:
             return f"the least sum is {total}"
-        apart = [price - own for price, own in zip(prices, self.alone)]
-        least = lowest([*rows, [-1] * count], [*needs, -total], apart)
-        return None if product(apart, prices) == least else "others are nearer"
+        apart = [price - alone for price, alone in zip(prices, self.alone, strict=True)]
+        least = _find_lowest([*rows, [-1] * count], [*needs, -total], apart)
+        return None if _multiply(apart, prices) == least else "others are nearer"
 
 
-def feasible(auction):
+def feasible(auction: Auction) -> Iterator[Allocation]:
     """All feasible allocations; what doesn't fit isn't gone on with."""
-
-    def further(bidder, before):
-        if bidder > len(auction.forms):
-            yield before
-            return
-        yield from further(bidder + 1, before)
-        for bid in range(1, len(auction.forms[bidder - 1]) + 1):
-            more = (*before, (bidder, bid))
-            if tied.is_feasible(auction, more):
-                yield from further(bidder + 1, more)
-
-    return further(1, ())
+    return _extend(auction, 1, ())
 
 
-def product(one, other):
-    return sum(x * y for x, y in zip(one, other))
+def _extend(auction: Auction, bidder: int, before: Allocation) -> Iterator[Allocation]:
+    """All feasible allocations that begin with this one, of the bidders before this one."""
+    if bidder > len(auction.forms):
+        yield before
+        return
+    yield from _extend(auction, bidder + 1, before)
+    for bid in range(1, len(auction.forms[bidder - 1]) + 1):
+        more = (*before, (bidder, bid))
+        if tied.is_feasible(auction, more):
+            yield from _extend(auction, bidder + 1, more)
 
 
-def lowest(rows, needs, costs):
-    """The least that prices cost which meet all rows; costs are at least 0. The simplex method for the weights, by Bland's rule."""
+def _multiply(first: Iterable[Number], second: Iterable[Number]) -> Number:
+    return sum(x * y for x, y in zip(first, second, strict=True))
+
+
+def _find_lowest(
+    rows: Sequence[Sequence[int]], needs: Sequence[Number], costs: Sequence[Number]
+) -> Fraction:
+    """The least that prices cost which meet all rows; costs are at least 0. The simplex method for
+    the weights, by Bland's rule.
+    """
+    count = len(costs)
     table = [
-        [*(Fraction(row[at]) for row in rows), *(Fraction(at == own) for own in range(len(costs)))]
-        for at in range(len(costs))
+        [
+            *(Fraction(row[place]) for row in rows),
+            *(Fraction(place == other) for other in range(count)),
+        ]
+        for place in range(count)
     ]
     right = [Fraction(cost) for cost in costs]
-    goal = [Fraction(-need) for need in needs] + [Fraction(0)] * len(costs)
-    basis = [len(rows) + at for at in range(len(costs))]
+    goal = [Fraction(-need) for need in needs] + [Fraction(0)] * count
+    basis = [len(rows) + place for place in range(count)]
     value = Fraction(0)
-    while (enters := next((at for at, gain in enumerate(goal) if gain < 0), None)) is not None:
+    while (enters := next((n for n, gain in enumerate(goal) if gain < 0), None)) is not None:
         _, _, leaves = min(
-            (right[at] / line[enters], basis[at], at)
-            for at, line in enumerate(table)
+            (right[place] / line[enters], basis[place], place)
+            for place, line in enumerate(table)
             if line[enters] > 0
         )
         pivot = table[leaves][enters]
-        table[leaves] = [number / pivot for number in table[leaves]]
+        pivot_line = [number / pivot for number in table[leaves]]
+        table[leaves] = pivot_line
         right[leaves] /= pivot
-        for at, line in enumerate(table):
-            if at != leaves and line[enters]:
-                factor = line[enters]
-                table[at] = [x - factor * y for x, y in zip(line, table[leaves])]
-                right[at] -= factor * right[leaves]
+        for place, line in enumerate(table):
+            factor = line[enters]
+            if place != leaves and factor:
+                table[place] = _subtract(line, pivot_line, factor)
+                right[place] -= factor * right[leaves]
         factor = goal[enters]
-        goal = [x - factor * y for x, y in zip(goal, table[leaves])]
+        goal = _subtract(goal, pivot_line, factor)
         value -= factor * right[leaves]
         basis[leaves] = enters
     return value
 
 
-def kinds_of(auction, won, prices):
+def _subtract(
+    line: Iterable[Fraction], other: Iterable[Fraction], factor: Fraction
+) -> list[Fraction]:
+    """A line without so many times the other one."""
+    return [x - factor * y for x, y in zip(line, other, strict=True)]
+
+
+def kinds_of(auction: Auction, won: Allocation, prices: Iterable[Number]) -> dict[str, bool]:
     """What an auction counts as in a table of how many of each kind were tried."""
     largest = max((Fraction(price).denominator for price in prices), default=1)
     return {
@@ -177,7 +223,7 @@ def kinds_of(auction, won, prices):
     }
 
 
-def permuted(auction, draw):
+def permuted(auction: Auction, draw: random.Random) -> tuple[Auction, list[int]]:
     """The auction with its bidders in another order, and the place of each before."""
     order = draw.sample(range(len(auction.forms)), len(auction.forms))
-    return auction._replace(forms=[auction.forms[at] for at in order]), order
+    return auction._replace(forms=[auction.forms[place] for place in order]), order

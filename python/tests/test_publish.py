@@ -1,316 +1,493 @@
-"""What is published of an auction: the page's own figures beside the report's, what certifies, and what is refused.
-
-In a browser, on a phone and on paper, no cell lies outside the page: Chromium without a window measures."""
-import csv
-import hashlib
+"""What is published of an auction: the page's own figures beside the report's, what certifies, and
+what is refused. (test_page.py has how the page looks.)
+"""
 import json
 import os
 import re
-import subprocess
-from html import escape, unescape
+from pathlib import Path
+from typing import Any, NamedTuple
 
 import pytest
-from commands import OFFICE, REPORTED, SCHEMA, read_text, run_program, run, limit_files, check_stopped, hide_library
+from commands import (
+    REPORTED,
+    SCHEMA,
+    check_stopped,
+    hide_library,
+    limit_files,
+    read_text,
+    run_program,
+)
+from results_folder import (
+    CERTIFICATES,
+    FILES,
+    SOLUTIONS,
+    TIE,
+    TIE_AUDIT,
+    TIE_REPORT,
+    TIED_AUDIT,
+    Page,
+    ResultsFolder,
+    compute_digest,
+    read_audit,
+    read_example,
+    strip_tags,
+)
 
 from wdp import files
-from wdp.publish.results import cell_text
+from wdp.publish.csv_files import format_cell
 
-FILES = ["bidders.csv", "categories.csv", "groups.csv", "pools.csv", "results.html", "results.json"]
-# One lot, and two bids of 10 for it: by which is first, Alpha's cost is 10 or 0.
-TEXTS = ("tie", "tie.report", "tie.audit", "tie.tied")
-TIE, TIE_REPORT, AUDIT, TIED = ((OFFICE / f"{name}.txt").read_text() for name in TEXTS)
-SOLUTIONS = "%solution\nX1_1 1\n%solution\nX2_1 1\n"
-CERTIFICATES = "%certificate\nbound 1 C1 10\n" * 2
-CELL = re.compile(r'<(t[hd])(?: scope="(\w+)")?[^>]*>(.*?)</t[hd]>', re.S)
+POOL, POOL_REPORT = read_example("worked_pool")
 POOL_TEXT = read_text("fixtures", "office", "results.txt")
-
-
-def plain(text):
-    return unescape(re.sub("<[^>]*>", "", text))
-
-
-class Page:
-    """The tables of a page by their ids, each a list of rows of (tag, scope, text), and the texts of what has an id."""
-
-    def __init__(self, text):
-        pieces = re.split(r'<[^>]* id="([^"]+)"[^>]*>', text)[1:]
-        assert len(pieces[::2]) == len(set(pieces[::2]))
-        self.texts, self.tables = dict(zip(pieces[::2], map(plain, pieces[1::2]))), {}
-        for name, table in re.findall(r'<table id="table-(\w+)">(.*?)</table>', text, re.S):
-            found = [CELL.findall(row) for row in table.split("<tr")[1:]]
-            self.tables[name] = [[(*kind, plain(cell)) for *kind, cell in row] for row in found]
-
-    def rows(self, table):
-        return [[text for _, _, text in row] for row in self.tables.get(table, ())]
-
-
-class Desk:
-    def __init__(self, folder):
-        self.folder, self.out = folder, folder / "out"
-
-    def write(self, name, text):
-        (self.folder / name).write_text(text)
-        return self.folder / name
-
-    def results(self, data, report, *words, audit=None, **how):
-        files = self.write("input.txt", data), self.write("report.txt", report)
-        output = [] if "--text" in words else ["--output", self.out]
-        output += [] if audit is None else ["--audit", self.write("given.txt", audit)]
-        return run("results", *files, *output, *words, **how)
-
-    def page(self, *given, **more):
-        seen = self.results(*given, **more)
-        assert seen.status == 0, seen.err
-        SCHEMA.validate(self.json())
-        return Page(self.text())
-
-    def audited(self, audit, *words):
-        return self.page(TIE, TIE_REPORT, *words, audit=audit)
-
-    def text(self):
-        return (self.out / "results.html").read_text()
-
-    def json(self):
-        return json.loads((self.out / "results.json").read_bytes())
-
-    def table(self, name):
-        return list(csv.DictReader((self.out / f"{name}.csv").read_text("utf-8-sig").splitlines()))
+POOL_OPTIONS = ["--text", "--currency", "GBP", "--title", "Award of low bands"]
 
 
 @pytest.fixture
-def desk(tmp_path):
-    return Desk(tmp_path)
+def folder(tmp_path: Path) -> ResultsFolder:
+    return ResultsFolder(tmp_path)
 
 
-def of_example(name):
-    return read_text("examples", f"{name}.txt"), read_text("examples", f"{name}.report.txt")
+class Published(NamedTuple):
+    """An example's input and report, and the folder and the page of its results."""
+
+    data: str
+    report: str
+    folder: ResultsFolder
+    page: Page
 
 
-def of_audit(name):
-    """The input at the end of an audit, the report, and the audit."""
-    audit = read_text("fixtures", "office", name)
-    verified = run_program(os.environ["WDP"], "verify", audit.encode()).decode()
-    return audit[audit.index("%rules") :], re.split("(?m)^(?:tie|prices)$", verified)[0], audit
+@pytest.fixture(scope="module", params=REPORTED)
+def published(
+    request: pytest.FixtureRequest, tmp_path_factory: pytest.TempPathFactory
+) -> Published:
+    data, report = read_example(request.param)
+    folder = ResultsFolder(tmp_path_factory.mktemp(request.param))
+    return Published(data, report, folder, folder.publish(data, report))
 
 
-POOL = of_example("worked_pool")
+def read_first_winners(report: str) -> dict[str, int]:
+    """The amounts of the winners of a report's first group, by their names."""
+    lines = re.findall(r"(?m)^(\w+) \d+ (\d+)$", report.split("group 2 ")[0])
+    return {name: int(amount) for name, amount in lines}
 
 
-def digest(text):
-    return hashlib.sha256(text.encode()).hexdigest()
-
-
-# Figures, and who reads them: columns of the page beside the keys of JSON.
-KEYS = {"bidders": ("amount reserve", [1, 3]), "groups": ("total cost", [2, 3])}
-KEYS["categories"] = "name supply sold unsold reserve value value_left", range(7)
-KEYS["pools"] = "name load cap left", range(4)
-
-
-@pytest.mark.parametrize("name", REPORTED)
-def test_each_form_says_what_the_report_says(desk, name):
-    """The page is compared with the report, and JSON and CSV with the page."""
-    data, report = of_example(name)
-    page, said = desk.page(data, report), desk.json()
-    assert (sorted(os.listdir(desk.out)), said["input_sha256"]) == (FILES, digest(data))
-    shown, costs = "", {}
-    for number, left_out, total, cost, winners in page.rows("groups")[1:]:
+def format_report(page: Page) -> str:
+    """The report of a page's groups, with the winners' names alone in one line."""
+    text = ""
+    for number, left_out, total, cost, winners in page.list_rows("groups")[1:]:
         names = left_out.replace(", ", "+").replace("nobody", "-")
-        won, costs[names] = winners.replace("nobody", ""), cost
-        shown += f"group {number} {names}\n{won}\ntotal {total}\ncost {cost}\n"
-    won = re.sub(r"(?m)^(\w+) \d+ (\d+)\n", r"\1, ", report)
-    won = re.sub(r"(?m)^((?:\w+, )*)total", lambda found: found[1][:-2] + "\ntotal", won)
-    assert re.sub(",(?! )", "", shown) == won
-    first = dict(re.findall(r"(?m)^(\w+) \d+ (\d+)$", report.split("group 2 ")[0]))
-    _, *bidders, sums = page.rows("bidders")
+        won = winners.replace("nobody", "")
+        text += f"group {number} {names}\n{won}\ntotal {total}\ncost {cost}\n"
+    return re.sub(",(?! )", "", text)
+
+
+def join_winners(report: str) -> str:
+    """A report, with the winners' names of each group alone in one line."""
+    text = re.sub(r"(?m)^(\w+) \d+ (\d+)\n", r"\1, ", report)
+    return re.sub(r"(?m)^((?:\w+, )*)total", lambda match: match[1][:-2] + "\ntotal", text)
+
+
+def test_the_folder_has_the_files(published: Published) -> None:
+    assert sorted(os.listdir(published.folder.out)) == FILES
+
+
+def test_the_input_is_known_by_its_digest(published: Published) -> None:
+    assert published.folder.read_figures()["input_sha256"] == compute_digest(published.data)
+
+
+def test_the_groups_of_the_page_are_those_of_the_report(published: Published) -> None:
+    assert format_report(published.page) == join_winners(published.report)
+
+
+def test_the_bidders_of_the_page_are_those_of_the_report(published: Published) -> None:
+    first = read_first_winners(published.report)
+    costs = dict(re.findall(r"(?m)^group \d+ (\w+)\n(?:.*\n)*?cost (\d+)", published.report))
+    _, *bidders, _ = published.page.list_rows("bidders")
     for bidder, amount, cost, *_ in bidders:
-        assert amount == f"{int(first.get(bidder, 0)):,}"
-        assert cost == costs.get(bidder, "not asked for")
-    assert sums[1] == f"{sum(map(int, first.values())):,}"
-    for table, (keys, columns) in KEYS.items():
-        of_json = [[str(row[key]) for key in keys.split()] for row in said[table]]
-        of_csv = [list(row.values()) for row in desk.table(table)]
-        of_page = [[row[at].replace(",", "") for at in columns] for row in page.rows(table)]
-        assert of_page[1 : 1 + len(of_json)] == of_json and len(of_csv) == len(of_json)
-        assert all(set(cells) <= set(row) for cells, row in zip(of_json, of_csv))
-    # the page without eyes, and alone
-    assert desk.text().count("<caption>") == len(page.tables)
-    for head, *lines in page.tables.values():
-        assert {(tag, scope) for tag, scope, _ in head} == {("th", "col")}
-        wanted = [("th", "row")] + [("td", "")] * (len(head) - 1)
-        assert all([(tag, scope) for tag, scope, _ in row] == wanted for row in lines)
-    loaded = r"https?:|url\(|@import|<script|<link| (?:src|href|action|data)="
-    assert not re.search(loaded, desk.text())
+        assert amount == f"{first.get(bidder, 0):,}"
+        assert cost == (f"{int(costs[bidder]):,}" if bidder in costs else "not asked for")
 
 
-def test_an_award_with_unsold_lots_and_a_pool(desk):
-    """One lot of A is sold to Alpha, that of B to Gamma; the other lot of A is worth 18 unsold; the pool is full."""
-    words = ["--text", "--currency", "GBP", "--title", "Award of low bands"]
-    assert desk.results(*POOL, *words) == (0, POOL_TEXT, "")
-    page = desk.page(*POOL)
+def test_the_amounts_of_the_page_add_up(published: Published) -> None:
+    amounts = read_first_winners(published.report).values()
+    assert published.page.list_rows("bidders")[-1][1] == f"{sum(amounts):,}"
+
+
+# of each table keys of the JSON, and the columns of the page that have the same figures
+COLUMNS: dict[str, tuple[list[str], list[int]]] = {
+    "bidders": (["amount", "reserve"], [1, 3]),
+    "groups": (["total", "cost"], [2, 3]),
+    "categories": (
+        ["name", "supply", "sold", "unsold", "reserve", "value", "value_left"],
+        [0, 1, 2, 3, 4, 5, 6],
+    ),
+    "pools": (["name", "load", "cap", "left"], [0, 1, 2, 3]),
+}
+
+
+def read_columns(published: Published, table: str) -> list[list[str]]:
+    """The figures of a table as the JSON has them."""
+    keys, _ = COLUMNS[table]
+    return [[str(row[key]) for key in keys] for row in published.folder.read_figures()[table]]
+
+
+@pytest.mark.parametrize("table", COLUMNS)
+def test_the_json_has_the_figures_of_the_page(published: Published, table: str) -> None:
+    _, columns = COLUMNS[table]
+    rows = read_columns(published, table)
+    shown = published.page.list_rows(table)[1 : 1 + len(rows)]
+    assert [[row[index].replace(",", "") for index in columns] for row in shown] == rows
+
+
+@pytest.mark.parametrize("table", COLUMNS)
+def test_the_csv_has_the_figures_of_the_json(published: Published, table: str) -> None:
+    lines = published.folder.read_csv(table)
+    for figures, line in zip(read_columns(published, table), lines, strict=True):
+        assert set(figures) <= set(line.values())
+
+
+def test_the_text_of_an_award_with_unsold_lots_and_a_pool(folder: ResultsFolder) -> None:
+    """One lot of A is sold to Alpha, that of B to Gamma; the other lot of A is worth 18 unsold; the
+    pool is full.
+    """
+    assert folder.run(POOL, POOL_REPORT, *POOL_OPTIONS) == (0, POOL_TEXT, "")
+
+
+def test_the_page_has_the_tables_of_the_text(folder: ResultsFolder) -> None:
+    page = folder.publish(POOL, POOL_REPORT)
+    names = ["bidders", "categories", "pools", "groups", "left_out"]
     texts = [block.splitlines() for block in POOL_TEXT.split("\n\n")[1:]]
-    for table, lines in zip(("bidders", "categories", "pools", "groups", "left_out"), texts):
-        shown = [" ".join(" ".join(row).split()) for row in page.rows(table)]
+    for name, lines in zip(names, texts, strict=True):
+        shown = [" ".join(" ".join(row).split()) for row in page.list_rows(name)]
         assert shown == [" ".join(line.replace(", GBP", "").split()) for line in lines]
-    bars = re.findall(r'class="(\w+)" x="(\d+)%" y="0" width="([\d.]+)%', desk.text())
-    wanted = "cost 0 66.67, full 0 40, cost 0 26.67, full 0 50, open 50 50, full 0 50"
-    assert ", ".join(" ".join(bar) for bar in bars if bar[2] != "100") == wanted
-    # the text needs no library, the page does
-    bare = hide_library("jinja2", desk.folder)
-    assert desk.results(*POOL, *words, **bare).out == POOL_TEXT
-    check_stopped(desk.results(*POOL, **bare), "python3-jinja2")
+
+
+def test_the_bars_of_the_page(folder: ResultsFolder) -> None:
+    page = folder.publish(POOL, POOL_REPORT)
+    bars = re.findall(r'class="(\w+)" x="(\d+)%" y="0" width="([\d.]+)%', page.html)
+    assert [bar for bar in bars if bar[2] != "100"] == [
+        ("cost", "0", "66.67"),
+        ("full", "0", "40"),
+        ("cost", "0", "26.67"),
+        ("full", "0", "50"),
+        ("open", "50", "50"),
+        ("full", "0", "50"),
+    ]
+
+
+def test_the_text_needs_no_library(folder: ResultsFolder) -> None:
+    bare = hide_library("jinja2", folder.folder)
+    assert folder.run(POOL, POOL_REPORT, *POOL_OPTIONS, **bare).out == POOL_TEXT
+
+
+def test_the_page_needs_a_library(folder: ResultsFolder) -> None:
+    bare = hide_library("jinja2", folder.folder)
+    check_stopped(folder.run(POOL, POOL_REPORT, **bare), "python3-jinja2")
 
 
 NO_TITLES = [b"\xff", b"a\nb", b"\x1b[2J", b"x" * 201, "\u202eevil".encode(), b""]
 
 
-def test_titles_currencies_and_names_are_text(desk):
-    for option in ("--title=", "--currency="):
-        for word in NO_TITLES:
-            seen = desk.results(*POOL, option + os.fsdecode(word))
-            check_stopped(seen, status=2)
-            assert "\x1b" not in seen.err and not desk.out.exists()
-    names = desk.write("names.csv", "code;name\r\nAlpha;Alpha <b>Mobile</b>, Ltd\r\nA;800 MHz\r\n")
-    words = ["--title", "3 < 4 & <b>more</b>", "--currency", "GBP", "--names", names]
-    page = desk.page(*POOL, *words)
-    parts = ["42 GBP", "18 GBP", "60 GBP", ">Amount, GBP</th>", "costs are in GBP."]
-    parts.append("<h1>3 &lt; 4 &amp; &lt;b&gt;more&lt;/b&gt;</h1>")
-    assert [part for part in parts if part not in desk.text()] == []
-    assert page.rows("bidders")[1][0] == "Alpha (Alpha <b>Mobile</b>, Ltd)"
-    assert page.rows("categories")[1][0] == "A (800 MHz)"
-    assert desk.table("bidders")[0]["name"] == "Alpha <b>Mobile</b>, Ltd"
-    assert [row["name"] for row in desk.table("categories")] == ["800 MHz", ""]
-    assert (desk.json()["currency"], desk.json()["names"]["A"]) == ("GBP", "800 MHz")
+@pytest.mark.parametrize("title", NO_TITLES)
+@pytest.mark.parametrize("option", ["--title", "--currency"])
+def test_what_is_no_title_and_no_currency(folder: ResultsFolder, option: str, title: bytes) -> None:
+    result = folder.run(POOL, POOL_REPORT, f"{option}={os.fsdecode(title)}")
+    check_stopped(result, status=2)
+    assert "\x1b" not in result.err
+    assert not folder.out.exists()
 
 
-def test_what_a_reader_may_take_for_more_than_a_text_is_quoted():
-    for cell in ("-", "%form", "a,b", 'a"b', "a\nb"):
-        assert cell_text(cell) == '"' + cell.replace('"', '""') + '"'
-    for cell, text in (("Alpha", "Alpha"), ("a=b", "a=b"), (-5, "-5"), (None, ""), ("", "")):
-        assert cell_text(cell) == text
+@pytest.fixture
+def named(folder: ResultsFolder) -> ResultsFolder:
+    """Results with a title, a currency and names, of which some look like HTML."""
+    rows = "code;name\r\nAlpha;Alpha <b>Mobile</b>, Ltd\r\nA;800 MHz\r\n"
+    names = folder.write("names.csv", rows)
+    options = ["--title", "3 < 4 & <b>more</b>", "--currency", "GBP", "--names", names]
+    folder.publish(POOL, POOL_REPORT, *options)
+    return folder
 
 
-def first_lines(desk):
-    """The first line that one reads of the page's text, and of each table."""
-    page = re.sub("<[^>]*>", "", desk.text().partition("</h1>")[2]).strip().splitlines()[0]
-    return [page, *((desk.out / name).read_text("utf-8-sig").splitlines()[0] for name in FILES[:4])]
+def test_a_title_is_a_text(named: ResultsFolder) -> None:
+    assert "<h1>3 &lt; 4 &amp; &lt;b&gt;more&lt;/b&gt;</h1>" in named.read_page().html
 
 
-def test_nothing_but_an_audit_certifies(desk, wdp):
-    desk.page(TIE, TIE_REPORT)
-    first, *heads = first_lines(desk)
-    assert first.startswith("Not certified: ")
-    assert all(" (results not certified)," in head for head in heads)
-    said = desk.json()
-    assert (said["certified"], said["audit"], said["proof"]) == (False, None, "none")
-    page = desk.audited(AUDIT)
-    first, *heads = first_lines(desk)
-    assert first.startswith("Certified: each of the 2 totals") and "not certified" not in str(heads)
-    tail = f"tail -c {len(TIE)} audit.txt | sha256sum"
-    for part in (digest(AUDIT), digest(TIE), digest(TIE_REPORT), tail, desk.json()["wdp"]):
-        assert part in page.texts["audit"]
-    assert (desk.out / "audit.txt").read_text() == AUDIT
-    assert run_program(wdp, "--version", b"").decode().strip() == desk.json()["wdp"]
+@pytest.mark.parametrize(
+    "part", ["42 GBP", "18 GBP", "60 GBP", ">Amount, GBP</th>", "costs are in GBP."]
+)
+def test_the_page_has_the_currency(named: ResultsFolder, part: str) -> None:
+    assert part in named.read_page().html
 
 
-def test_that_nobody_else_wins_is_shown(desk):
-    data = TIE.replace("Alpha,A\n10,1", "Alpha,A\n11,1")
-    report = TIE_REPORT.replace("Alpha 1 10\ntotal 10", "Alpha 1 11\ntotal 11")
-    # if Beta's part is no smaller than Alpha's, halves of both are the most, 21 halves
-    parts = SOLUTIONS + CERTIFICATES.replace("10", "11", 1) + "%unique\nbound 2 1 C1 21\n"
-    page = desk.page(data, report, audit=parts + data)
+def test_the_page_has_the_names(named: ResultsFolder) -> None:
+    page = named.read_page()
+    assert page.list_rows("bidders")[1][0] == "Alpha (Alpha <b>Mobile</b>, Ltd)"
+    assert page.list_rows("categories")[1][0] == "A (800 MHz)"
+
+
+def test_the_csv_has_the_names(named: ResultsFolder) -> None:
+    assert named.read_csv("bidders")[0]["name"] == "Alpha <b>Mobile</b>, Ltd"
+    assert [row["name"] for row in named.read_csv("categories")] == ["800 MHz", ""]
+
+
+def test_the_json_has_currency_and_names(named: ResultsFolder) -> None:
+    figures = named.read_figures()
+    assert figures["currency"] == "GBP"
+    assert figures["names"]["A"] == "800 MHz"
+
+
+@pytest.mark.parametrize("cell", ["-", "%form", "a,b", 'a"b', "a\nb"])
+def test_what_a_reader_may_take_for_more_than_a_text_is_quoted(cell: str) -> None:
+    assert format_cell(cell) == '"' + cell.replace('"', '""') + '"'
+
+
+@pytest.mark.parametrize(
+    "cell, text", [("Alpha", "Alpha"), ("a=b", "a=b"), (-5, "-5"), (None, ""), ("", "")]
+)
+def test_other_cells_are_written_as_they_are(cell: str | int | None, text: str) -> None:
+    assert format_cell(cell) == text
+
+
+FORMULAS = ["=1+1", "+44 20", "-5", "@SUM(A1)", "\t=1", "\r=1", "＝1+1", "＋1", "－1", "＠x"]
+
+
+@pytest.mark.parametrize("name", FORMULAS)
+def test_a_cell_that_begins_as_a_formula_gets_an_apostrophe(name: str) -> None:
+    """Spreadsheets take it for the beginning of a text."""
+    assert format_cell(name) == (f'"\'{name}"' if "\r" in name else f"'{name}")
+
+
+@pytest.mark.parametrize("name", ["Astér", "A-1", "1+1", "a=b"])
+def test_a_cell_that_begins_as_no_formula_gets_none(name: str) -> None:
+    assert format_cell(name) == name
+
+
+@pytest.fixture
+def formulas(folder: ResultsFolder) -> ResultsFolder:
+    """Results with names of which one is a formula."""
+    names = folder.write("names.csv", "Alpha,=1+1\nBeta,Astér\nGamma,'tis\n")
+    folder.publish(POOL, POOL_REPORT, "--names", names)
+    return folder
+
+
+def test_each_table_has_a_byte_order_mark(formulas: ResultsFolder) -> None:
+    """Spreadsheets know UTF-8 by it."""
+    paths = list(formulas.out.glob("*.csv"))
+    assert len(paths) == 4
+    for path in paths:
+        assert path.read_bytes().startswith("\ufeff".encode()), path
+
+
+def test_a_name_that_is_a_formula_is_a_text_in_a_table(formulas: ResultsFolder) -> None:
+    assert [row["name"] for row in formulas.read_csv("bidders")] == ["'=1+1", "Astér", "'tis"]
+
+
+def test_a_name_that_is_a_formula_stays_elsewhere(formulas: ResultsFolder) -> None:
+    assert "Alpha (=1+1)" in formulas.read_page().html
+    assert formulas.read_figures()["names"]["Alpha"] == "=1+1"
+
+
+def read_first_line(page: Page) -> str:
+    """The first line that one reads of a page's text."""
+    return strip_tags(page.html.partition("</h1>")[2]).strip().splitlines()[0]
+
+
+def test_nothing_is_certified_without_an_audit(folder: ResultsFolder) -> None:
+    page = folder.publish(TIE, TIE_REPORT)
+    figures = folder.read_figures()
+    assert read_first_line(page).startswith("Not certified: ")
+    assert figures["certified"] is False
+    assert figures["audit"] is None
+    assert figures["proof"] == "none"
+
+
+def test_tables_say_that_they_are_not_certified(folder: ResultsFolder) -> None:
+    folder.publish(TIE, TIE_REPORT)
+    for line in folder.read_first_lines():
+        assert " (results not certified)," in line
+
+
+def test_an_audit_certifies(folder: ResultsFolder) -> None:
+    page = folder.publish_tie(TIE_AUDIT)
+    assert read_first_line(page).startswith("Certified: each of the 2 totals")
+    assert "not certified" not in str(folder.read_first_lines())
+
+
+def test_the_page_says_how_the_audit_is_repeated(folder: ResultsFolder) -> None:
+    text = folder.publish_tie(TIE_AUDIT).texts["audit"]
+    assert f"tail -c {len(TIE)} audit.txt | sha256sum" in text
+    assert compute_digest(TIE_AUDIT) in text
+    assert compute_digest(TIE) in text
+    assert compute_digest(TIE_REPORT) in text
+
+
+def test_the_page_names_the_program(folder: ResultsFolder, wdp: str) -> None:
+    version = run_program(wdp, "--version", b"").decode().strip()
+    page = folder.publish_tie(TIE_AUDIT)
+    assert version in page.texts["audit"]
+    assert folder.read_figures()["wdp"] == version
+
+
+def test_the_audit_is_published(folder: ResultsFolder) -> None:
+    folder.publish_tie(TIE_AUDIT)
+    assert (folder.out / "audit.txt").read_text() == TIE_AUDIT
+
+
+# Alpha offers 11 and Beta 10: if Beta's part is no smaller than Alpha's, halves of both are the
+# most, 21 halves
+ONLY = TIE.replace("Alpha,A\n10,1", "Alpha,A\n11,1")
+ONLY_REPORT = TIE_REPORT.replace("Alpha 1 10\ntotal 10", "Alpha 1 11\ntotal 11")
+ONLY_CERTIFICATES = CERTIFICATES.replace("10", "11", 1) + "%unique\nbound 2 1 C1 21\n"
+ONLY_AUDIT = SOLUTIONS + ONLY_CERTIFICATES + ONLY
+
+
+def test_that_nobody_else_wins_is_shown(folder: ResultsFolder) -> None:
+    page = folder.publish(ONLY, ONLY_REPORT, audit=ONLY_AUDIT)
+    figures = folder.read_figures()
     assert page.texts["proof"].startswith("Proved: these are the only winners.")
-    assert (desk.json()["proof"], len(desk.json()["awards"])) == ("all", 1)
-    seen = desk.results(data, report, "--drawn", 2, audit=parts + data)
-    check_stopped(seen, "shows no tie, so that nothing was drawn", status=2)
+    assert figures["proof"] == "all"
+    assert len(figures["awards"]) == 1
+
+
+def test_no_award_is_drawn_if_nobody_else_wins(folder: ResultsFolder) -> None:
+    result = folder.run(ONLY, ONLY_REPORT, "--drawn", 2, audit=ONLY_AUDIT)
+    check_stopped(result, "shows no tie, so that nothing was drawn", status=2)
 
 
 HEADINGS = ["Award", "Bidders who don't win the same", "Opportunity costs"]
 WON = "10 for 1 of A (bid 1)"
-IN_TIE = [
-    ["1 (this page)", f"Alpha: {WON}; Beta: nothing", "Alpha: 10"],
-    ["2", f"Alpha: nothing; Beta: {WON}", "Alpha: 0"],
-]
+ALPHA_WINS = [f"Alpha: {WON}; Beta: nothing", "Alpha: 10"]
+BETA_WINS = [f"Alpha: nothing; Beta: {WON}", "Alpha: 0"]
 AT_LEAST = "Proved: at least these 2 awards reach the same total, and none reaches more."
 ALL = "Proved: these 2 awards, and no other, reach the greatest total. The audit shows it."
-# If Alpha wins nothing, Beta's point is excluded, so that nobody wins; if it wins, its point is, and Beta wins, too, as it can't.
+# If Alpha wins nothing, Beta's point is excluded, so that nobody wins; if it wins, its point is,
+# and Beta wins, too, as it can't.
 UNIQUE = "%unique\nsplit 0 X1_1 1\nbound 1 0 10 20\nbound 0 1 0 2 C1 1\n"
+WITHOUT_OTHERS = TIED_AUDIT.replace("%rules", f"{UNIQUE}%rules")
+TIE_OF_BETA = "tie\nBeta 1 10\ntotal 10\n"
 
 
-def test_the_awards_of_a_tie_that_may_be_wider(desk):
-    page, said = desk.audited(TIED), desk.json()
-    assert page.rows("ties") == [HEADINGS, *IN_TIE]
+def list_first_winners(figures: Any) -> list[str]:
+    """The first winner of each award."""
+    return [award["winners"][0]["name"] for award in figures["awards"]]
+
+
+def test_the_page_lists_the_awards_of_a_tie(folder: ResultsFolder) -> None:
+    page = folder.publish_tie(TIED_AUDIT)
+    rows = [HEADINGS, ["1 (this page)", *ALPHA_WINS], ["2", *BETA_WINS]]
+    assert page.list_rows("ties") == rows
+
+
+def test_the_json_lists_the_awards_of_a_tie(folder: ResultsFolder) -> None:
+    folder.publish_tie(TIED_AUDIT)
+    figures = folder.read_figures()
+    assert figures["award"] == 1
+    assert figures["drawn"] is None
+    assert [award["costs"] for award in figures["awards"]] == [[0, 10], [0, 0]]
+    assert list_first_winners(figures) == ["Alpha", "Beta"]
+
+
+def test_a_tie_may_be_wider(folder: ResultsFolder) -> None:
+    page = folder.publish_tie(TIED_AUDIT)
     assert page.texts["proof"].startswith(AT_LEAST)
     assert "don't draw from these alone" in page.texts["proof"]
-    assert (said["proof"], said["award"], said["drawn"]) == ("some", 1, None)
-    assert [award["costs"] for award in said["awards"]] == [[0, 10], [0, 0]]
-    assert [award["winners"][0]["name"] for award in said["awards"]] == ["Alpha", "Beta"]
-    assert digest(TIE_REPORT + "tie\nBeta 1 10\ntotal 10\n") in page.texts["audit"]
+    assert folder.read_figures()["proof"] == "some"
+    assert compute_digest(TIE_REPORT + TIE_OF_BETA) in page.texts["audit"]
 
 
-def test_the_awards_of_a_tie_that_are_all(desk):
-    page = desk.audited(TIED.replace("%rules", f"{UNIQUE}%rules"))
+def test_a_tie_of_no_others(folder: ResultsFolder) -> None:
+    page = folder.publish_tie(WITHOUT_OTHERS)
     assert page.texts["proof"].startswith(ALL)
-    assert desk.json()["proof"] == "all"
-    assert digest(TIE_REPORT + "tie\nBeta 1 10\ntotal 10\nno other\n") in page.texts["audit"]
+    assert folder.read_figures()["proof"] == "all"
+    assert compute_digest(TIE_REPORT + TIE_OF_BETA + "no other\n") in page.texts["audit"]
 
 
 DRAWN_REPORT = TIE_REPORT.replace("Alpha 1 10", "Beta 1 10").replace("cost 10", "cost 0")
-DRAWN = "%solution\n# award 2\nX2_1 1\n%solution\nX2_1 1\n" + CERTIFICATES
-DRAWN += f"%tie\n# award 1\nX1_1 1\n{TIE}"
+DRAWN_SOLUTIONS = "%solution\n# award 2\nX2_1 1\n%solution\nX2_1 1\n"
+DRAWN_AUDIT = f"{DRAWN_SOLUTIONS}{CERTIFICATES}%tie\n# award 1\nX1_1 1\n{TIE}"
 
 
-def test_the_award_that_was_drawn(desk):
-    page, said = desk.audited(TIED, "--drawn", "2", "--currency", "GBP"), desk.json()
-    (_, *first), (_, *second) = IN_TIE
-    assert page.rows("ties")[1:] == [["1", *first], ["2 (this page)", *second]]
+@pytest.fixture
+def drawn(folder: ResultsFolder) -> ResultsFolder:
+    """Results of award 2 of the tie, which was drawn."""
+    folder.publish_tie(TIED_AUDIT, "--drawn", "2", "--currency", "GBP")
+    return folder
+
+
+def test_the_page_says_which_award_was_drawn(drawn: ResultsFolder) -> None:
+    page = drawn.read_page()
+    assert page.list_rows("ties")[1:] == [["1", *ALPHA_WINS], ["2 (this page)", *BETA_WINS]]
     assert "this page shows award 2, which was drawn" in page.texts["proof"]
-    alpha, beta = page.rows("bidders")[1:3]
-    assert (alpha[1:3], beta[1:3]) == (["0", "0"], ["10", "not asked for"])
-    groups = [["1", "nobody", "10", "0", "Beta"], ["2", "Alpha", "10", "0", "Beta"]]
-    assert page.rows("groups")[1:] == groups
-    assert (said["certified"], said["award"], said["drawn"]) == (True, 2, 2)
-    assert (desk.out / "audit.txt").read_text() == DRAWN
-    assert said["report_sha256"] == digest(DRAWN_REPORT)
-    assert said["audit"]["report_sha256"] == digest(DRAWN_REPORT + "tie\nAlpha 1 10\ntotal 10\n")
 
 
-# the report that is given, the audit, the words, and the award that is published
+def test_the_page_has_the_figures_of_the_award_that_was_drawn(drawn: ResultsFolder) -> None:
+    page = drawn.read_page()
+    alpha, beta = page.list_rows("bidders")[1:3]
+    assert alpha[1:3] == ["0", "0"]
+    assert beta[1:3] == ["10", "not asked for"]
+    assert page.list_rows("groups")[1:] == [
+        ["1", "nobody", "10", "0", "Beta"],
+        ["2", "Alpha", "10", "0", "Beta"],
+    ]
+
+
+def test_the_json_has_the_award_that_was_drawn(drawn: ResultsFolder) -> None:
+    figures = drawn.read_figures()
+    assert figures["certified"] is True
+    assert figures["award"] == 2
+    assert figures["drawn"] == 2
+    assert figures["report_sha256"] == compute_digest(DRAWN_REPORT)
+    printed = f"{DRAWN_REPORT}tie\nAlpha 1 10\ntotal 10\n"
+    assert figures["audit"]["report_sha256"] == compute_digest(printed)
+
+
+def test_the_award_that_was_drawn_is_the_first_of_the_audit(drawn: ResultsFolder) -> None:
+    assert (drawn.out / "audit.txt").read_text() == DRAWN_AUDIT
+
+
+# the report that is given, the audit, which award was drawn, and the one that is published
 NUMBERED = [
-    (TIE_REPORT, TIED, ["--drawn", "1"], 1),
-    (TIE_REPORT, DRAWN, ["--drawn", "1"], 1),
-    (TIE_REPORT, DRAWN, ["--drawn", "2"], 2),
-    (DRAWN_REPORT, DRAWN, ["--drawn", "2"], 2),
-    (DRAWN_REPORT, DRAWN, [], 2),
+    (TIE_REPORT, TIED_AUDIT, 1, 1),
+    (TIE_REPORT, DRAWN_AUDIT, 1, 1),
+    (TIE_REPORT, DRAWN_AUDIT, 2, 2),
+    (DRAWN_REPORT, DRAWN_AUDIT, 2, 2),
+    (DRAWN_REPORT, DRAWN_AUDIT, None, 2),
 ]
 
 
-@pytest.mark.parametrize("report, audit, words, number", NUMBERED)
-def test_an_award_keeps_its_number(desk, report, audit, words, number):
+@pytest.mark.parametrize("report, audit, drawn_number, number", NUMBERED)
+def test_an_award_keeps_its_number(
+    folder: ResultsFolder, report: str, audit: str, drawn_number: int | None, number: int
+) -> None:
     """Whichever award is the first of the audit."""
-    desk.page(TIE, report, *words, audit=audit)
-    said = desk.json()
-    assert (said["award"], said["drawn"]) == (number, number if words else None)
-    assert [award["winners"][0]["name"] for award in said["awards"]] == ["Alpha", "Beta"]
-    assert (desk.out / "audit.txt").read_text() == (TIED if number == 1 else DRAWN)
+    options = [] if drawn_number is None else ["--drawn", drawn_number]
+    folder.publish(TIE, report, *options, audit=audit)
+    figures = folder.read_figures()
+    assert figures["award"] == number
+    assert figures["drawn"] == drawn_number
+    assert list_first_winners(figures) == ["Alpha", "Beta"]
+    wanted = TIED_AUDIT if number == 1 else DRAWN_AUDIT
+    assert (folder.out / "audit.txt").read_text() == wanted
 
 
-# Alpha offers as much for one lot as for two
-WIDER = TIE.replace("category,A,1,", "category,A,2,").replace("Alpha,A\n10,1", "Alpha,A\n10,1\n10,2")
-WIDER = WIDER.replace("Beta,A\n10,1\n", "Beta,A\n").replace("-\nAlpha\n", "-\n")
+# Alpha offers as much for one lot as for two, and Beta nothing
+WIDER = (
+    TIE.replace("category,A,1,", "category,A,2,")
+    .replace("Alpha,A\n10,1", "Alpha,A\n10,1\n10,2")
+    .replace("Beta,A\n10,1\n", "Beta,A\n")
+    .replace("-\nAlpha\n", "-\n")
+)
 WIDER_AUDIT = "%solution\nX1_1 1\n%certificate\nbound 1 B1 10\n%unique\nbound 1 10\n" + WIDER
 WIDER_REPORT = "group 1 -\nAlpha 1 10\ntotal 10\ncost 0\n"
 
 
-def test_an_award_with_a_bid_in_no_program(desk):
-    page = desk.page(WIDER, WIDER_REPORT, audit=WIDER_AUDIT)
-    rows = [
+def test_an_award_with_a_bid_in_no_program(folder: ResultsFolder) -> None:
+    page = folder.publish(WIDER, WIDER_REPORT, audit=WIDER_AUDIT)
+    figures = folder.read_figures()
+    assert page.list_rows("ties")[1:] == [
         ["1 (this page)", "Alpha: 10 for 1 of A (bid 1)", "the same"],
         ["2 (has a bid in no program)", "Alpha: 10 for 2 of A (bid 2)", "the same"],
     ]
-    assert page.rows("ties")[1:] == rows
-    said = desk.json()
-    assert [award["can_be_first"] for award in said["awards"]] == [True, False]
-    assert said["proof"] == "all"
+    assert [award["can_be_first"] for award in figures["awards"]] == [True, False]
+    assert figures["proof"] == "all"
 
 
 # which award was drawn, and why it isn't published
@@ -322,135 +499,90 @@ REFUSED = [
 ]
 
 
-@pytest.mark.parametrize("drawn, why, status", REFUSED)
-def test_an_award_that_cannot_be_drawn(desk, drawn, why, status):
-    seen = desk.results(WIDER, WIDER_REPORT, "--drawn", drawn, audit=WIDER_AUDIT)
-    check_stopped(seen, why, status=status)
+@pytest.mark.parametrize("number, why, status", REFUSED)
+def test_an_award_that_cannot_be_drawn(
+    folder: ResultsFolder, number: str, why: str, status: int
+) -> None:
+    result = folder.run(WIDER, WIDER_REPORT, "--drawn", number, audit=WIDER_AUDIT)
+    check_stopped(result, why, status=status)
 
 
-def test_winners_who_do_not_change_are_left_out(desk):
+def test_an_award_is_drawn_with_an_audit(folder: ResultsFolder) -> None:
+    result = folder.run(TIE, TIE_REPORT, "--drawn", 2)
+    check_stopped(result, "--drawn needs --audit, which has the award that was drawn", status=2)
+
+
+def test_winners_who_do_not_change_are_left_out(folder: ResultsFolder) -> None:
     """Gamma wins the lot of B in each award, and its cost stays."""
-    data, report, audit = of_audit("three.txt")
-    page = desk.page(data, report, audit=audit)
-    assert page.rows("ties")[1:] == [
-        ["1 (this page)", "Alpha: 10 for 1 of A (bid 1); Beta: nothing", "Alpha: 10"],
-        ["2", "Alpha: nothing; Beta: 10 for 1 of A (bid 1)", "Alpha: 0"],
-    ]
+    data, report, audit = read_audit("three.txt")
+    page = folder.publish(data, report, audit=audit)
+    rows = [["1 (this page)", *ALPHA_WINS], ["2", *BETA_WINS]]
+    assert page.list_rows("ties")[1:] == rows
 
 
-def test_a_full_disk(desk):
-    small = limit_files(1_000)
-    check_stopped(desk.results(TIE, TIE_REPORT, **small), "File too large")
-    assert sorted(os.listdir(desk.folder)) == ["input.txt", "report.txt"]
-    desk.audited(AUDIT)
-    desk.page(TIE, TIE_REPORT)
-    before = {name: (desk.out / name).read_bytes() for name in FILES}
-    check_stopped(desk.results(TIE, TIE_REPORT, "--title", "Other", **small), "File too large")
-    assert {name: (desk.out / name).read_bytes() for name in os.listdir(desk.out)} == before
+def test_a_full_disk_leaves_no_folder(folder: ResultsFolder) -> None:
+    check_stopped(folder.run(TIE, TIE_REPORT, **limit_files(1_000)), "File too large")
+    assert sorted(os.listdir(folder.folder)) == ["input.txt", "report.txt"]
 
 
-def test_the_schema_takes_each_field_of_its_kind_and_no_others():
+def test_a_full_disk_leaves_an_older_folder(folder: ResultsFolder) -> None:
+    folder.publish_tie(TIE_AUDIT)
+    folder.publish(TIE, TIE_REPORT)
+    before = {name: (folder.out / name).read_bytes() for name in FILES}
+    result = folder.run(TIE, TIE_REPORT, "--title", "Other", **limit_files(1_000))
+    check_stopped(result, "File too large")
+    names = os.listdir(folder.out)
+    assert {name: (folder.out / name).read_bytes() for name in names} == before
+
+
+def list_objects(text: str) -> list[dict[str, Any]]:
+    """The objects in a text of JSON, with those within others."""
+    objects: list[dict[str, Any]] = []
+
+    def keep(each: dict[str, Any]) -> dict[str, Any]:
+        objects.append(each)
+        return each
+
+    json.loads(text, object_hook=keep)
+    return objects
+
+
+def test_the_schema_is_one() -> None:
     SCHEMA.check_schema(SCHEMA.schema)
-    text, objects = read_text("docs", "results.schema.json"), []
-    json.loads(text, object_hook=lambda each: objects.append(each) or each)
-    listed = [each for each in objects if "properties" in each]
-    # (numbers are whole ones)
-    assert len(listed) == 10 and '"type": "number"' not in text
-    for each in listed:
-        fields = each["properties"]
-        assert (each["required"], each["additionalProperties"]) == (list(fields), False)
-        assert all({"$ref", "anyOf", "enum", "type"} & set(it) for it in fields.values()), each
 
 
-def test_a_folder_that_cannot_be_replaced_stays(tmp_path, monkeypatch):
-    files.write_folder(str(tmp_path / "it"), {"a": b"older"})
-    rename, left = os.rename, [None, OSError(28, "No space left on device"), None]
+def test_the_schema_takes_each_field_of_its_kind_and_no_others() -> None:
+    text = read_text("docs", "results.schema.json")
+    records = [each for each in list_objects(text) if "properties" in each]
+    assert len(records) == 10
+    for record in records:
+        fields = record["properties"]
+        assert record["required"] == list(fields)
+        assert record["additionalProperties"] is False
+        for value in fields.values():
+            assert {"$ref", "anyOf", "enum", "type"} & set(value), record
 
-    def failing(*paths):
-        if error := left.pop(0):
+
+def test_numbers_of_the_schema_are_whole() -> None:
+    assert '"type": "number"' not in read_text("docs", "results.schema.json")
+
+
+def test_a_folder_that_cannot_be_replaced_stays(
+    tmp_path: Path, monkeypatch: pytest.MonkeyPatch
+) -> None:
+    path = tmp_path / "results"
+    files.write_folder(str(path), {"a": b"older"})
+    rename = os.rename
+    errors = [None, OSError(28, "No space left on device"), None]
+
+    def fail_once(before: str, after: str) -> None:
+        if error := errors.pop(0):
             raise error
-        rename(*paths)
+        rename(before, after)
 
-    monkeypatch.setattr(files.os, "rename", failing)
+    monkeypatch.setattr("os.rename", fail_once)
     with pytest.raises(files.Unreadable, match="No space left on device"):
-        files.write_folder(str(tmp_path / "it"), {"a": b"newer"})
-    assert [path.read_bytes() for path in tmp_path.rglob("*") if path.is_file()] == [b"older"]
-    assert os.listdir(tmp_path) == ["it"]
-
-
-FORMULAS = ["=1+1", "+44 20", "-5", "@SUM(A1)", "\t=1", "\r=1", "＝1+1", "＋1", "－1", "＠x"]
-
-
-def test_spreadsheets_take_names_for_texts_in_utf_8(desk):
-    """A cell that begins as a formula gets an apostrophe, which spreadsheets take for the beginning of a text, and each table a
-    byte order mark."""
-    for name in FORMULAS:
-        assert cell_text(name) == (f'"\'{name}"' if "\r" in name else f"'{name}")
-    for name in ("Astér", "A-1", "1+1", "a=b"):
-        assert cell_text(name) == name
-    names = desk.write("names.csv", "Alpha,=1+1\nBeta,Astér\nGamma,'tis\n")
-    desk.page(*POOL, "--names", names)
-    for path in desk.out.glob("*.csv"):
-        assert path.read_bytes().startswith("\ufeff".encode()), path
-    assert [row["name"] for row in desk.table("bidders")] == ["'=1+1", "Astér", "'tis"]
-    assert "Alpha (=1+1)" in desk.text() and desk.json()["names"]["Alpha"] == "=1+1"
-
-
-def test_sums_are_at_the_end_of_a_printed_table_alone(desk):
-    """(Browsers repeat what they take for a table's foot on each sheet of paper.)"""
-    desk.page(*POOL)
-    printed = desk.text().partition("@media print {")[2].partition("</style>")[0]
-    assert "tfoot { display: table-row-group; }" in printed
-
-
-# widths in CSS pixels; of paper what a page shows of 1/96 inch: A4 upright is 210 mm, less margins of 12 mm
-KINDS = {"phone": 360, "tablet": 760, "screen": 1280, "paper": round((210 - 24) / 25.4 * 96)}
-FRAMED = ["twelve_bands", "spectrum_cap", "unsold_values", "tie", "long"]
-MEASURE = f"<script>{read_text('fixtures', 'office', 'measure.js')}</script></body>"
-FRAME = '<pre id="{0}"></pre><iframe name="{0}" width="{1}" srcdoc="{2}"></iframe>'
-WORDS = "--headless --no-sandbox --disable-gpu --disable-dev-shm-usage --hide-scrollbars --dump-dom"
-
-
-def measured(pages, folder):
-    """What a browser finds of each page in a frame of its width: that width, how many cells there are, and what lies outside."""
-    text = "<!DOCTYPE html><meta charset=utf-8>"
-    for name, page in pages.items():
-        page = re.sub("<meta http-equiv=.*?>", "", page).replace("</body>", MEASURE)
-        text += FRAME.format(name, KINDS[name.split()[1]], escape(page))
-    (folder / "measured.html").write_text(text)
-    browser = ["chromium", *WORDS.split(), f"--user-data-dir={folder}/profile"]
-    # (a browser that doesn't begin on a busy machine is begun anew)
-    for _ in range(5):
-        words = [*browser, f"file://{folder}/measured.html"]
-        seen = subprocess.run(words, capture_output=True, text=True)
-        found = dict(re.findall('<pre id="(.*?)">(.+?)</pre>', seen.stdout, re.DOTALL))
-        if set(found) == set(pages):
-            return {name: json.loads(unescape(text)) for name, text in found.items()}
-    raise AssertionError(seen.stdout[-300:] + seen.stderr[-300:])
-
-
-@pytest.fixture(scope="module")
-def found(tmp_path_factory):
-    """What the browser finds of each page in each width; on paper by the rules for paper in the place of those for screens."""
-    # the widest that the format has: 32 categories, names of 16 letters, amounts of 13 digits; and each bidder pays the value of
-    # its lots, so that every group binds
-    audited = {"tie": (TIE, TIE_REPORT, TIED), "long": of_audit("long.txt")}
-    framed, long_name = {}, f"Bidder{0:010},{'Incorporated' * 8}\n"
-    for name in FRAMED:
-        desk, words = Desk(tmp_path_factory.mktemp(name)), ["--currency", "GBP"]
-        words += ["--names", desk.write("names.csv", long_name)] if name == "long" else []
-        data, report, audit = audited.get(name) or (*of_example(name), None)
-        desk.page(data, report, *words, audit=audit)
-        framed.update((f"{name} {kind}", desk.text()) for kind in KINDS)
-        printed = desk.text().replace("@media print {", "@media all {")
-        framed[f"{name} paper"] = printed.replace("@media screen and", "@media (width: 0) and")
-    spoilt = framed["tie screen"].replace("</style>", "td { min-width: 90em; }</style>")
-    return measured({**framed, "spoilt screen": spoilt}, tmp_path_factory.mktemp("measured"))
-
-
-@pytest.mark.parametrize("name", FRAMED)
-def test_nothing_lies_outside(found, name):
-    for kind in KINDS:
-        width, cells, outside = found[f"{name} {kind}"]
-        assert (width, cells > 10, outside) == (KINDS[kind], True, [])
-    assert found["spoilt screen"][2] != []
+        files.write_folder(str(path), {"a": b"newer"})
+    left = [each.read_bytes() for each in tmp_path.rglob("*") if each.is_file()]
+    assert left == [b"older"]
+    assert os.listdir(tmp_path) == ["results"]

@@ -1,20 +1,56 @@
-"""The proved winner determination compiler `wdp` for bidders' advisers: auctions from files, records or data frames.
+"""The proved winner determination compiler `wdp` for bidders' advisers: auctions from files,
+records or data frames.
 
-The package starts the program, and reads its answers as docs/REFERENCE.md has them. It proves nothing itself.
-Amounts, totals and costs are whole pounds. docs/PYTHON.md leads through an adviser's day, and `wdp.example` has an auction.
-The command wdp-office has an auction's office round it.
+The package starts the program, and reads its answers as docs/REFERENCE.md has them. It proves
+nothing itself. Amounts, totals and costs are whole pounds. docs/PYTHON.md leads through an
+adviser's day, and `wdp.example` has an auction. The command wdp-office has an auction's office
+round it.
 """
 from wdp.api import Auction
 from wdp.office.judge import Explained, Finding
-from wdp.results import Allocation, Certified, Counts, Group, Matrix, Prices, Program, Report
-from wdp.results import Solutions, Winner
+from wdp.outcome import Outcome
+from wdp.results import (
+    Allocation,
+    Counts,
+    Group,
+    Matrix,
+    Prices,
+    Program,
+    Report,
+    Solutions,
+    Winner,
+)
+from wdp.texts.records import Forms, Groups, Rules, Solution, Text
 from wdp.texts.refusals import Missing, NotFound, NotSolved, Refused, Unclear, WrongArgument
 from wdp.version import VERSION
 
 __version__ = VERSION
-__all__ = ["Allocation", "Auction", "Certified", "Counts", "Explained", "Finding", "Group"]
-__all__ += ["Matrix", "Missing", "NotFound", "NotSolved", "Prices", "Program", "Refused"]
-__all__ += ["Report", "Solutions", "Unclear", "Winner", "WrongArgument"]
+__all__ = [
+    "Allocation",
+    "Auction",
+    "Counts",
+    "Explained",
+    "Finding",
+    "Forms",
+    "Group",
+    "Groups",
+    "Matrix",
+    "Missing",
+    "NotFound",
+    "NotSolved",
+    "Outcome",
+    "Prices",
+    "Program",
+    "Refused",
+    "Report",
+    "Rules",
+    "Solution",
+    "Solutions",
+    "Text",
+    "Unclear",
+    "Winner",
+    "WrongArgument",
+]
 # (a traceback names them as they are imported)
 for _refusal in (Missing, NotFound, NotSolved, Refused, Unclear, WrongArgument):
     _refusal.__module__ = __name__

@@ -2,58 +2,85 @@
 from __future__ import annotations
 
 import os
-from collections.abc import Callable, Iterable
+from collections.abc import Iterable, Sequence
 from dataclasses import dataclass, replace
-from functools import partial
+from itertools import chain
 from numbers import Real
-from typing import Any
+from typing import TypeVar
 
-from wdp import certify, files, solve
-from wdp import prices as pricing
+from wdp import audits, certify, files, solve
+from wdp.folder import INPUT
+from wdp.office.faults import format_count
 from wdp.office.judge import Explained, explain
-from wdp.office.reading import read_form_file, format_groups, read_rules_file
-from wdp.office.sheets import MOST_OF_A_FILE, File, parse_lines
+from wdp.office.part_files import PartReader, find_names
+from wdp.office.reading import format_groups
+from wdp.outcome import Outcome
 from wdp.program import Limits, StrPath, ask, find_program
-from wdp.results import Allocation, Certified, Counts, Program, Report, Solutions, joined
+from wdp.results import Allocation, Counts, Program, Report, Solutions, join_names
+from wdp.runs.contents import NAMES, Contents, Goals, name_file
+from wdp.runs.direct import DirectWorker, describe_failure
+from wdp.runs.means import Means
+from wdp.runs.payments import find_prices
+from wdp.runs.stores import MemoryStore
 from wdp.texts import answers, records
-from wdp.texts.accepted import Category, AcceptedRules
-from wdp.texts.parts import list_names, add_groups
-from wdp.texts.records import Text
-from wdp.texts.refusals import NotFound, NotSolved, Refused, WrongArgument
+from wdp.texts.accepted import KINDS
+from wdp.texts.parts import Part, add_groups, list_groups, list_names, parse_parts
+from wdp.texts.records import Forms, Groups, Rules, Solution, Text
+from wdp.texts.refusals import NotFound, NotSolved, Refused, WrongArgument, escape
 from wdp.texts.tables import encode
 
-UNENDED = "the last line has no end, as in a file that was cut off; say allow_unended=True if it is complete"
+_Value = TypeVar("_Value")
 
-Found = certify.Certified
+_EACH = "each"
+_WINNERS = "winners"
 
 
 @dataclass(frozen=True)
-class Claim:
-    """What is claimed of group 1: solutions that tie with its own, and the certificate that there are no others."""
+class _Proof:
+    """What is known of the groups: optimal solutions and their certificates; and of group 1 the
+    solutions that tie with its own, and the certificate that there are no others.
+    """
 
-    ties: tuple[str, ...] = ()
-    unique: str | None = None
+    solutions: Sequence[bytes]
+    certificates: Sequence[bytes]
+    ties: Sequence[bytes] = ()
+    unique: bytes | None = None
 
 
 class Auction:
-    """The rules of an auction, its bidders' forms, and the groups of bidders that are left out in turn.
+    """The rules of an auction, its bidders' forms, and the groups of bidders that are left out in
+    turn.
 
-    `rules`: a text as in docs/REFERENCE.md, a list of records (tuples, or dicts with `record`), or a data frame of these.
-    `forms`: a list of texts or of pairs of a bidder's name and its bids (tuples, dicts with `amount` and the categories, a data
-    frame); or one table of all bids, a list of dicts or a data frame with `bidder`, `amount` and the categories. A data frame
-    must have a column for each category, and a dict an entry unless `missing_as_zero` is true.
-    `groups`: a text, or a list of lines or of tuples of names; by default the one group that leaves nobody out.
-    Amounts are whole pounds, quantities lots. Nothing is rounded. A bidder has one form, unless `last_wins` says that of
-    several the last one counts.
+    `rules`: a text as in docs/REFERENCE.md, a list of records (tuples, or dicts with `record`), or
+    a data frame of these.
 
-    `program` is the path of the proved program, `time_limit` how many seconds each call of it may take; by default there is
-    no limit.
+    `forms`: a list of texts or of pairs of a bidder's name and its bids (tuples, dicts with
+    `amount` and the categories, a data frame); or one table of all bids, a list of dicts or a data
+    frame with `bidder`, `amount` and the categories. A data frame must have a column for each
+    category, and a dict an entry unless `missing_as_zero` is true.
 
-    Raises WrongArgument if this can't be written as an input, and NotFound if there is no program. Every call raises Refused if
-    the program refuses, and Unclear if its answer isn't one of docs/REFERENCE.md.
+    `groups`: a text, or a list of lines or of tuples of names; by default the one group that leaves
+    nobody out. `"each"` is that group, and each bidder alone; `"winners"` is that group, and once
+    `solve`, `certify` or `report` has a solution of it, each of its winners alone.
 
-    >>> auction = Auction(rules=[("rules", 1, 1), ("category", "A", 2, 10, 1), ("bidder", "Alpha", 9, 2), ("bidder", "Beta", 9, 1)],
-    ...                   forms=[("Alpha", [(30, 1), (50, 2)]), ("Beta", [(45, 2)])], groups=["-", "Alpha"])
+    Amounts are whole pounds, quantities lots. Nothing is rounded. A bidder has one form, unless
+    `last_wins` says that of several the last one counts.
+
+    `program` is the path of the proved program, `time_limit` how many seconds each call of it may
+    take; by default there is no limit.
+
+    Raises WrongArgument if this can't be written as an input, and NotFound if there is no program.
+    Every call raises Refused if the program refuses, and Unclear if its answer isn't one of
+    docs/REFERENCE.md.
+
+    >>> bidders = [("bidder", "Alpha", 9, 2), ("bidder", "Beta", 9, 1)]
+    >>> auction = Auction(
+    ...     rules=[("rules", 1, 1), ("category", "A", 2, 10, 1), *bidders],
+    ...     forms=[("Alpha", [(30, 1), (50, 2)]), ("Beta", [(45, 2)])],
+    ...     groups=["-", "Alpha"],
+    ... )
+    >>> auction
+    <wdp.Auction with bidders Alpha and Beta, category A, 2 forms and 2 groups>
     >>> report = auction.report(["X1_2 1\\n", {"X2_1": 1}])
     >>> report[0].winners, report[0].total
     ((Winner(bidder='Alpha', bid=2, amount=50, lots={'A': 2}),), 50)
@@ -64,32 +91,41 @@ class Auction:
     def __init__(
         self,
         *,
-        rules: Any,
-        forms: Any = (),
-        groups: Any = None,
+        rules: Rules,
+        forms: Forms = (),
+        groups: Groups = None,
         missing_as_zero: bool = False,
         last_wins: bool = False,
         program: StrPath | None = None,
         time_limit: float | None = None,
     ) -> None:
-        rules = records.format_rules(rules)
-        self._forms = records.make_forms(forms, rules, missing_as_zero)
-        parts = [records.make_part("rules", rules)]
-        parts += [records.make_part("form", form.text, n) for n, form in enumerate(self._forms, 1)]
-        parts.append(records.make_part("groups", records.format_groups(groups)))
+        rules_text = records.format_rules(rules)
+        self._forms = records.make_forms(forms, rules_text, missing_as_zero)
+        parts = [records.make_part("rules", rules_text)]
+        for number, form in enumerate(self._forms, 1):
+            parts.append(records.make_part("form", form.text, number))
+        is_rule = isinstance(groups, str) and groups in (_EACH, _WINNERS)
+        groups_text = None if is_rule else groups
+        parts.append(records.make_part("groups", records.format_groups(groups_text)))
         if not last_wins:
             records.check_bidders(self._forms)
-        self._given = b"".join(parts)
+        self._input = b"".join(parts)
+        self._awaits_winners = is_rule and groups == _WINNERS
+        self._outcome: Outcome | None = None
         self._program = find_program(program)
-        self._time_limit = seconds_of(time_limit)
+        self._time_limit = _check_seconds(time_limit)
+        if is_rule and groups == _EACH:
+            self._add_groups(self.bidders)
 
     @classmethod
     def from_text(
         cls, input_text: Text, *, program: StrPath | None = None, time_limit: float | None = None
     ) -> Auction:
-        """The auction of an input with its parts, as the program reads it. Raises what Auction(..) does."""
+        """The auction of an input with its parts, as the program reads it. Raises what Auction(..)
+        does.
+        """
         auction = cls(rules="", program=program, time_limit=time_limit)
-        auction._given = records.end_last_line(records.encode_text(input_text, "input"))
+        auction._input = records.end_last_line(records.encode_text(input_text, "input"))
         return auction
 
     @classmethod
@@ -105,23 +141,27 @@ class Auction:
         program: StrPath | None = None,
         time_limit: float | None = None,
     ) -> Auction:
-        """The auction of a file of rules, a file for each form, and a file of groups; nobody is left out without one. Files are read
-        as `wdp-office gather` reads them: workbooks, of which `sheet` names the sheet, CSV with semicolons, UTF-16. Raises what
-        Auction(..) does, NotFound if a file isn't there, and Refused if it can't be read, or if its last line has no end, as in
-        a file that was cut off: `allow_unended` says that such files are complete."""
-        paths = [forms] if isinstance(forms, (str, bytes, os.PathLike)) else listed(forms, "forms")
-        read_rules = partial(read_rules_file, sheet=sheet)
-        file = content(rules, read_rules, "rules", allow_unended=allow_unended)
-        known = names_of(file)
-        read_form = partial(read_form_file, rules=known, sheet=sheet)
-        texts = [
-            content(path, read_form, "form", number, allow_unended=allow_unended).text
-            for number, path in enumerate(paths, 1)
-        ]
-        lines = None
-        if groups is not None:
-            listing = content(groups, read_groups, "groups", allow_unended=allow_unended)
-            lines = encode(format_groups(listing.rows))
+        """The auction of a file of rules, a file for each form, and a file of groups, `"each"` or
+        `"winners"`; nobody is left out without one.
+
+        Files are read as `wdp-office gather` reads them: workbooks, of which `sheet` names the
+        sheet, CSV with semicolons, UTF-16. Raises what Auction(..) does, NotFound if a file isn't
+        there, and Refused if it can't be read, or if its last line has no end, as in a file that
+        was cut off: `allow_unended` says that such files are complete.
+        """
+        if isinstance(forms, (str, bytes, os.PathLike)):
+            paths = [forms]
+        else:
+            paths = _check_list(forms, "forms")
+        reader = PartReader(sheet=sheet, allow_unended=allow_unended)
+        file = reader.read_rules(rules)
+        names = find_names(file)
+        texts = [reader.read_form(path, number, names).text for number, path in enumerate(paths, 1)]
+        lines: Groups = None
+        if groups in (_EACH, _WINNERS):
+            lines = str(groups)
+        elif groups is not None:
+            lines = encode(format_groups(reader.read_groups(groups).rows))
         return cls(
             rules=file.text,
             forms=texts,
@@ -131,37 +171,272 @@ class Auction:
             time_limit=time_limit,
         )
 
+    @classmethod
+    def from_audit(
+        cls,
+        path: StrPath,
+        *,
+        program: StrPath | None = None,
+        time_limit: float | None = None,
+    ) -> Auction:
+        """The auction of an audit, as `wdp-office auction` and `results` and `Outcome.audit` have
+        it, whose `outcome` is what the audit proves. Groups that were added for prices are groups
+        of the auction then.
+
+        Raises NotFound if the file isn't there, and Refused if it can't be read or `wdp verify`
+        refuses it.
+        """
+        parts = list(parse_parts(_read_audit(path)))
+        data = audits.join_parts(part for part in parts if part.kind in KINDS)
+        auction = cls.from_text(data, program=program, time_limit=time_limit)
+        auction._outcome = auction._verify_parts(parts)
+        return auction
+
+    def __repr__(self) -> str:
+        counts = [
+            _format_names("bidder", "bidders", self.bidders),
+            _format_names("category", "categories", self.categories),
+            format_count(sum(part.kind == "form" for part in parse_parts(self._input)), "form"),
+        ]
+        groups = format_count(len(list_groups(self._input)), "group")
+        return f"<wdp.Auction with {', '.join(counts)} and {groups}>"
+
+    @property
+    def bidders(self) -> tuple[str, ...]:
+        """The names of the bidders, in the order of the rules."""
+        return self._list_names("bidder")
+
+    @property
+    def categories(self) -> tuple[str, ...]:
+        """The names of the categories, in the order of the rules."""
+        return self._list_names("category")
+
+    @property
+    def outcome(self) -> Outcome | None:
+        """What is proved by the audit that the auction comes from; None if it doesn't come from
+        one.
+        """
+        return self._outcome
+
     def input(
         self,
-        solutions: Iterable[Any] = (),
-        certificates: Iterable[Any] = (),
+        solutions: Iterable[Solution] = (),
+        certificates: Iterable[Text] = (),
         unique: Text | None = None,
-        ties: Iterable[Any] = (),
+        ties: Iterable[Solution] = (),
         prices: Text | None = None,
         cover: Text | None = None,
         rule: Text | None = None,
     ) -> bytes:
-        """The input followed by these parts, as the program reads it: with certificates it is an audit, which `wdp verify`
-        judges anywhere. Raises WrongArgument or Refused if a text would be more than its part."""
-        shown = listed(certificates, "certificates")
-        parts = [
-            records.make_part("solution", x, n) for n, x in enumerate(solution_texts(solutions), 1)
-        ]
-        parts += [records.make_part("certificate", text, n) for n, text in enumerate(shown, 1)]
-        tied = [
+        """The input followed by these parts, as the program reads it: with certificates it is an
+        audit, which `wdp verify` judges anywhere. Raises WrongArgument or Refused if a text would
+        be more than its part.
+        """
+        certificate_texts = _check_list(certificates, "certificates")
+        tie_texts = [
             records.format_solution(solution, f"tie {number}")
-            for number, solution in enumerate(listed(ties, "ties"), 1)
+            for number, solution in enumerate(_check_list(ties, "ties"), 1)
         ]
-        parts += [records.make_part("tie", text, number) for number, text in enumerate(tied, 1)]
-        others = dict(unique=unique, prices=prices, cover=cover, rule=rule)
+        parts = _make_parts("solution", _format_solutions(solutions))
+        parts += _make_parts("certificate", certificate_texts)
+        parts += _make_parts("tie", tie_texts)
+        claims = {"unique": unique, "prices": prices, "cover": cover, "rule": rule}
         parts += [
-            records.make_part(head, text) for head, text in others.items() if text is not None
+            records.make_part(head, text) for head, text in claims.items() if text is not None
         ]
-        return self._given + b"".join(parts)
+        return self._input + b"".join(parts)
 
-    def _answer(self, words: list[str], given: bytes, most: int = answers.MOST_OF_GROUP) -> bytes:
+    def explain(self, bids: bool = False) -> Explained:
+        """Everything that is wrong with the input: each finding has the refusal, the field and the
+        cause. With `bids`, if nothing is wrong, the bids that are in no program, each with the
+        bidder's name and why.
+        """
+        return explain(self._program, self._input, with_bids=bids)
+
+    def compile(self, workers: int = 1) -> list[Program]:
+        """The program of each group, in the order of the groups, written by 1 to 64 `workers`.
+
+        Raises Refused if the rules, a form or a group has a fault, and WrongArgument for other
+        numbers of workers.
+        """
+        arguments = ["compile", f"--workers={records.format_whole(workers, 'workers')}"]
+        expected = answers.ExpectedAnswer(self._input)
+        output = self._ask(arguments, self._input, expected.most_of_programs)
+        return answers.read_programs(output, expected)
+
+    def solve(
+        self, solver: str | None = None, time_limit: float | None = None, workers: int = 1
+    ) -> Solutions:
+        """A point of each program: from `cbc`, from `highs` as scipy has it, or from a command as
+        docs/OFFICE.md describes; by default from cbc if it is installed. That it is the best one is
+        the solver's word.
+
+        `time_limit` is in seconds, for each program; a solver that runs as a program gets them
+        rounded up. Raises NotFound if the solver isn't there, NotSolved if it gives no point, and
+        WrongArgument if it isn't known.
+        """
+        name = _check_solver(solver)
+        seconds = _check_seconds(time_limit)
+        programs = self.compile(workers)
+        points = [_find_point(program, name, seconds) for program in programs]
+        if self._awaits_winners and points:
+            self._add_winners(self.map(points[0]))
+            programs = self.compile(workers)[len(points) :]
+            points += [_find_point(program, name, seconds) for program in programs]
+        return Solutions(tuple(points), name)
+
+    def certify(
+        self,
+        solutions: Iterable[Solution] | None = None,
+        ties: bool = False,
+        time_limit: float | None = None,
+    ) -> Outcome:
+        """Certifies each group's solution, and verifies that: a better solution replaces one that
+        isn't optimal. Without solutions the search begins from nothing, which may take long.
+
+        With `ties` it also finds who else can win with group 1's total, and proves that nobody else
+        can; it ends at 64 solutions beside the first, which is as many as an audit can list.
+        `time_limit` is in seconds, for each search. Raises Refused if `report` does or a limit is
+        reached, and Missing without numpy, scipy and swiglpk.
+        """
+        programs = self.compile()
+        seconds = _check_seconds(time_limit)
+        begun = None
+        if solutions is not None:
+            begun = [records.encode_text(x, "solution") for x in _format_solutions(solutions)]
+            self._report("report", self.input(begun))
+        settled = _certify_programs(programs, begun, seconds)
+        if self._awaits_winners and settled:
+            self._add_winners(self.map(settled[0].solution))
+            programs = self.compile()
+            settled += _certify_programs(programs[len(settled) :], None, seconds)
+        proof = _Proof(
+            solutions=[each.solution for each in settled],
+            certificates=[each.certificate for each in settled],
+        )
+        if ties and settled:
+            proof = _find_ties(programs[0], proof, seconds)
+        names = [join_names(program.names) for program in programs]
+        return self._make_outcome(self._fill_store(proof, names), solver="certify")
+
+    def prices(
+        self,
+        certified: Outcome | None = None,
+        solver: str | None = None,
+        time_limit: float | None = None,
+    ) -> Outcome:
+        """What is certified, by default what the auction's audit proves, with the prices of the
+        rule: of those that cover every group of bidders and meet the reserves the ones of least
+        sum, and of these the nearest to what each winner would pay alone, rounded up to whole
+        pounds.
+
+        Its report has them, and after the groups of the auction those that show them: each winner
+        alone, and what binds the prices. `time_limit` is in seconds, for each solver's run and each
+        certificate. Raises WrongArgument, which says what is missing, if nothing is certified, and
+        else what `solve` and `certify` do.
+        """
+        outcome = self._check_certified(certified)
+        means = Means(
+            program=self._program,
+            solver=_check_solver(solver),
+            seconds=_check_seconds(time_limit),
+            program_seconds=self._time_limit,
+        )
+        names = list_groups(self._input)
+        proof = _Proof(
+            solutions=[text.encode() for text in outcome.solutions.texts[: len(names)]],
+            certificates=[text.encode() for text in outcome.certificates[: len(names)]],
+            ties=[text.encode() for text in outcome.ties],
+            unique=None if outcome.unique is None else outcome.unique.encode(),
+        )
+        contents = self._fill_store(proof, names)
+        worker = DirectWorker(contents, means)
+        worker.compile_programs()
+        find_prices(contents, worker)
+        return self._make_outcome(contents, solver=means.solver, limit=worker.limit)
+
+    def report(self, solutions: Iterable[Solution], workers: int = 1) -> Report:
+        """Winners, total and opportunity cost of each group in pounds, from a solution for each:
+        texts, or dicts of columns and values. That the solutions are feasible is tested exactly;
+        that they are the best ones isn't.
+
+        Raises Refused if one isn't a solution of its group's program, or there isn't one for each
+        group.
+        """
+        report = self._report("report", self.input(solutions), workers)
+        if self._awaits_winners and report:
+            self._add_winners(report[0])
+        return report
+
+    def verify(
+        self,
+        solutions: Iterable[Solution],
+        certificates: Iterable[Text],
+        unique: Text | None = None,
+        ties: Iterable[Solution] = (),
+        workers: int = 1,
+        *,
+        prices: Text | None = None,
+        cover: Text | None = None,
+        rule: Text | None = None,
+    ) -> Report:
+        """The same as `report`, proved: a certificate for each group shows that no total is
+        greater.
+
+        With `ties`, other solutions of group 1 with the same total, the report has these, too, and
+        with `unique`, a certificate that there are no others, all awards. With `prices`, a line
+        `NAME PRICE` for each winner of group 1, and `cover`, a certificate that they cover every
+        group, perhaps with `rule`, which shows that they are those of the rule, the report has
+        `prices`; docs/REFERENCE.md has these texts. Raises Refused if `report` does, if a
+        certificate doesn't show its bound, and if a claim doesn't hold.
+        """
+        audit = self.input(
+            solutions,
+            certificates,
+            unique=unique,
+            ties=ties,
+            prices=prices,
+            cover=cover,
+            rule=rule,
+        )
+        return self._report("verify", audit, workers)
+
+    def map(self, solution: Solution, group: int = 1) -> Allocation:
+        """Winners and total in pounds of a solution of one group, by the group's number from 1.
+        Raises Refused if it isn't a solution or there is no such group, and WrongArgument for
+        numbers that no group has.
+        """
+        arguments = ["map", f"--group={records.format_whole(group, 'group')}"]
+        output = self._ask(arguments, self.input([solution]))
+        return answers.read_map(output, answers.ExpectedAnswer(self._input))
+
+    def check(self, mps_text: Text | Program) -> Counts:
+        """How many rows, columns and entries a 0-1 program in MPS has, whoever wrote it. Raises
+        Refused if the text isn't of the profile that docs/REFERENCE.md describes.
+        """
+        text = mps_text.text if isinstance(mps_text, Program) else mps_text
+        output = self._ask(["check"], records.encode_text(text, "program"))
+        return answers.read_counts(output)
+
+    def _list_names(self, kind: str) -> tuple[str, ...]:
+        """The names in the rules' records of a kind."""
+        parts = [part for part in parse_parts(self._input) if part.kind == "rules"]
+        rows = chain.from_iterable(part.rows() for part in parts)
+        return tuple(list_names(rows, kind))
+
+    def _add_groups(self, names: Iterable[str]) -> None:
+        """Adds a group of each of these bidders alone."""
+        self._input = add_groups(self._input, names)
+
+    def _add_winners(self, allocation: Allocation) -> None:
+        """Adds each winner of the first group alone, which `groups="winners"` waits for."""
+        self._awaits_winners = False
+        self._add_groups(winner.bidder for winner in allocation.winners)
+
+    def _ask(self, arguments: list[str], data: bytes, most: int = answers.MOST_OF_GROUP) -> bytes:
+        """What the program prints, at most so many bytes."""
         try:
-            return ask(self._program, words, given, Limits(most, self._time_limit))
+            return ask(self._program, arguments, data, limits=Limits(most, self._time_limit))
         except Refused as refused:
             self._place(refused)
             raise
@@ -175,206 +450,166 @@ class Auction:
         # (the first record is the form's header, and fields are counted from 1)
         refused.row = dict(enumerate(form.rows, 2)).get(refused.record or 0)
         if form.columns:
-            found = explain(self._program, self._given).findings
-            fields = (each.field or 0 for each in found if each.refused.text == refused.text)
-            refused.column = dict(enumerate(form.columns, 1)).get(next(fields, 0))
+            findings = explain(self._program, self._input).findings
+            fields = [each.field or 0 for each in findings if each.refused.text == refused.text]
+            first = form.columns[0] if refused.row is not None else None  # (else the bidder's name)
+            columns = dict(enumerate([first, *form.columns[1:]], 1))
+            refused.column = columns.get(fields[0]) if fields else None
+        _describe_place(refused)
 
-    def _report(self, command: str, given: bytes, workers: int) -> Report:
-        words = [command, f"--workers={records.format_whole(workers, 'workers')}"]
-        asked = answers.Asked(given)
-        output = self._answer(words, given, asked.most_of_report)
-        return answers.read_report(output, asked, command == "verify")
+    def _report(self, command: str, data: bytes, workers: int = 1) -> Report:
+        arguments = [command, f"--workers={records.format_whole(workers, 'workers')}"]
+        expected = answers.ExpectedAnswer(data)
+        output = self._ask(arguments, data, expected.most_of_report)
+        return answers.read_report(output, expected, is_certified=command == "verify")
 
-    def explain(self, bids: bool = False) -> Explained:
-        """Everything that is wrong with the input: each finding has the refusal, the field and the cause. With `bids`, if
-        nothing is wrong, the bids that are in no program, each with the bidder's name and why."""
-        return explain(self._program, self._given, with_bids=bids)
+    def _fill_store(self, proof: _Proof, names: Iterable[str]) -> Contents:
+        """What steps would have left that proved this, of groups with these lines."""
+        store = MemoryStore()
+        store.leave(INPUT, self._input)
+        store.leave(NAMES, "".join(f"{line}\n" for line in names).encode())
+        for group, solution in enumerate(proof.solutions, 1):
+            store.leave(name_file("solution", group), solution)
+        for group, certificate in enumerate(proof.certificates, 1):
+            store.leave(name_file("certificate", group), certificate)
+        contents = Contents(store, Goals())
+        if proof.ties or proof.unique is not None:
+            contents.leave_ties(proof.ties, proof.unique)
+        return contents
 
-    def compile(self, workers: int = 1) -> list[Program]:
-        """The program of each group, in the order of the groups, written by 1 to 64 `workers`. Raises Refused if the rules, a form
-        or a group has a fault, and WrongArgument for other numbers of workers."""
-        words = ["compile", f"--workers={records.format_whole(workers, 'workers')}"]
-        asked = answers.Asked(self._given)
-        output = self._answer(words, self._given, asked.most_of_programs)
-        return answers.read_programs(output, asked)
+    def _make_outcome(
+        self, contents: Contents, *, solver: str, limit: str | None = None
+    ) -> Outcome:
+        """What `wdp verify` says of what steps have left."""
+        outcome = self._verify_parts(list(parse_parts(contents.format_audit())), solver=solver)
+        return outcome if limit is None else replace(outcome, limit=limit)
 
-    def solve(
-        self, solver: str | None = None, time_limit: float | None = None, workers: int = 1
-    ) -> Solutions:
-        """A point of each program: from `cbc`, from `highs` as scipy has it, or from a command as docs/OFFICE.md describes;
-        by default from cbc if it is installed. That it is the best one is the solver's word. `time_limit` is in seconds, for
-        each program; a solver that runs as a program gets them rounded up. Raises NotFound if the solver isn't there,
-        NotSolved if it gives no point, and WrongArgument if it isn't known."""
-        name, seconds = checked_solver(solver), seconds_of(time_limit)
-        points = (point_of(program, name, seconds) for program in self.compile(workers))
-        return Solutions(tuple(points), name)
-
-    def certify(
-        self,
-        solutions: Iterable[Any] | None = None,
-        ties: bool = False,
-        time_limit: float | None = None,
-    ) -> Certified:
-        """Certifies each group's solution, and verifies that: a better solution replaces one that isn't optimal. Without
-        solutions the search begins from nothing, which may take long. With `ties` it also finds who else can win with group 1's
-        total, and proves that nobody else can; it ends at 64 solutions beside the first, which is as many as an audit can list.
-        `time_limit` is in seconds, for each search. Raises Refused if `report` does or a limit is reached, and Missing without
-        numpy, scipy and swiglpk."""
-        programs = [program.text.encode() for program in self.compile()]
-        seconds = seconds_of(time_limit)
-        if solutions is None:
-            begun = [solve.nothing(program) for program in programs]
-        else:
-            begun = [records.encode_text(text, "solution") for text in solution_texts(solutions)]
-            self.report(begun)
-        found = [certify.certified(mps, text, seconds) for mps, text in zip(programs, begun)]
-        claim = Claim()
-        if ties and found:
-            claim = claim_of(programs[0], found[0].solution, seconds)
-        return self._certified(found, solver="certify", claim=claim)
-
-    def _certified(
-        self, found: list[Found], *, solver: str, claim: Claim, parts: bytes = b""
-    ) -> Certified:
-        """What `wdp verify` says of solutions with what shows it, and of what is claimed of others."""
-        solutions = Solutions(tuple(each.solution.decode() for each in found), solver)
-        certificates = tuple(each.certificate.decode() for each in found)
-        audit = self.input(solutions, certificates, unique=claim.unique, ties=claim.ties)
-        return Certified(
-            report=self._report("verify", parts + audit, workers=1),
-            solutions=solutions,
-            certificates=certificates,
-            unique=claim.unique,
-            ties=claim.ties,
-            audit=parts + audit,
+    def _verify_parts(self, parts: Sequence[Part], solver: str = "audit") -> Outcome:
+        """What `wdp verify` says of the parts of an audit."""
+        shown = [part for part in parts if part.kind not in KINDS]
+        data = audits.join_parts(part for part in parts if part.kind in KINDS)
+        audit = audits.join_parts(shown) + records.end_last_line(data)
+        unique = _list_texts(shown, "unique")
+        return Outcome(
+            report=self._report("verify", audit),
+            solutions=Solutions(_list_texts(shown, "solution"), solver),
+            certificates=_list_texts(shown, "certificate"),
+            unique=unique[0] if unique else None,
+            ties=_list_texts(shown, "tie"),
+            audit=audit,
+            input=self._input,
+            program=self._program,
         )
 
-    def prices(
-        self, certified: Certified, solver: str | None = None, time_limit: float | None = None
-    ) -> Certified:
-        """What is certified, with the prices of the rule: of those that cover every group of bidders and meet the reserves the ones of
-        least sum, and of these the nearest to what each winner would pay alone, rounded up to whole pounds. Its report has them,
-        and after the groups of the auction those that show them: each winner alone, and what binds the prices. `time_limit` is
-        in seconds, for each solver's run and each certificate. Raises what `solve` and `certify` do.
-        """
-        if not isinstance(certified, Certified):
+    def _check_certified(self, certified: object) -> Outcome:
+        """What is certified of this auction; WrongArgument says what is missing if nothing is."""
+        outcome = self._outcome if certified is None else certified
+        if not isinstance(outcome, Outcome):
             found_type = type(certified).__name__
             why = f"what Auction.certify gives is asked for, and this is of type {found_type}"
-            raise WrongArgument(f"certified: {why}")
-        name, seconds = checked_solver(solver), seconds_of(time_limit)
-        given = zip(certified.solutions, certified.certificates)
-        found = [Found(text.encode(), shown.encode(), 0) for text, shown in given]
-        programs = self.compile()
-        listed = [joined(program.names) for program in programs]
-
-        def with_more(more: list[str]) -> Auction:
-            """The auction with groups after those that are listed, each of which is solved and certified."""
-            listed.extend(more)
-            text = add_groups(self._given, listed[len(programs) :])
-            grown = Auction.from_text(text, program=self._program, time_limit=self._time_limit)
-            for program in grown.compile()[len(found) :] if more else ():
-                begin = point_of(program, name, seconds).encode()
-                found.append(certify.certified(program.text.encode(), begin, seconds))
-            return grown
-
-        with_more(pricing.alone_in(self._given, found[0].solution, listed))
-        points = [each.solution for each in found]
-        award = pricing.Award(self._given, programs[0].text.encode(), points, listed)
-        priced = pricing.Search(award, solver=name, seconds=seconds).run()
-        grown = with_more(priced.added)
-        claim = Claim(certified.ties, certified.unique)
-        made = grown._certified(found, solver=name, claim=claim, parts=priced.parts)
-        return replace(made, limit=priced.limit)
-
-    def report(self, solutions: Iterable[Any], workers: int = 1) -> Report:
-        """Winners, total and opportunity cost of each group in pounds, from a solution for each: texts, or dicts of columns
-        and values. That the solutions are feasible is tested exactly; that they are the best ones isn't. Raises Refused if one
-        isn't a solution of its group's program, or there isn't one for each group."""
-        return self._report("report", self.input(solutions), workers)
-
-    def verify(
-        self,
-        solutions: Iterable[Any],
-        certificates: Iterable[Text],
-        unique: Text | None = None,
-        ties: Iterable[Any] = (),
-        workers: int = 1,
-        *,
-        prices: Text | None = None,
-        cover: Text | None = None,
-        rule: Text | None = None,
-    ) -> Report:
-        """The same as `report`, proved: a certificate for each group shows that no total is greater. With `ties`, other solutions
-        of group 1 with the same total, the report has these, too, and with `unique`, a certificate that there are no others, all
-        awards. With `prices`, a line `NAME PRICE` for each winner of group 1, and `cover`, a
-        certificate that they cover every group, perhaps with `rule`, which shows that they are those of the rule, the report
-        has `prices`; docs/REFERENCE.md has these texts. Raises Refused if `report` does, if a certificate doesn't show its bound,
-        and if a claim doesn't hold."""
-        audit = self.input(
-            solutions,
-            certificates,
-            unique=unique,
-            ties=ties,
-            prices=prices,
-            cover=cover,
-            rule=rule,
-        )
-        return self._report("verify", audit, workers)
-
-    def map(self, solution: Any, group: int = 1) -> Allocation:
-        """Winners and total in pounds of a solution of one group, by the group's number from 1. Raises Refused if it isn't a
-        solution or there is no such group, and WrongArgument for numbers that no group has."""
-        words = ["map", f"--group={records.format_whole(group, 'group')}"]
-        output = self._answer(words, self.input([solution]))
-        return answers.read_map(output, answers.Asked(self._given))
-
-    def check(self, mps_text: Text | Program) -> Counts:
-        """How many rows, columns and entries a 0-1 program in MPS has, whoever wrote it. Raises Refused if the text isn't of
-        the profile that docs/REFERENCE.md describes."""
-        text = mps_text.text if isinstance(mps_text, Program) else mps_text
-        return answers.read_counts(self._answer(["check"], records.encode_text(text, "program")))
+            raise WrongArgument(f"certified: {why}; {_describe_missing(certified)}")
+        if outcome.input != self._input:
+            hint = "call prices of the auction that was certified"
+            raise WrongArgument(f"certified: this is of another auction; {hint}")
+        return outcome
 
 
-def claim_of(program: bytes, solution: bytes, seconds: float | None) -> Claim:
-    """All solutions that tie with an optimal one of a program, up to the limit of an audit."""
-    problem = certify.read_problem(program)
+def _describe_missing(value: object) -> str:
+    """What this lacks of what is certified, and which call gives it."""
+    if isinstance(value, Report):
+        return "a report has no solutions and no certificates; certify(solutions) gives all of it"
+    if value is None:
+        return "nothing is certified yet; certify() or certify(solve()) does it"
+    return "certificates are missing; certify(solutions) finds them"
+
+
+def _describe_place(refused: Refused) -> None:
+    """Adds to the text of a refusal which bid it is about, by its place in what was given."""
+    places = []
+    if refused.row is not None:
+        places.append(f"row {refused.row}")
+    if refused.column is not None:
+        places.append(f"column {refused.column}")
+    if places:
+        place = ", ".join([str(refused.bidder), *places])
+        refused.text = escape(f"{refused.text} ({place})")
+        refused.args = (refused.text,)
+
+
+def _format_names(one: str, several: str, names: Sequence[str]) -> str:
+    """Names with what they are of, of which there may be too many to list."""
+    if not names:
+        return f"no {several}"
+    if len(names) == 1:
+        return f"{one} {names[0]}"
+    if len(names) > 4:
+        return f"{len(names)} {several}"
+    return f"{several} {', '.join(names[:-1])} and {names[-1]}"
+
+
+def _make_parts(head: str, texts: Iterable[Text]) -> list[bytes]:
+    """A part for each text, by their numbers."""
+    return [records.make_part(head, text, number) for number, text in enumerate(texts, 1)]
+
+
+def _list_texts(parts: Iterable[Part], kind: str) -> tuple[str, ...]:
+    """The texts of an audit's parts of a kind."""
+    return tuple(part.text.decode() for part in parts if part.kind == kind)
+
+
+def _certify_programs(
+    programs: Sequence[Program], begun: Sequence[bytes] | None, seconds: float | None
+) -> list[certify.Optimum]:
+    """An optimal solution of each program and its certificate, from a solution of each, or from
+    nothing.
+    """
+    texts = [program.text.encode() for program in programs]
+    if begun is None:
+        begun = [solve.find_empty_solution(text) for text in texts]
+    pairs = zip(texts, begun, strict=True)
+    return [certify.find_optimum(text, solution, seconds=seconds) for text, solution in pairs]
+
+
+def _find_ties(program: Program, proof: _Proof, seconds: float | None) -> _Proof:
+    """The proof with all solutions that tie with that of group 1, up to the limit of an audit."""
+    problem = certify.read_problem(program.text.encode())
     from wdp.certify.ties import find_ties
 
-    found = find_ties(problem, solution, seconds=seconds)
-    ties = tuple(point.decode() for point in found.points)
-    return Claim(ties, None if found.unique is None else found.unique.decode())
+    tied = find_ties(problem, proof.solutions[0], seconds=seconds)
+    return replace(proof, ties=tied.points, unique=tied.unique)
 
 
-def checked_solver(solver: str | None) -> str:
+def _check_solver(solver: str | None) -> str:
     """A solver's name or command; WrongArgument if it is neither."""
     if solver is not None and not (isinstance(solver, str) and solver and solver.isprintable()):
         raise WrongArgument("a solver is cbc, highs, or a command with {mps} in it, on one line")
-    return solve.checked_solver(solver)
+    return solve.find_solver(solver)
 
 
-def point_of(program: Program, solver: str, seconds: float | None) -> str:
+def _find_point(program: Program, solver: str, seconds: float | None) -> str:
     """A solver's point of a group's program; a NotSolved says of which group."""
     try:
-        return solve.point_of(program.text.encode(), solver, seconds).decode()
+        return solve.find_point(program.text.encode(), solver, seconds=seconds).decode()
     except NotSolved as failed:
-        text = f"group {program.group} ({joined(program.names)} left out): {failed.text}"
-        raise NotSolved(text, failed.status, program.group) from None
+        raise describe_failure(failed, program.group, join_names(program.names)) from None
 
 
-def solution_texts(solutions: Iterable[Any]) -> list[Text]:
+def _format_solutions(solutions: Iterable[Solution]) -> list[Text]:
     """Solutions as texts, those that are dicts written."""
-    given = enumerate(listed(solutions, "solutions"), 1)
-    return [records.format_solution(each, f"solution {number}") for number, each in given]
+    numbered = enumerate(_check_list(solutions, "solutions"), 1)
+    return [
+        records.format_solution(solution, f"solution {number}") for number, solution in numbered
+    ]
 
 
-def listed(given: Iterable[Any], what: str) -> list[Any]:
-    """A list of texts; WrongArgument if it is one text or no list."""
-    if not records.is_list(given):
-        raise WrongArgument(f"{what}: a list is asked for")
-    return list(given)
+def _check_list(values: Iterable[_Value], name: str) -> list[_Value]:
+    """A list of values; WrongArgument if it is one text or no list."""
+    if not records.is_list(values):
+        raise WrongArgument(f"{name}: a list is asked for")
+    return list(values)
 
 
-def seconds_of(time_limit: float | None) -> float | None:
+def _check_seconds(time_limit: float | None) -> float | None:
     """A time limit in seconds, or None; WrongArgument if it is no number above 0."""
     if time_limit is None:
         return None
@@ -384,38 +619,13 @@ def seconds_of(time_limit: float | None) -> float | None:
     return float(time_limit)
 
 
-def names_of(file: File) -> AcceptedRules:
-    """The names in a file of rules, of which nothing else is known."""
-    categories = [Category(name, 0, 0, 0) for name in list_names(file.rows, "category")]
-    return AcceptedRules(1, categories, list_names(file.rows, "bidder"))
-
-
-def read_groups(path: str) -> File:
-    """The lines of a file of groups."""
-    return parse_lines(path, files.read(path, MOST_OF_A_FILE, regular=True))
-
-
-def content(
-    path: StrPath,
-    read: Callable[[str], File],
-    head: str,
-    number: int | None = None,
-    *,
-    allow_unended: bool,
-) -> File:
-    """A file that becomes a part of the input, with the part's number if there are several. Raises Refused at its first fault."""
-    name = head if number is None else f"{head} {number}"
+def _read_audit(path: StrPath) -> bytes:
+    """The bytes of an audit's file."""
     if not isinstance(path, (str, bytes, os.PathLike)):
-        raise WrongArgument(
-            f"{name}: a path is asked for, and this is of type {type(path).__name__}"
-        )
+        found_type = type(path).__name__
+        raise WrongArgument(f"audit: a path is asked for, and this is of type {found_type}")
     try:
-        file = read(os.fsdecode(path))
+        return files.read(os.fsdecode(path), audits.MOST_OF_AUDIT, regular=True)
     except files.Unreadable as error:
         kind = NotFound if isinstance(error.__cause__, FileNotFoundError) else Refused
-        raise kind(f"{name}: {error.text}", head, number) from None
-    if file.faults:
-        raise Refused(f"{name}: {file.faults[0]}", head, number)
-    if file.rows and not file.is_ended and not allow_unended:
-        raise Refused(f"{name}: {file.path}: {UNENDED}", head, number)
-    return file
+        raise kind(f"audit: {error.text}") from None

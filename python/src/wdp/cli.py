@@ -1,16 +1,18 @@
-"""The tools of an auction's office as one command: from sealed bids to a certified result that can be published."""
+"""The tools of an auction's office as one command: from sealed bids to a certified result that can
+be published.
+"""
 import argparse
 import difflib
 import importlib
 import signal
 import sys
-from collections.abc import Callable
 from functools import partial
 from typing import Any, NoReturn
 
 from wdp import files
-from wdp.steps import INTERRUPTED, Step, heed_children
-from wdp.texts.refusals import Refused, escape, shorten
+from wdp.reporter import run_reporting
+from wdp.steps import INTERRUPTED, heed_children
+from wdp.texts.refusals import escape, shorten
 from wdp.version import VERSION
 
 _NAME = "wdp-office"
@@ -20,11 +22,11 @@ COMMANDS = {
     "gather": ("commands.gather", "joins an auction's files into one input of wdp"),
     "explain": ("commands.explain", _EXPLAIN_HELP),
     "form": ("commands.form", "writes a blank form for each bidder"),
-    "solve": ("solve", "solves a program by a solver"),
-    "certify": ("certify", "certifies a solution as optimal, or as the only optimal one"),
-    "auction": ("auction", "goes from the input to winners, opportunity costs and a page"),
-    "prices": ("prices", "finds what the winners of an award pay"),
-    "results": ("publish.command", "makes tables and a page of a report"),
+    "solve": ("commands.solve", "solves a program by a solver"),
+    "certify": ("commands.certify", "certifies a solution as optimal, or as the only optimal one"),
+    "auction": ("commands.auction", "goes from the input to winners, opportunity costs and a page"),
+    "prices": ("commands.prices", "finds what the winners of an award pay"),
+    "results": ("commands.results", "makes tables and a page of a report"),
 }
 _LONGEST_COMMAND = 40  # characters of an unknown command that are looked at
 _WRONG_ARGUMENTS = 2
@@ -87,24 +89,6 @@ def _parse_arguments(arguments: list[str]) -> argparse.Namespace:
         parser.exit(_WRONG_ARGUMENTS, parser.format_help())
     parser.prog = f"{_NAME} {first}" if first in COMMANDS else _NAME
     return parser.parse_args(arguments)
-
-
-def run_reporting(say: Callable[[str], None], label: str, step: Step) -> int:
-    """Does a step, and says why it failed, after the label if there is one; its status."""
-    try:
-        return step() or 0
-    except Refused as refused:
-        why = refused.text
-        status = refused.status
-    except MemoryError:
-        why = "out of memory"
-        status = 1
-    except OSError as error:
-        why = f"{error.filename}: " if error.filename else ""
-        why += str(error.strerror or error)
-        status = 1
-    say(f"{label}: {why}" if label else why)
-    return status
 
 
 def main(arguments: list[str] | None = None) -> int:

@@ -5,10 +5,12 @@ import contextlib
 import fcntl
 import hashlib
 import os
+import tempfile
 import time
 from collections.abc import Iterator
 from dataclasses import dataclass
 from pathlib import Path
+from typing import IO
 
 from wdp import files
 from wdp.texts.refusals import Refused
@@ -59,6 +61,15 @@ class Folder:
             with files.map_errors(str(path.parent)):
                 path.parent.mkdir(parents=True, exist_ok=True)
             files.write_all({str(path): text})
+
+    def make_log(self, name: str) -> Path:
+        """The file for what a solver prints, in a folder that is made for it."""
+        self.path("logs").mkdir(exist_ok=True)
+        return self.path(f"logs/{name}.txt").absolute()
+
+    def open_temporary(self) -> IO[bytes]:
+        """A new file that is gone once it is closed, on the folder's disk."""
+        return tempfile.TemporaryFile(dir=self.where)
 
     def take_input(self, data: bytes | None) -> None:
         """Takes an input, or the `input.txt` that is there.

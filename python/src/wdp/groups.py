@@ -19,7 +19,8 @@ def find_smaller(groups: Mapping[int, Names], group: int) -> list[int]:
     """The groups that leave out fewer of the same bidders, the smallest first, and of the same size
     in their order.
 
-    >>> find_smaller({1: parse_names("-"), 2: parse_names("A+B"), 3: parse_names("B"), 4: parse_names("C")}, 2)
+    >>> lines = {1: "-", 2: "A+B", 3: "B", 4: "C"}
+    >>> find_smaller({group: parse_names(line) for group, line in lines.items()}, 2)
     [1, 3]
     """
     numbers = [number for number, names in groups.items() if names < groups[group]]

@@ -49,8 +49,8 @@ def limit_jobs(jobs: int, columns: int, free: int | None) -> int:
     """How many of these jobs, each for a program with so many columns, there are free bytes for,
     and one in any case.
 
-    >>> limit_jobs(4, 100_000, 1_000_000_000), limit_jobs(4, 100_000, 0), limit_jobs(4, 100_000, None)
-    (2, 1, 4)
+    >>> [limit_jobs(4, 100_000, free) for free in (1_000_000_000, 0, None)]
+    [2, 1, 4]
     """
     if free is None:
         return jobs

@@ -32,7 +32,9 @@ def _find_tree() -> str | None:
 
 
 def _find_beside() -> str:
-    """The path that the program has in the tree of this package, or where it was installed with it."""
+    """The path that the program has in the tree of this package, or where it was installed with
+    it.
+    """
     if tree := _find_tree():
         return os.path.join(tree, "wdp")
     prefix = _PACKAGE.rpartition(f"{os.sep}lib{os.sep}")[0]

@@ -14,6 +14,10 @@ _PRINT_EVERY = {True: 0.5, False: 30.0}  # seconds, at a terminal and elsewhere
 Say = Callable[[str], None]
 
 
+def say_nothing(text: str) -> None:
+    """Takes messages that nobody wants."""
+
+
 def is_at_terminal() -> bool:
     """Whether standard error is a terminal."""
     return bool(sys.stderr and sys.stderr.isatty())

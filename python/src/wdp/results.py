@@ -1,4 +1,6 @@
-"""The programs of an auction, and its outcome: winners, totals and costs in whole pounds, and what is known of other outcomes."""
+"""The programs of an auction, and its outcome: winners, totals and costs in whole pounds, and what
+is known of other outcomes.
+"""
 from __future__ import annotations
 
 from dataclasses import dataclass, field
@@ -7,6 +9,7 @@ from collections.abc import Mapping, Sequence
 from itertools import chain
 from typing import TYPE_CHECKING
 
+from wdp.frames import Columns, Tabular, make_columns
 from wdp.texts.refusals import need
 from wdp.texts.zero_one import ZeroOne, read_program
 
@@ -17,8 +20,9 @@ if TYPE_CHECKING:
 
 @dataclass(frozen=True)
 class Winner:
-    """A winning bid: the bidder's name, the bid's number in the bidder's form from 1, its amount in whole pounds, and the
-    lots of each category that it wins, without those of which it wins none."""
+    """A winning bid: the bidder's name, the bid's number in the bidder's form from 1, its amount in
+    whole pounds, and the lots of each category that it wins, without those of which it wins none.
+    """
 
     bidder: str
     bid: int
@@ -26,42 +30,18 @@ class Winner:
     lots: Mapping[str, int] = field(default_factory=dict, compare=False)
 
 
-class Table:
-    """What a data frame or a notebook shows as a table, by columns."""
-
-    _caption = ""
-
-    def _columns(self) -> dict[str, list[object]]:
-        raise NotImplementedError
-
-    def to_frame(self) -> pandas.DataFrame:
-        """A data frame: of an allocation a row for each winner, with bidder, bid, amount in pounds, and lots by category; of a
-        report a row for each group, with group, left_out (names joined by `+`, or `-`), total and cost in pounds. Raises
-        Missing without pandas."""
-        need("to_frame", "pandas")
-        import pandas
-
-        return pandas.DataFrame(self._columns())
-
-    def _repr_html_(self) -> str:
-        # (numbers, and names that the program printed, have no sign that HTML reads)
-        columns = self._columns()
-        rows = ["".join(f"<th>{name}</th>" for name in columns)]
-        rows += ["".join(f"<td>{cell}</td>" for cell in row) for row in zip(*columns.values())]
-        lines = "".join(f"<tr>{row}</tr>" for row in rows)
-        return f"<table><caption>{self._caption}</caption>{lines}</table>"
-
-
 @dataclass(frozen=True)
-class Allocation(Table):
-    """Who wins what, in the order of the rules, and the total in pounds: the amounts, and the value of unsold lots."""
+class Allocation(Tabular):
+    """Who wins what, in the order of the rules, and the total in pounds: the amounts, and the value
+    of unsold lots.
+    """
 
     winners: tuple[Winner, ...]
     total: int
 
-    def _columns(self) -> dict[str, list[object]]:
-        named = ("bidder", "bid", "amount")
-        columns = {name: [getattr(winner, name) for winner in self.winners] for name in named}
+    def _columns(self) -> Columns:
+        rows = [(winner.bidder, winner.bid, winner.amount) for winner in self.winners]
+        columns = dict(make_columns(["bidder", "bid", "amount"], rows))
         for name in dict.fromkeys(name for winner in self.winners for name in winner.lots):
             columns[name] = [winner.lots.get(name, 0) for winner in self.winners]
         return columns
@@ -69,8 +49,10 @@ class Allocation(Table):
 
 @dataclass(frozen=True)
 class Group(Allocation):
-    """The outcome of a group: its number from 1, the names of the bidders that are left out, winners, total and opportunity
-    cost in pounds: how much more the others and the value of unsold lots would bring without it."""
+    """The outcome of a group: its number from 1, the names of the bidders that are left out,
+    winners, total and opportunity cost in pounds: how much more the others and the value of unsold
+    lots would bring without it.
+    """
 
     number: int
     names: tuple[str, ...]
@@ -78,14 +60,15 @@ class Group(Allocation):
 
 
 @dataclass(frozen=True)
-class Prices:
-    """What each winner of group 1 pays, by the bidder's name, and their sum: `exact` prices in pounds, and `paid`, each rounded up to
-    whole pounds. It is proved that no group of bidders, listed or not, pays less than its opportunity cost, and that nobody pays
-    less than the reserve.
+class Prices(Tabular):
+    """What each winner of group 1 pays, by the bidder's name, and their sum: `exact` prices in
+    pounds, and `paid`, each rounded up to whole pounds. It is proved that no group of bidders,
+    listed or not, pays less than its opportunity cost, and that nobody pays less than the reserve.
 
-    With `is_by_rule` it is proved, too, that for these winners no lower sum of exact prices does this, and that of such prices
-    these are the nearest, by the sum of squares, to what each winner would pay alone, the greater of its opportunity cost and its
-    reserve."""
+    With `is_by_rule` it is proved, too, that for these winners no lower sum of exact prices does
+    this, and that of such prices these are the nearest, by the sum of squares, to what each winner
+    would pay alone, the greater of its opportunity cost and its reserve.
+    """
 
     paid: Mapping[str, int]
     exact: Mapping[str, Fraction]
@@ -101,15 +84,24 @@ class Prices:
         """The sum of the exact prices."""
         return sum(self.exact.values(), Fraction(0))
 
+    @property
+    def _caption(self) -> str:  # type: ignore[override]
+        return "by the rule" if self.is_by_rule else "not shown to be by the rule"
+
+    def _columns(self) -> Columns:
+        rows = [(name, self.exact[name], price) for name, price in self.paid.items()]
+        return make_columns(["bidder", "exact", "paid"], rows)
+
 
 @dataclass(frozen=True)
-class Report(Table, Sequence[Group]):
-    """The outcome of each group: by its place, or one after the other. `is_certified` is whether certificates showed that
-    each total is the greatest one: without them it is the solver's word.
+class Report(Tabular, Sequence[Group]):
+    """The outcome of each group: by its place, or one after the other. `is_certified` is whether
+    certificates showed that each total is the greatest one: without them it is the solver's word.
 
-    `ties` are other allocations of group 1's total that are known, in the order of the program. `has_all_awards` is whether it is
-    proved that besides these and group 1's own no allocation has so great a total.
-    `prices` are those that the input gave, if it did."""
+    `ties` are other allocations of group 1's total that are known, in the order of the program.
+    `has_all_awards` is whether it is proved that besides these and group 1's own no allocation has
+    so great a total. `prices` are those that the input gave, if it did.
+    """
 
     groups: tuple[Group, ...]
     is_certified: bool = False
@@ -119,7 +111,9 @@ class Report(Table, Sequence[Group]):
 
     @property
     def awards(self) -> tuple[Allocation, ...]:
-        """The allocations of group 1's total that are known, numbered from 1 in this order: its own, and those that tie with it."""
+        """The allocations of group 1's total that are known, numbered from 1 in this order: its
+        own, and those that tie with it.
+        """
         return (*self.groups[:1], *self.ties)
 
     def __len__(self) -> int:
@@ -132,22 +126,26 @@ class Report(Table, Sequence[Group]):
     def _caption(self) -> str:  # type: ignore[override]
         return "certified" if self.is_certified else "not certified"
 
-    def _columns(self) -> dict[str, list[object]]:
-        heads = "group", "left_out", "total", "cost"
-        rows = [(each.number, joined(each.names), each.total, each.cost) for each in self.groups]
-        return {head: [row[at] for row in rows] for at, head in enumerate(heads)}
+    def _columns(self) -> Columns:
+        rows = [
+            (group.number, join_names(group.names), group.total, group.cost)
+            for group in self.groups
+        ]
+        return make_columns(["group", "left_out", "total", "cost"], rows)
 
 
 @dataclass(frozen=True, repr=False)
 class Program:
-    """The 0-1 program of a group: its number from 1, the names of the bidders that are left out, and the text in MPS."""
+    """The 0-1 program of a group: its number from 1, the names of the bidders that are left out,
+    and the text in MPS.
+    """
 
     group: int
     names: tuple[str, ...]
     text: str
 
     def __repr__(self) -> str:
-        size = f"{joined(self.names)} left out, {len(self.text)} bytes"
+        size = f"{join_names(self.names)} left out, {len(self.text)} bytes"
         return f"<wdp.Program of group {self.group}, {size}>"
 
     def matrix(self) -> Matrix:
@@ -157,8 +155,10 @@ class Program:
 
 @dataclass(frozen=True, eq=False)
 class Matrix:
-    """A 0-1 program to be minimised: costs in pounds, minus the nets of the bids, and bounds of the columns; of the rows senses
-    (`L`: at most), right sides in lots, loads or bids, and entries, a row of the matrix each."""
+    """A 0-1 program to be minimised: costs in pounds, minus the nets of the bids, and bounds of the
+    columns; of the rows senses (`L`: at most), right sides in lots, loads or bids, and entries, a
+    row of the matrix each.
+    """
 
     columns: tuple[str, ...]
     costs: tuple[int, ...]
@@ -180,11 +180,21 @@ class Matrix:
             rows=tuple(row.name for row in program.rows),
             senses=tuple(row.kind for row in program.rows),
             right_sides=tuple(row.right_side for row in program.rows),
-            entries=entries_of(program),
+            entries=make_entries(program),
         )
 
+    def to_frame(self) -> pandas.DataFrame:
+        """The entries as a sparse data frame, a row for each row by its name. Raises Missing
+        without pandas.
+        """
+        need("to_frame", "pandas")
+        import pandas
 
-def entries_of(program: ZeroOne) -> scipy.sparse.csr_matrix:
+        make_frame = pandas.DataFrame.sparse.from_spmatrix
+        return make_frame(self.entries, index=list(self.rows), columns=list(self.columns))
+
+
+def make_entries(program: ZeroOne) -> scipy.sparse.csr_matrix:
     """What each column takes of each row; Missing without scipy."""
     need("a matrix", "scipy")
     import numpy as np
@@ -202,7 +212,9 @@ def entries_of(program: ZeroOne) -> scipy.sparse.csr_matrix:
 
 @dataclass(frozen=True)
 class Counts:
-    """The size of a program in MPS: rows without the objective, columns, and entries outside the objective."""
+    """The size of a program in MPS: rows without the objective, columns, and entries outside the
+    objective.
+    """
 
     rows: int
     columns: int
@@ -210,11 +222,22 @@ class Counts:
 
 
 @dataclass(frozen=True)
-class Solutions(Sequence[str]):
-    """A solver's answer to the program of each group, in the order of the groups, as solutions in docs/REFERENCE.md."""
+class Solutions(Tabular, Sequence[str]):
+    """A solver's answer to the program of each group, in the order of the groups, as solutions in
+    docs/REFERENCE.md.
+    """
 
     texts: tuple[str, ...]
     solver: str
+
+    def _columns(self) -> Columns:
+        rows = [
+            (group, *line.split(maxsplit=1))
+            for group, text in enumerate(self.texts, 1)
+            for line in text.splitlines()
+            if line and not line.startswith("#")
+        ]
+        return make_columns(["group", "column", "value"], rows)
 
     def __len__(self) -> int:
         return len(self.texts)
@@ -223,26 +246,10 @@ class Solutions(Sequence[str]):
         return self.texts[place]
 
 
-@dataclass(frozen=True)
-class Certified:
-    """A certified outcome: the report, the solutions that are optimal, and the certificate of each; if asked, the solutions of group
-    1 that tie with the first, and `unique`, the certificate that there are no others, if they aren't too many for an audit; and the
-    audit, an input of which `wdp verify` prints the report. If prices aren't shown to be those of the rule, `limit` says which limit
-    of the formats exact ones are beyond."""
-
-    report: Report
-    solutions: Solutions
-    certificates: tuple[str, ...]
-    unique: str | None
-    ties: tuple[str, ...]
-    audit: bytes = field(repr=False)
-    limit: str | None = None
-
-
-def joined(names: Sequence[str]) -> str:
+def join_names(names: Sequence[str]) -> str:
     """A group's names as the program prints them.
 
-    >>> joined(("Beta", "Gamma")), joined(())
+    >>> join_names(("Beta", "Gamma")), join_names(())
     ('Beta+Gamma', '-')
     """
     return "+".join(names) or "-"

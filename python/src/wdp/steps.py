@@ -16,7 +16,7 @@ import sys
 import time
 import traceback
 from collections.abc import Callable, Collection, Iterator, Mapping
-from contextlib import contextmanager, suppress
+from contextlib import AbstractContextManager, contextmanager, suppress
 from pathlib import Path
 
 _PR_SET_PDEATHSIG = 1
@@ -30,6 +30,7 @@ _NOT_STARTED = 127
 
 Step = Callable[[], int | None]
 Watch = Callable[[int, list[str]], None]
+AtOnce = Callable[[], AbstractContextManager[None]]  # as `end_at_once`
 
 
 def _prctl(option: int, value: int) -> None:

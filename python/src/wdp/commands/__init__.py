@@ -1,1 +1,3 @@
-"""The commands of wdp-office, a module for each: its arguments, and what it does with the library."""
+"""The commands of wdp-office, a module for each: its arguments, and what it does with the
+library.
+"""

@@ -1,8 +1,9 @@
 """Prints everything that is wrong with an auction's input, in words, with file, line and column.
 
-INPUT is one input as wdp reads it, or `-` for standard input; each fault then ends with the line by which wdp refuses it.
-RULES FORMS_DIR [GROUPS] are the files that gather joins, with the same options. If nothing is wrong, --bids prints which bids
-of each form can't be in any program, and why.
+INPUT is one input as wdp reads it, or `-` for standard input; each fault then ends with the line by
+which wdp refuses it.
+RULES FORMS_DIR [GROUPS] are the files that gather joins, with the same options. If nothing is
+wrong, --bids prints which bids of each form can't be in any program, and why.
 
 Exit status: 0 nothing is wrong; 1 something is; 2 the options are wrong.
 """

@@ -1,4 +1,5 @@
-"""Writes a blank form for each bidder of the rules: the first row, with the bidder's name and the categories.
+"""Writes a blank form for each bidder of the rules: the first row, with the bidder's name and the
+categories.
 
 Each bid is a row below it: the amount in whole pounds, and how many lots of each category.
 Exit status: 0 the forms are written; 1 something is wrong; 2 the options are wrong.

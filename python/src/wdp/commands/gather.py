@@ -1,13 +1,15 @@
 """Joins an auction's files into one input of wdp, and prints a receipt of what went into it.
 
-The folder has a .csv, .tsv, .txt or .xlsx file for each bidder. A word of its name is the bidder's name, as in Heron.csv or
-form-heron-2.xlsx. UTF-16, line ends, semicolons and tabs are converted; byte order marks, empty rows, and empty fields at the
-ends of rows are dropped. No value is changed: a number with a comma or a space in it is a fault. One run prints all faults of
-all files, and then writes nothing.
+The folder has a .csv, .tsv, .txt or .xlsx file for each bidder. A word of its name is the bidder's
+name, as in Heron.csv or form-heron-2.xlsx. UTF-16, line ends, semicolons and tabs are converted;
+byte order marks, empty rows, and empty fields at the ends of rows are dropped. No value is changed:
+a number with a comma or a space in it is a fault. One run prints all faults of all files, and then
+writes nothing.
 
-The receipt, on standard error and in the file of --receipt, has each bidder's file with its bids and SHA-256, and that of its
-part of the input, which `wdp forms` prints; the rules as they are understood, the bids that are in no program, and a table of
-which each bidder's row is to be read to the bidder.
+The receipt, on standard error and in the file of --receipt, has each bidder's file with its bids
+and SHA-256, and that of its part of the input, which `wdp forms` prints; the rules as they are
+understood, the bids that are in no program, and a table of which each bidder's row is to be read to
+the bidder.
 Exit status: 0 the input is written; 1 something is wrong; 2 the options are wrong.
 """
 import argparse

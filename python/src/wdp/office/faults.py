@@ -65,7 +65,9 @@ def format_total(faults: Iterable[Fault]) -> str:
 
 
 def suggest_name(value: str, names: Iterable[str]) -> str:
-    """What a message says of the name that is nearest to an unknown one; nothing if none is near."""
+    """What a message says of the name that is nearest to an unknown one; nothing if none is
+    near.
+    """
     by_letters = {name.lower(): name for name in names}
     near = get_close_matches(value.strip().lower(), by_letters, n=1, cutoff=0.5)
     return f"; the nearest name is {by_letters[near[0]]}" if near else ""

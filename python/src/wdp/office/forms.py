@@ -119,7 +119,9 @@ class FormFolder:
             self.unread += _find_bidders(path, self.rules.bidders)
 
     def _guess_bidders(self, path: str) -> Sequence[str]:
-        """The bidders whose form a file may be that isn't read: those whom its name names, or all."""
+        """The bidders whose form a file may be that isn't read: those whom its name names, or
+        all.
+        """
         return _find_bidders(path, self.rules.bidders) or self.rules.bidders
 
     def _read_form(self, path: str) -> File:

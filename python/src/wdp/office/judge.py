@@ -3,6 +3,7 @@ import re
 from collections import defaultdict
 from dataclasses import dataclass, field
 
+from wdp.frames import Columns, Tabular, make_columns
 from wdp.office.faults import decode_escapes, quote
 from wdp.program import Limits, run_process
 from wdp.texts.refusals import Refused
@@ -38,7 +39,7 @@ class Finding:
 
 
 @dataclass(frozen=True)
-class Explained:
+class Explained(Tabular):
     """All faults in order, and how many more are counted; if there is none, of each bid in no
     program the bidder and why.
     """
@@ -46,6 +47,22 @@ class Explained:
     findings: list[Finding] = field(default_factory=list)
     more: int = 0
     left_out: list[tuple[str, str]] = field(default_factory=list)
+
+    def _columns(self) -> Columns:
+        if self.left_out:
+            return make_columns(["bidder", "why"], self.left_out)
+        rows = [
+            (
+                finding.refused.part,
+                finding.refused.number,
+                finding.refused.kind,
+                finding.refused.record or finding.refused.line,
+                finding.field,
+                finding.cause,
+            )
+            for finding in self.findings
+        ]
+        return make_columns(["part", "number", "kind", "record", "field", "cause"], rows)
 
     def by_part(self) -> defaultdict[PartKey, list[Finding]]:
         """The findings of each part, in their order."""

@@ -49,6 +49,7 @@ _CAUSES = {
     "EmptyLine": "the line is empty; the group of nobody is written -",
     "CallLimit": "a bidder has at most 1,000 forms",
 }
+_NumberedRows = dict[int | str | None, TableRow]  # by the `at` of a refusal
 _SEPARATORS = {";": "semicolons", "\t": "tabs", "|": "bars", ",": "commas"}
 
 
@@ -130,29 +131,36 @@ def make_faults(
     them, have one. The part has these rows of the file, in which it begins at `head`.
     """
     by_number = _pick_rows(findings, rows)
-    width = len(by_number[1].values) if by_number else 0
-    groups: dict[object, list[Finding]] = {}  # those of rows that are alike are one
-    for number, finding in enumerate(findings):
-        alike = _describe_alike(finding, by_number.get(finding.refused.at), width)
-        groups.setdefault(alike or number, []).append(finding)
     faults = []
-    for key, group in groups.items():
+    for alike, group in _group_alike(findings, by_number):
         first = group[0]
         row = by_number.get(first.refused.at)
         place = path + head
         if row and first.refused.kind not in ("NoCategory", "NoBidder"):
             place = f"{path}:{row.place((first.field or 1) - 1)}"
-        if isinstance(key, _Alike):
-            text = key.describe({by_number[finding.refused.at].line for finding in group})
-        else:
+        if alike is None:
             text = _describe(first, row, bidders)
+        else:
+            text = alike.describe({by_number[finding.refused.at].line for finding in group})
         faults.append(Fault(place, text, refusal=first.refusal))
     return faults
 
 
-def _pick_rows(
-    findings: Sequence[Finding], rows: Iterable[TableRow]
-) -> dict[int | str | None, TableRow]:
+def _group_alike(
+    findings: Sequence[Finding], rows: _NumberedRows
+) -> list[tuple[_Alike | None, list[Finding]]]:
+    """The findings in their order, each in a group of its own but for those that are alike, and
+    what is said of these.
+    """
+    width = len(rows[1].values) if rows else 0
+    groups: dict[_Alike | int, list[Finding]] = {}
+    for number, finding in enumerate(findings):
+        alike = _describe_alike(finding, rows.get(finding.refused.at), width)
+        groups.setdefault(alike or number, []).append(finding)
+    return [(key if isinstance(key, _Alike) else None, group) for key, group in groups.items()]
+
+
+def _pick_rows(findings: Sequence[Finding], rows: Iterable[TableRow]) -> _NumberedRows:
     """The first row and those that findings are about, by their numbers from 1."""
     numbers = {1} | {each.refused.at for each in findings if isinstance(each.refused.at, int)}
     numbered = enumerate(islice(rows, max(numbers)), 1)

@@ -114,6 +114,11 @@ class Groups:
         return format_groups(self.rows)
 
 
+def read_groups_file(path: str, *, regular: bool = True) -> File:
+    """The lines of a file of groups. Raises Unreadable."""
+    return parse_lines(path, read(path, MOST_OF_A_FILE, regular=regular))
+
+
 def read_groups(rule: Sequence[str], bidders: Sequence[str], allowed: Collection[str]) -> Groups:
     """The groups of a file, or those of a rule: `each`, or `winners FILE`.
 
@@ -129,7 +134,7 @@ def read_groups(rule: Sequence[str], bidders: Sequence[str], allowed: Collection
             raise Unreadable(path, _NO_WINNERS)
         winners = [line.split()[0] for line in report[1].splitlines()]
         return Groups(_make_alone(winners), file=File(path, data, changes=["each winner alone"]))
-    file = parse_lines(path, read(path, MOST_OF_A_FILE))
+    file = read_groups_file(path, regular=False)
     groups = Groups(file=file, faults=check_end(file, "groups", allowed, what="line"))
     if not file.rows or file.rows[0].values != ["-"]:
         groups.faults.append(Fault(f"{path}:1", _NOBODY_FIRST))

@@ -22,10 +22,10 @@ if TYPE_CHECKING:
 Text: TypeAlias = str | bytes
 # a record, by its fields in order or by their names
 Record: TypeAlias = Sequence[object] | Mapping[str, object]
-Table: TypeAlias = "Iterable[Record] | pandas.DataFrame"
-Rules: TypeAlias = "Text | Table"
+Rows: TypeAlias = "Iterable[Record] | pandas.DataFrame"
+Rules: TypeAlias = "Text | Rows"
 # a form is its text, or a bidder's name with its bids; or one table has all bids
-Forms: TypeAlias = "Iterable[Text | tuple[str, Table] | Mapping[str, object]] | pandas.DataFrame"
+Forms: TypeAlias = "Iterable[Text | tuple[str, Rows] | Mapping[str, object]] | pandas.DataFrame"
 Groups: TypeAlias = "Text | Iterable[str | Iterable[str]] | pandas.DataFrame | None"
 Solution: TypeAlias = Text | Mapping[str, object]
 
@@ -43,7 +43,7 @@ _MOST_EXACT = 2**53  # floating point has each whole number up to this one
 
 
 @dataclass(frozen=True)
-class Location:
+class _Location:
     """The place of a value in an argument, for a message and for the exception; rows are counted
     from 0, as in Python.
     """
@@ -138,12 +138,12 @@ def is_list(value: object) -> bool:
     return isinstance(value, Iterable) and not isinstance(value, (str, bytes, Mapping, Set))
 
 
-def format_value(value: object, location: Location) -> str:
+def _format_value(value: object, location: _Location) -> str:
     """A value as a field has it: a text unchanged, a whole number in digits, nothing for a blank
     value. WrongArgument for everything else: nothing is rounded.
 
-    >>> format_value(30, Location("")), format_value(30.0, Location("")), format_value(None, Location(""))
-    ('30', '30', '')
+    >>> [_format_value(value, _Location("")) for value in (30, 30.0, None)]
+    ['30', '30', '']
     """
     if isinstance(value, str):
         if "\n%" in value:
@@ -191,7 +191,7 @@ def format_whole(number: int, name: str) -> str:
         raise WrongArgument(f"{name}: {why}") from None
 
 
-def _list_records(table: Any, location: Location, columns: Sequence[str] = ()) -> list[object]:
+def _list_records(table: Any, location: _Location, columns: Sequence[str] = ()) -> list[object]:
     """A list of records, or the rows of a data frame by the names of its columns, which these have
     to be among.
     """
@@ -210,12 +210,16 @@ def _list_records(table: Any, location: Location, columns: Sequence[str] = ()) -
     return list(table)
 
 
-def _format_values(record: Any, location: Location) -> list[str]:
-    """The fields of a record that has no names for them."""
+def _format_values(record: Any, location: _Location, columns: Sequence[str] = ()) -> list[str]:
+    """The fields of a record that has no names for them; messages name the first ones by these."""
     if not is_list(record):
         why = f"a tuple, a list or a dict is asked for, and this is {_describe_type(record)}"
         raise location.refuse(why)
-    fields = [format_value(value, location) for value in record]
+    fields = []
+    for index, value in enumerate(record):
+        is_named = index < len(columns)
+        place = replace(location, column=columns[index]) if is_named else location
+        fields.append(_format_value(value, place))
     if not fields:
         raise location.refuse("it is empty")
     return fields
@@ -229,25 +233,27 @@ def format_rules(rules: Rules) -> Text:
     if isinstance(rules, (str, bytes)):
         return rules
     records = [
-        _format_rules_record(record, Location(f"rules, record {number}"))
-        for number, record in enumerate(_list_records(rules, Location("rules")), 1)
+        _format_rules_record(record, _Location(f"rules, record {number}"))
+        for number, record in enumerate(_list_records(rules, _Location("rules")), 1)
     ]
     width = 5 if records and records[0][1:2] == ["1"] else 6
     return "".join(format_record(fields + [""] * (width - len(fields))) for fields in records)
 
 
-def _format_rules_record(record: object, location: Location) -> list[str]:
+def _format_rules_record(record: object, location: _Location) -> list[str]:
     if not isinstance(record, Mapping):
-        return _format_values(record, location)
+        first = record[0] if isinstance(record, Sequence) and record else None
+        names = _FIELDS.get(first, ()) if isinstance(first, str) else ()
+        return _format_values(record, location, columns=("record", *names))
     kind = record.get("record")
     if not isinstance(kind, str) or kind not in _FIELDS:
         why = f"'record' is to be {', '.join(_FIELDS)}, and is {show_value(kind)}"
         raise location.refuse(why)
     for name, value in record.items():
-        if name not in ("record", *_FIELDS[kind]) and format_value(value, location):
+        if name not in ("record", *_FIELDS[kind]) and _format_value(value, location):
             raise location.refuse(f"a record {kind} has no field {show_value(name)}")
     fields = [
-        format_value(record.get(name), replace(location, column=name)) for name in _FIELDS[kind]
+        _format_value(record.get(name), replace(location, column=name)) for name in _FIELDS[kind]
     ]
     if kind == "category" and not fields[-1]:
         fields.pop()
@@ -266,12 +272,14 @@ def make_forms(forms: Forms, rules: Text, missing_as_zero: bool = False) -> list
     # wrongly)
     text = encode_text(rules, "rules").decode("utf-8", "replace").removeprefix(BYTE_ORDER_MARK)
     names = list_names(Records(text), "category")
-    records = _list_records(forms, Location("forms"), columns=("amount", *names))
+    records = _list_records(forms, _Location("forms"), columns=("amount", *names))
     bids = [record for record in records if isinstance(record, Mapping) and "bids" not in record]
     if bids and len(bids) == len(records):
         records = list(_group_by_bidder(bids).items())
     return [
-        _make_form(form, Location(f"form {number}", number), names, missing_as_zero=missing_as_zero)
+        _make_form(
+            form, _Location(f"form {number}", number), names, missing_as_zero=missing_as_zero
+        )
         for number, form in enumerate(records, 1)
     ]
 
@@ -297,19 +305,21 @@ def _read_first_field(text: Text) -> str | None:
 
 
 def _group_by_bidder(rows: Sequence[Mapping[str, object]]) -> dict[str, dict[int, object]]:
-    """The bids of each bidder by their places in a table, in the order of the bidders' first bids."""
+    """The bids of each bidder by their places in a table, in the order of the bidders' first
+    bids.
+    """
     forms: defaultdict[str, dict[int, object]] = defaultdict(dict)
     for place, row in enumerate(rows):
-        location = Location(f"forms, row {place + 1}", row=place)
+        location = _Location(f"forms, row {place}", row=place)
         if "bidder" not in row:
             raise location.refuse("there is no 'bidder'")
         bid = {name: value for name, value in row.items() if name != "bidder"}
-        forms[format_value(row["bidder"], location)][place] = bid
+        forms[_format_value(row["bidder"], location)][place] = bid
     return forms
 
 
 def _make_form(
-    form: object, location: Location, names: Sequence[str], *, missing_as_zero: bool
+    form: object, location: _Location, names: Sequence[str], *, missing_as_zero: bool
 ) -> Form:
     """A form, of which `names` are those of the categories."""
     if isinstance(form, (str, bytes)):
@@ -320,22 +330,24 @@ def _make_form(
     bidder, bids = pair
     columns = ["amount", *names]
     location = replace(location, bidder=bidder)
-    if not isinstance(bids, Mapping):  # by their places, as those of a table
+    is_of_table = isinstance(bids, Mapping)  # (which has them by their places)
+    if not is_of_table:
         bids = dict(enumerate(_list_records(bids, location, columns)))
     records = [[bidder, *names]]
     for number, (place, bid) in enumerate(bids.items(), 1):
-        of_bid = replace(location, text=f"{location.text}, bid {number}", row=place)
+        name = f"row {place}" if is_of_table else f"bid {number}"
+        of_bid = replace(location, text=f"{location.text}, {name}", row=place)
         records.append(_format_bid(bid, names, of_bid, missing_as_zero=missing_as_zero))
     text = "".join(map(format_record, records))
     return Form(text, bidder=bidder, rows=list(bids), columns=columns)
 
 
 def _format_bid(
-    bid: object, names: Sequence[str], location: Location, *, missing_as_zero: bool
+    bid: object, names: Sequence[str], location: _Location, *, missing_as_zero: bool
 ) -> list[str]:
     """The fields of a bid's record."""
     if not isinstance(bid, Mapping):
-        return _format_values(bid, location)
+        return _format_values(bid, location, columns=("amount", *names))
     if {"amount", "bidder"}.intersection(names):
         why = "a category is called amount or bidder, so that bids have to be tuples"
         raise location.refuse(why)
@@ -347,7 +359,7 @@ def _format_bid(
         if name not in bid and (name == "amount" or not missing_as_zero):
             hint = "" if name == "amount" else "; missing_as_zero=True has it count as 0"
             raise location.refuse(f"there is no {show_value(name)}{hint}", column=name)
-    return [format_value(bid.get(name, 0), replace(location, column=name)) for name in columns]
+    return [_format_value(bid.get(name, 0), replace(location, column=name)) for name in columns]
 
 
 def format_groups(groups: Groups) -> Text:
@@ -362,7 +374,7 @@ def format_groups(groups: Groups) -> Text:
         return "-\n"
     if isinstance(groups, (str, bytes)):
         return groups
-    records = enumerate(_list_records(groups, Location("groups")), 1)
+    records = enumerate(_list_records(groups, _Location("groups")), 1)
     return "".join(_format_group(group, f"groups, line {number}") for number, group in records)
 
 

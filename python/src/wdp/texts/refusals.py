@@ -4,7 +4,7 @@ this package.
 import importlib
 import re
 
-LONGEST_TEXT = 500  # characters of a text that a message shows
+_LONGEST_TEXT = 500  # characters of a text that a message shows
 
 # a refusal with a kind: a part, its number if there are several, the kind, and the place
 _WITH_KIND = re.compile(
@@ -32,7 +32,7 @@ _IN_WORDS = re.compile(
 
 def escape(text: str) -> str:
     """The text as one line of at most 500 characters, in which what can't be printed is escaped."""
-    return escape_unprintable(shorten(text, LONGEST_TEXT))
+    return escape_unprintable(shorten(text, _LONGEST_TEXT))
 
 
 def shorten(text: str, most: int) -> str:
@@ -73,8 +73,10 @@ class Refused(ValueError):
       is about one cell
 
     >>> refused = Refused("wdp: form 1: 13 RepeatedPackage at record 4, earlier bid 2")
-    >>> refused.part, refused.number, refused.kind_number, refused.kind, refused.record, refused.field
-    ('form', 1, 13, 'RepeatedPackage', 4, 2)
+    >>> refused.part, refused.number, refused.record, refused.field
+    ('form', 1, 4, 2)
+    >>> refused.kind_number, refused.kind
+    (13, 'RepeatedPackage')
     >>> Refused("wdp: solution 1: 8 RowBroken at row B1").at
     'B1'
     """

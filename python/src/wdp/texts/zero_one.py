@@ -70,11 +70,11 @@ class ZeroOne:
     def column_places(self) -> dict[str, int]:
         return {column.name: place for place, column in enumerate(self.columns)}
 
-    def objective(self, ones: Iterable[int]) -> int:
+    def compute_objective(self, ones: Iterable[int]) -> int:
         """The objective if the columns at these places are 1 and all others are 0."""
         return sum(self.columns[place].cost for place in ones)
 
-    def fault_of(self, ones: Set[int]) -> str | None:
+    def find_fault(self, ones: Set[int]) -> str | None:
         """The first bound or row that these columns at 1 break, or None."""
         for place, column in enumerate(self.columns):
             if not column.lower <= (place in ones) <= column.upper:
@@ -95,7 +95,7 @@ def read_program(text: bytes) -> ZeroOne:
     Unclear if the text is cut off.
     """
     with suppress(KeyError, ValueError):
-        return FastReader(text).program()
+        return FastReader(text).read()
     reader = _MpsReader()
     section = ""
     with suppress(KeyError, ValueError):
@@ -133,13 +133,13 @@ class _MpsReader:
                 pass
             case "COLUMNS", [name, *entries]:
                 column = self.columns.get(name) or self.columns.setdefault(name, Column(name))
-                for row, number in self.numbers(entries):
+                for row, number in self.read_numbers(entries):
                     if row == _OBJECTIVE:
                         column.cost = number
                     elif row >= 0 and number:
                         column.entries.append((row, number))
             case "RHS", _:  # an odd number of fields begins with the name of a set
-                for row, number in self.numbers(fields[len(fields) % 2 :]):
+                for row, number in self.read_numbers(fields[len(fields) % 2 :]):
                     if row >= 0:
                         self.rows[row].right_side = number
             case "BOUNDS", ["BV", name] | ["BV", _, name, *_]:
@@ -151,7 +151,7 @@ class _MpsReader:
                 if kind != "LO":
                     self.columns[name].upper = _parse_whole(number)
 
-    def numbers(self, fields: list[str]) -> Iterator[tuple[int, int]]:
+    def read_numbers(self, fields: list[str]) -> Iterator[tuple[int, int]]:
         """The places of the rows that fields name, each with the number that follows."""
         for name, number in zip(fields[::2], fields[1::2], strict=True):
             yield self.row_places[name], _parse_whole(number)
@@ -181,14 +181,15 @@ class FastReader:
         self.row_places: dict[bytes, int] = {}
         self.entries: dict[tuple[bytes, bytes], tuple[int, int]] = {}
 
-    def program(self) -> ZeroOne:
-        self.read_rows()
-        columns = list(self.read_columns())
-        self.read_right_sides()
-        self.read_bounds(columns)
+    def read(self) -> ZeroOne:
+        """The program of the text."""
+        self._read_rows()
+        columns = list(self._read_columns())
+        self._read_right_sides()
+        self._read_bounds(columns)
         return ZeroOne(self.rows, columns)
 
-    def match(self, pattern: re.Pattern[bytes]) -> re.Match[bytes] | None:
+    def _match(self, pattern: re.Pattern[bytes]) -> re.Match[bytes] | None:
         """What matches a pattern next, after which the reading goes on; None if that is something
         else.
         """
@@ -197,28 +198,28 @@ class FastReader:
             self.position = match.end()
         return match
 
-    def read_section(self, pattern: re.Pattern[bytes]) -> list[bytes]:
+    def _read_section(self, pattern: re.Pattern[bytes]) -> list[bytes]:
         """The fields of a section."""
-        match = self.match(pattern)
+        match = self._match(pattern)
         if match is None:
             raise ValueError("another text")
         return match[1].split()
 
-    def read_rows(self) -> None:
-        fields = self.read_section(_ROWS)
+    def _read_rows(self) -> None:
+        fields = self._read_section(_ROWS)
         for kind, name in zip(fields[::2], fields[1::2], strict=True):
             self.row_places[name] = len(self.rows)
             self.rows.append(Row(name.decode("ascii"), kind.decode("ascii")))
 
-    def read_columns(self) -> Iterator[Column]:
-        while match := self.match(_COLUMN):
+    def _read_columns(self) -> Iterator[Column]:
+        while match := self._match(_COLUMN):
             name, cost, lines = match.groups()
             fields = lines.split()
             pairs = zip(fields[1::3], fields[2::3], strict=True)
-            entries = [self.entries.get(pair) or self.read_entry(pair) for pair in pairs]
+            entries = [self.entries.get(pair) or self._read_entry(pair) for pair in pairs]
             yield Column(name.decode("ascii"), int(cost), entries)
 
-    def read_entry(self, pair: tuple[bytes, bytes]) -> tuple[int, int]:
+    def _read_entry(self, pair: tuple[bytes, bytes]) -> tuple[int, int]:
         """An entry by the name of its row and its coefficient."""
         name, number = pair
         coefficient = int(number)
@@ -226,15 +227,15 @@ class FastReader:
             raise ValueError("an entry without a coefficient")
         return self.entries.setdefault(pair, (self.row_places[name], coefficient))
 
-    def read_right_sides(self) -> None:
-        fields = self.read_section(_RIGHT_SIDES)
+    def _read_right_sides(self) -> None:
+        fields = self._read_section(_RIGHT_SIDES)
         for name, number in zip(fields[1::3], fields[2::3], strict=True):
             self.rows[self.row_places[name]].right_side = int(number)
 
-    def read_bounds(self, columns: list[Column]) -> None:
+    def _read_bounds(self, columns: list[Column]) -> None:
         """The bound of each column, in their order."""
         for column in columns:
-            match = self.match(_BOUND)
+            match = self._match(_BOUND)
             if match is None or match[2].decode("ascii") != column.name:
                 raise ValueError("another text")
             column.upper = int(match[3])
@@ -289,7 +290,7 @@ def read_solution(text: bytes, program: ZeroOne, source: str) -> set[int]:
             except ValueError as fault:
                 raise Refused(f"{source}: line {number}: {fault}") from None
     ones = {place for place, is_one in values.items() if is_one}
-    if broken := program.fault_of(ones):
+    if broken := program.find_fault(ones):
         raise Refused(f"{source}: {broken}")
     return ones
 

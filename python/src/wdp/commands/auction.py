@@ -1,0 +1,197 @@
+"""Takes an auction from its input to winners, opportunity costs, prices and a page; a folder keeps
+what is done.
+
+The certificates decide: if a solver's answer isn't the best one, the search for its certificate
+finds a better one.
+"""
+import argparse
+import os
+from functools import partial
+from pathlib import Path
+
+from wdp import certify, files, solve, steps
+from wdp.commands.arguments import (
+    add_solver_options,
+    make_line_type,
+    make_type,
+    parse_award_number,
+)
+from wdp.folder import Folder
+from wdp.program import find_program
+from wdp.reporter import ConsoleReporter
+from wdp.runs.contents import Goals
+from wdp.runs.means import Means
+from wdp.runs.places import (
+    AWARDS,
+    name_temporary_folder,
+    run_in_folder,
+    run_step_in_folder,
+    run_without_folder,
+)
+from wdp.runs.reports import REPORT, UNCERTIFIED, Page
+from wdp.runs.run import Run
+from wdp.texts.parts import MOST_OF_INPUT
+from wdp.texts.refusals import WrongArgument
+
+_EPILOG = """Exit status: 0 everything is there; 1 something is refused or missing, and the next run
+goes on from there; 2 the options are wrong; 3 without certificates, figures that contradict each
+other."""
+_MOST_JOBS = 1000
+
+
+def add_shared_arguments(parser: argparse.ArgumentParser) -> None:
+    """Adds the arguments that `auction` and `prices` have in common."""
+    add_solver_options(parser)
+    parser.add_argument(
+        "--jobs",
+        type=make_type("number of jobs, 1 to 1000,", int, lambda jobs: 1 <= jobs <= _MOST_JOBS),
+        default=len(os.sched_getaffinity(0)),
+        metavar="N",
+        help="how many groups are done at a time; by default one per processor",
+    )
+    parser.add_argument(
+        "--quiet",
+        action="store_true",
+        help="print what fails and how the run ends, but no progress",
+    )
+
+
+def add_arguments(parser: argparse.ArgumentParser) -> None:
+    """Adds the arguments of the command."""
+    parser.epilog = _EPILOG
+    streams = "the input comes from standard input, and the report goes to standard output"
+    parser.add_argument(
+        "folder",
+        metavar="DIR",
+        nargs="?",
+        type=Path,
+        help=f"the folder that keeps what is done; without it {streams}",
+    )
+    parser.add_argument(
+        "--input",
+        metavar="FILE",
+        help="the input, which is copied to DIR/input.txt; `-` is standard input",
+    )
+    add_shared_arguments(parser)
+    _add_goals(parser)
+    parser.add_argument("--title", type=make_line_type("title"), help="the page's heading")
+    parser.add_argument(
+        "--currency",
+        type=make_line_type("currency"),
+        metavar="UNIT",
+        help="the unit of all amounts, such as GBP",
+    )
+    parser.add_argument(
+        "--step",
+        metavar="STEP",
+        help="one step alone, as Snakemake runs them: programs, a group's number, prices or report",
+    )
+
+
+def _add_goals(parser: argparse.ArgumentParser) -> None:
+    """Adds the arguments that say what is found."""
+    parser.add_argument(
+        "--ties",
+        dest="finds_ties",
+        action="store_true",
+        help="find all who can win with the total of group 1, and prove that nobody else can",
+    )
+    award = f"make award N of those the first, with prices of its own, in DIR/{AWARDS}/N"
+    parser.add_argument(
+        "--award",
+        dest="award_number",
+        type=parse_award_number,
+        metavar="N",
+        help=f"--ties, and {award}",
+    )
+    parser.add_argument(
+        "--no-prices",
+        dest="is_priced",
+        action="store_false",
+        help="leave out what the winners pay",
+    )
+    says = "report what the solver says, without certificates and prices"
+    parser.add_argument(
+        "--no-certify",
+        dest="is_certified",
+        action="store_false",
+        help=f"{says}: DIR/{UNCERTIFIED}",
+    )
+
+
+def make_run(
+    options: argparse.Namespace,
+    goals: Goals,
+    *,
+    folder: Path | None,
+    page: Page | None,
+    reporter: ConsoleReporter,
+) -> Run:
+    """What the options ask for, in a folder or a temporary one; Refused before the work begins if
+    something is missing.
+    """
+    program = find_program(options.program)
+    solver = solve.find_solver(options.solver)
+    if goals.is_certified:
+        certify.check_libraries()
+    means = Means(
+        program=program,
+        solver=solver,
+        seconds=options.time_limit,
+        workers=options.jobs,
+        reporter=reporter,
+        at_once=steps.end_at_once,
+    )
+    return Run(
+        folder=Folder(folder or name_temporary_folder()),
+        goals=goals,
+        means=means,
+        jobs=options.jobs,
+        page=page,
+    )
+
+
+def _check_arguments(options: argparse.Namespace) -> None:
+    """Raises WrongArgument if the options don't go together."""
+    if (options.finds_ties or options.award_number) and not options.is_certified:
+        raise WrongArgument("--ties needs certificates, and --no-certify makes none")
+    if options.award_number and (options.step or not options.folder):
+        raise WrongArgument("--award goes with DIR, and not with --step")
+
+
+def _needs_folder(options: argparse.Namespace) -> bool:
+    """Whether the options ask for what only a folder that stays can have."""
+    has_file = options.input not in (None, "-")
+    return bool(options.step or has_file or options.title or options.currency)
+
+
+def run(options: argparse.Namespace) -> int:
+    """Does what isn't done yet of an auction; the status."""
+    _check_arguments(options)
+    goals = Goals(
+        is_certified=options.is_certified,
+        finds_ties=options.finds_ties or options.award_number is not None,
+        is_priced=options.is_certified and options.is_priced,
+    )
+    whole = make_run(
+        options,
+        goals,
+        folder=options.folder,
+        page=Page(options.title, options.currency) if options.folder else None,
+        reporter=ConsoleReporter(command="auction", is_quiet=options.quiet),
+    )
+    if not options.folder:
+        if _needs_folder(options):
+            raise WrongArgument("--input FILE, --title, --currency and --step go with DIR")
+        name = REPORT if goals.is_certified else UNCERTIFIED
+        return run_without_folder(whole, partial(_take_standard_input, whole), name=name)
+    data = files.read(options.input, MOST_OF_INPUT) if options.input else None
+    if data is not None:
+        options.folder.mkdir(parents=True, exist_ok=True)
+    if options.step:
+        return run_step_in_folder(whole, options.step)
+    return run_in_folder(whole, data, award=options.award_number or 1)
+
+
+def _take_standard_input(run_of_input: Run) -> None:
+    run_of_input.folder.take_input(files.read("-", MOST_OF_INPUT))

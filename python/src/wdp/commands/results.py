@@ -1,0 +1,108 @@
+"""Makes what can be published of an auction: tables as CSV and JSON, and an HTML page that loads
+nothing.
+
+INPUT is the auction's input, without solutions, and REPORT is what `wdp report` printed; wdp has to
+print it again from the winners in it. DIR gets bidders.csv, categories.csv, pools.csv, groups.csv,
+results.json and results.html, all or none of them. --text prints the same tables for people, with
+or without these files.
+
+--audit takes what `wdp verify` reads. It must end with INPUT, and wdp must print REPORT from it.
+Then each total is certified, what wdp prints after REPORT of prices and of other winners is proved,
+and DIR also gets audit.txt, with which anyone can repeat the audit. Nothing else certifies a
+result.
+
+--drawn N publishes award N of those that tie, if it was drawn, with an audit in which it comes
+first.
+Exit status: 0 the files are written; 1 a text is refused or a package is missing; 2 the options are
+wrong.
+"""
+import argparse
+
+from wdp.audits import MOST_OF_AUDIT
+from wdp.commands.arguments import make_line_type, parse_award_number, parse_path
+from wdp.files import put, read, tell
+from wdp.program import find_program
+from wdp.publish.judging import AuditSource, Source, Sources
+from wdp.publish.making import make_results
+from wdp.publish.names import TITLE, PageOptions
+from wdp.publish.sentences import describe_certificates
+from wdp.texts.parts import MOST_OF_INPUT
+from wdp.texts.refusals import WrongArgument
+
+
+def add_arguments(parser: argparse.ArgumentParser) -> None:
+    """Adds the arguments of the command."""
+    parser.add_argument("input", metavar="INPUT")
+    parser.add_argument("report", metavar="REPORT")
+    parser.add_argument(
+        "--output",
+        metavar="DIR",
+        type=parse_path,
+        help="a folder for these files and no others",
+    )
+    parser.add_argument(
+        "--text", action="store_true", help="print the tables, with aligned columns"
+    )
+    parser.add_argument(
+        "--title", type=make_line_type("title"), default=TITLE, help="the page's heading"
+    )
+    parser.add_argument(
+        "--currency",
+        type=make_line_type("currency"),
+        metavar="UNIT",
+        help="the unit of all amounts, such as GBP",
+    )
+    parser.add_argument(
+        "--names",
+        metavar="FILE",
+        type=parse_path,
+        help="a file with a row `code,name` for each bidder or category that has another name",
+    )
+    parser.add_argument(
+        "--audit", metavar="FILE", help="what `wdp verify` reads, with INPUT at its end"
+    )
+    parser.add_argument(
+        "--drawn",
+        type=parse_award_number,
+        metavar="N",
+        help="publish this award of those that tie, since it was drawn",
+    )
+
+
+def _check_arguments(options: argparse.Namespace) -> None:
+    """Raises WrongArgument if the options don't go together."""
+    if options.output is None and not options.text:
+        raise WrongArgument("one of these options is needed: --output DIR, --text")
+    if options.drawn is not None and not options.audit:
+        raise WrongArgument("--drawn needs --audit, which has the award that was drawn")
+
+
+def _read_sources(options: argparse.Namespace) -> Sources:
+    """Reads the files that results are made of."""
+    data = read(options.input, MOST_OF_INPUT)
+    report = read(options.report, MOST_OF_INPUT)
+    audit = None
+    if options.audit:
+        text = read(options.audit, MOST_OF_AUDIT)
+        audit = AuditSource(text, name=options.audit, drawn=options.drawn)
+    return Sources(
+        input=Source(data, name=options.input),
+        report=Source(report, name=options.report),
+        audit=audit,
+    )
+
+
+def run(options: argparse.Namespace) -> int:
+    """Makes the results, and writes and prints what is asked for; the status."""
+    _check_arguments(options)
+    sources = _read_sources(options)
+    page = PageOptions(title=options.title, currency=options.currency, names_path=options.names)
+    results = make_results(find_program(options.program), sources, page)
+    if options.output is not None:
+        count = results.write_files(options.output)
+        tell(f"results: {count} files in {options.output}\n")
+    if options.text:
+        put(results.format_text().encode())
+    elif not results.figures.certified:
+        tell(f"results: {describe_certificates(results.figures)}\n")
+    return 0

@@ -1,0 +1,78 @@
+"""A certified outcome of an auction, and the pages that are made of it."""
+from __future__ import annotations
+
+import os
+from dataclasses import dataclass, field
+
+from wdp.program import StrPath
+from wdp.publish.judging import AuditSource, Source, Sources, judge
+from wdp.publish.making import make_results
+from wdp.publish.names import LONGEST, TITLE, PageOptions, is_line
+from wdp.results import Report, Solutions
+from wdp.runs.contents import format_parts
+from wdp.texts.parts import list_groups
+from wdp.texts.refusals import WrongArgument
+
+
+@dataclass(frozen=True)
+class Outcome:
+    """A certified outcome: the report, the solutions that are optimal, and the certificate of each.
+
+    If asked, `ties` are the solutions of group 1 that tie with the first, and `unique` is the
+    certificate that there are no others, if they aren't too many for an audit. `audit` is an input
+    of which `wdp verify` prints the report. If prices aren't shown to be those of the rule, `limit`
+    says which limit of the formats exact ones are beyond.
+
+    `input` is the auction's input, without the groups that prices add, and `program` the path of
+    the program that judged it.
+    """
+
+    report: Report
+    solutions: Solutions
+    certificates: tuple[str, ...]
+    unique: str | None
+    ties: tuple[str, ...]
+    audit: bytes = field(repr=False)
+    input: bytes = field(repr=False)
+    program: str = field(repr=False, compare=False)
+    limit: str | None = None
+
+    def write_page(
+        self,
+        folder: StrPath,
+        *,
+        title: str | None = None,
+        currency: str | None = None,
+        names: StrPath | None = None,
+    ) -> None:
+        """Writes what can be published into a folder, as `wdp-office results` does: an HTML page
+        that loads nothing, tables as CSV and JSON, and the audit, with which anyone can repeat it.
+
+        `title` is the page's heading, `currency` the unit of all amounts, and `names` a file with a
+        row `code,name` for each bidder or category that has another name. The folder must be new,
+        or have only files of an earlier page. Raises Refused if a file isn't written or can't be
+        read, WrongArgument for a title or currency that isn't a line, and Missing without jinja2.
+        """
+        for name, text in (("title", title), ("currency", currency)):
+            _check_line(name, text)
+        count = len(list_groups(self.input))
+        solutions = [text.encode() for text in self.solutions.texts[:count]]
+        data = format_parts("solution", solutions) + self.input
+        sources = Sources(
+            input=Source(self.input, name="the input"),
+            report=Source(judge(self.program, "report", data).printed, name="the report"),
+            audit=AuditSource(self.audit, name="the audit"),
+        )
+        options = PageOptions(
+            title=title or TITLE,
+            currency=currency,
+            names_path=None if names is None else os.fsdecode(names),
+        )
+        make_results(self.program, sources, options).write_files(os.fsdecode(folder))
+
+
+def _check_line(name: str, text: str | None) -> None:
+    """Raises WrongArgument if a text is no line for the page."""
+    longest = LONGEST[name]
+    if text is not None and not is_line(text, longest):
+        raise WrongArgument(f"{name}: a text of 1 to {longest} printable characters is asked for")

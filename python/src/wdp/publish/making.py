@@ -1,0 +1,128 @@
+"""Makes an auction's results from its input, its report and perhaps an audit, once the program
+judged them.
+"""
+from collections.abc import Mapping, Sequence
+
+from wdp.office.judge import explain
+from wdp.program import Limits, ask
+from wdp.publish import figures
+from wdp.publish.judging import (
+    PublishedAward,
+    Source,
+    Sources,
+    judge_audit,
+    judge_report,
+)
+from wdp.publish.names import PageOptions, read_names
+from wdp.publish.results import Results
+from wdp.texts import accepted
+from wdp.texts.accepted import Accepted
+from wdp.texts.answers import cut_report
+from wdp.texts.parts import find_end_of_groups
+from wdp.texts.refusals import Refused
+from wdp.texts.tables import compute_digest
+
+_MOST_OF_VERSION = 1_000  # bytes of what the program says of its version
+
+
+def make_results(program: str, sources: Sources, options: PageOptions) -> Results:
+    """The results of an auction, judged by the program of this path.
+
+    Raises Refused if the program refuses the input or the audit, if the report isn't what it prints
+    of them, or if a name can't be published, and WrongArgument if an award can't have been drawn.
+    """
+    left_out = _explain_input(program, sources.input)
+    auction = accepted.read(sources.input.text, sources.input.name)
+    if not auction.groups or auction.groups[0]:
+        raise Refused(f"{sources.input.name}: its first group isn't the empty one, -")
+    names: dict[str, str] = {}
+    if options.names_path:
+        names = read_names(options.names_path, auction.rules, regular=options.regular_names)
+    if sources.audit is None:
+        award = judge_report(program, sources, auction)
+    else:
+        award = judge_audit(program, sources, sources.audit, left_out=left_out)
+    version = ask(program, ["--version"], b"", limits=Limits(_MOST_OF_VERSION))
+    made = _make_figures(
+        auction,
+        award,
+        sources=sources,
+        options=options,
+        names=names,
+        left_out=left_out,
+        version=version.decode().strip(),
+    )
+    return Results(made, award.audit)
+
+
+def _explain_input(program: str, source: Source) -> Sequence[tuple[str, str]]:
+    """The bids of an input that are in no program, each with the bidder's name and why; Refused if
+    the input has a fault.
+    """
+    explained = explain(program, source.text, with_bids=True)
+    if explained.findings:
+        hint = f"wdp-office explain {source.name} says where"
+        raise Refused(f"{source.name}: {explained.findings[0].refused.text}; {hint}")
+    return explained.left_out
+
+
+def _make_figures(
+    auction: Accepted,
+    award: PublishedAward,
+    *,
+    sources: Sources,
+    options: PageOptions,
+    names: Mapping[str, str],
+    left_out: Sequence[tuple[str, str]],
+    version: str,
+) -> figures.Figures:
+    """The figures of an award that is published."""
+    report = award.judgement.report
+    bidders = figures.make_bidders(report, auction)
+    sold = figures.count_sold(bidders, auction)
+    categories = figures.make_categories(sold, auction)
+    printed = cut_report(award.judgement.printed, len(auction.groups))
+    return figures.Figures(
+        certified=report.is_certified,
+        title=options.title,
+        currency=options.currency,
+        total=report.groups[0].total,
+        amounts=sum(bidder.amount for bidder in bidders),
+        value_left=sum(category.value_left for category in categories),
+        bidders=bidders,
+        categories=categories,
+        pools=figures.make_pools(sold, auction),
+        groups=figures.make_groups(report, auction),
+        prices=figures.make_prices(report, bidders),
+        proof=_find_proof(award),
+        award=award.number,
+        drawn=sources.audit.drawn if sources.audit else None,
+        awards=figures.make_awards(award.awards, report, auction, left_out=left_out),
+        left_out=[figures.LeftOutBid(bidder=bidder, why=why) for bidder, why in left_out],
+        names=names,
+        input_sha256=compute_digest(sources.input.text),
+        report_sha256=compute_digest(printed),
+        audit=_make_audit(award, sources.input.text),
+        wdp=version,
+    )
+
+
+def _find_proof(award: PublishedAward) -> figures.Proof:
+    """What is proved of all awards of the total."""
+    if award.judgement.report.has_all_awards:
+        return "all"
+    return "some" if len(award.awards) > 1 else "none"
+
+
+def _make_audit(award: PublishedAward, data: bytes) -> figures.AuditFigures | None:
+    """The figures of the audit that shows an award of an input; None if there is none."""
+    if award.audit is None:
+        return None
+    return figures.AuditFigures(
+        sha256=compute_digest(award.audit),
+        input_sha256=compute_digest(data),
+        report_sha256=compute_digest(award.judgement.printed),
+        input_bytes=len(data),
+        bytes_before=find_end_of_groups(data),
+        added_bytes=award.added_bytes,
+    )

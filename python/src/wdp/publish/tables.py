@@ -1,0 +1,285 @@
+"""The tables of an auction's results, as people read them on the page and in a text."""
+from collections.abc import Sequence
+from dataclasses import dataclass
+
+from wdp.office.faults import CellValue, align_rows, format_lines
+from wdp.publish.figures import (
+    AwardFigures,
+    BidderFigures,
+    Figures,
+    GroupFigures,
+    PricesFigures,
+    WinnerFigures,
+)
+
+_NOT_ASKED_FOR = "not asked for"
+_NONE_WON = "none won"
+_NO_BIDS = "no bids"
+BLANKS = (_NOT_ASKED_FOR, _NONE_WON, _NO_BIDS)  # in the place of a number that there isn't
+_MOST_BOUND = 4  # groups that are named as binding a price
+
+
+@dataclass(frozen=True)
+class DisplayTable:
+    """A table for people, by the name that the page has for it; below its rows are `sums`, if it
+    has any.
+    """
+
+    name: str
+    headings: Sequence[str]
+    rows: Sequence[Sequence[CellValue]]
+    sums: Sequence[CellValue] = ()
+
+    def format_text(self) -> str:
+        """The table as lines with aligned columns."""
+        rows = [self.headings, *self.rows]
+        if self.sums:
+            rows.append(self.sums)
+        return format_lines(align_rows(rows))
+
+
+@dataclass(frozen=True)
+class _Column:
+    """A column: its heading, its cells, None where nothing is known, and their sum if they are
+    added up.
+    """
+
+    heading: str
+    cells: Sequence[CellValue]
+    total: CellValue = None
+
+
+def _make_summed(heading: str, cells: Sequence[CellValue]) -> _Column:
+    """A column of numbers with their sum."""
+    numbers = [cell for cell in cells if cell is not None and not isinstance(cell, str)]
+    return _Column(heading, cells, sum(numbers))
+
+
+def _make_table(name: str, columns: Sequence[_Column]) -> DisplayTable:
+    """A table of these columns, without those of which nothing is known."""
+    known = [column for column in columns if any(cell is not None for cell in column.cells)]
+    sums: list[CellValue] = []
+    if any(column.total is not None for column in known):
+        sums = ["" if column.total is None else column.total for column in known]
+        sums[0] = "All"
+    return DisplayTable(
+        name=name,
+        headings=[column.heading for column in known],
+        rows=list(zip(*(column.cells for column in known), strict=True)),
+        sums=sums,
+    )
+
+
+def make_tables(figures: Figures) -> list[DisplayTable]:
+    """All tables that have a row, in the order of the page."""
+    tables = [
+        make_ties_table(figures),
+        _make_bidders_table(figures),
+        make_prices_table(figures),
+        _make_categories_table(figures),
+        _make_pools_table(figures),
+        _make_groups_table(figures),
+        _make_left_out_table(figures),
+    ]
+    return [table for table in tables if table.rows]
+
+
+def _format_unit(figures: Figures) -> str:
+    """What is added to the heading of a column of amounts."""
+    return f", {figures.currency}" if figures.currency else ""
+
+
+def _format_cost(bidder: BidderFigures) -> CellValue:
+    """What the bidder alone costs, or that no group is of it alone."""
+    return _NOT_ASKED_FOR if bidder.cost is None else bidder.cost
+
+
+def _format_bid(bidder: BidderFigures) -> CellValue:
+    """The number of the bid that wins, or that there is none."""
+    if bidder.bid is not None:
+        return bidder.bid
+    return _NONE_WON if bidder.bids else _NO_BIDS
+
+
+def _make_bidders_table(figures: Figures) -> DisplayTable:
+    """What each bidder wins, pays and costs."""
+    unit = _format_unit(figures)
+    bidders = figures.bidders
+    sold = [category.sold for category in figures.categories]
+    return _make_table(
+        "bidders",
+        [
+            _Column("Bidder", [figures.format_name(each.name) for each in bidders]),
+            _make_summed(f"Amount{unit}", [each.amount for each in bidders]),
+            _make_summed(f"Price{unit}", [each.price for each in bidders]),
+            _Column(f"Opportunity cost{unit}", [_format_cost(each) for each in bidders]),
+            _make_summed(f"Reserve{unit}", [each.reserve for each in bidders]),
+            _Column("Bid", [_format_bid(each) for each in bidders]),
+            _Column(
+                heading="Lots",
+                cells=[figures.format_lots(each.lots) for each in bidders],
+                total=figures.format_lots(sold),
+            ),
+        ],
+    )
+
+
+def make_prices_table(figures: Figures) -> DisplayTable:
+    """What each winner pays; without rows if there are no prices."""
+    prices = figures.prices
+    if prices is None:
+        return DisplayTable("prices", headings=[], rows=[])
+    unit = _format_unit(figures)
+    winners = figures.winners
+    return _make_table(
+        "prices",
+        [
+            _Column("Winner", [figures.format_name(each.name) for each in winners]),
+            _make_summed(f"Alone{unit}", [each.price_alone for each in winners]),
+            _make_summed(f"Exact price{unit}", [each.exact_price for each in winners]),
+            _make_summed(f"Price{unit}", [each.price for each in winners]),
+            _make_summed(f"Amount{unit}", [each.amount for each in winners]),
+            _Column("Bound by", [_list_bounds(each.name, figures, prices) for each in winners]),
+        ],
+    )
+
+
+def _list_bounds(name: str, figures: Figures, prices: PricesFigures) -> str:
+    """What binds a winner's exact price: the groups that pay just their cost, and the reserve."""
+    groups = [figures.groups[number - 1].left_out for number in prices.groups]
+    bounds = [" + ".join(names) for names in groups if name in names]
+    if name in prices.reserves:
+        bounds.append("reserve")
+    shown = bounds[:_MOST_BOUND]
+    if len(bounds) > _MOST_BOUND:
+        shown.append(f"{len(bounds) - _MOST_BOUND} more")
+    return ", ".join(shown)
+
+
+def _make_categories_table(figures: Figures) -> DisplayTable:
+    """What is sold of each category."""
+    unit = _format_unit(figures)
+    categories = figures.categories
+    return _make_table(
+        "categories",
+        [
+            _Column("Category", [figures.format_name(each.name) for each in categories]),
+            _make_summed("Supply", [each.supply for each in categories]),
+            _make_summed("Sold", [each.sold for each in categories]),
+            _make_summed("Unsold", [each.unsold for each in categories]),
+            _Column(f"Reserve of a lot{unit}", [each.reserve for each in categories]),
+            _Column(f"Value of an unsold lot{unit}", [each.value for each in categories]),
+            _make_summed(f"Value left{unit}", [each.value_left for each in categories]),
+        ],
+    )
+
+
+def _make_pools_table(figures: Figures) -> DisplayTable:
+    """What loads each pool."""
+    return DisplayTable(
+        name="pools",
+        headings=["Pool", "Load", "Cap", "Left"],
+        rows=[[pool.name, pool.load, pool.cap, pool.left] for pool in figures.pools],
+    )
+
+
+def _format_names(names: Sequence[str]) -> str:
+    return ", ".join(names) or "nobody"
+
+
+def _format_number(group: GroupFigures) -> str:
+    """The number of a group, marked if the group was added to those of the input."""
+    return f"{group.number:,} (added)" if group.is_added else f"{group.number:,}"
+
+
+def _make_groups_table(figures: Figures) -> DisplayTable:
+    """Who wins if the bidders of each group are left out."""
+    unit = _format_unit(figures)
+    groups = figures.groups
+    winners = [_format_names([winner.name for winner in group.winners]) for group in groups]
+    return _make_table(
+        "groups",
+        [
+            _Column("Group", [_format_number(group) for group in groups]),
+            _Column("Left out", [_format_names(group.left_out) for group in groups]),
+            _Column(f"Total{unit}", [group.total for group in groups]),
+            _Column(f"Opportunity cost{unit}", [group.cost for group in groups]),
+            _Column(f"Paid{unit}", [group.paid for group in groups]),
+            _Column("Winners", winners),
+        ],
+    )
+
+
+def _make_left_out_table(figures: Figures) -> DisplayTable:
+    """The bids that are in no program."""
+    return DisplayTable(
+        name="left_out",
+        headings=["Bidder", "Bid"],
+        rows=[[figures.format_name(bid.bidder), bid.why] for bid in figures.left_out],
+    )
+
+
+def make_ties_table(figures: Figures) -> DisplayTable:
+    """The awards that tie, a row for each, with what isn't the same by all of them: what bidders
+    win, and what groups cost; without rows if there is one award.
+    """
+    rows: list[list[CellValue]] = []
+    if len(figures.awards) > 1:
+        names = _find_changing_bidders(figures)
+        groups = _find_changing_groups(figures)
+        for award in figures.awards:
+            wins = _format_wins(award, names, figures)
+            costs = _format_costs(award, groups, figures)
+            rows.append([_format_award(award, figures), wins, costs])
+    return DisplayTable(
+        name="ties",
+        headings=["Award", "Bidders who don't win the same", "Opportunity costs"],
+        rows=rows,
+    )
+
+
+def _find_changing_bidders(figures: Figures) -> list[str]:
+    """The bidders that don't win the same bid by all awards."""
+    bids = [{winner.name: winner.bid for winner in award.winners} for award in figures.awards]
+    return [
+        bidder.name
+        for bidder in figures.bidders
+        if len({by_name.get(bidder.name) for by_name in bids}) > 1
+    ]
+
+
+def _find_changing_groups(figures: Figures) -> list[int]:
+    """The indices of the groups that don't cost the same by all awards."""
+    return [
+        index
+        for index in range(len(figures.groups))
+        if len({award.costs[index] for award in figures.awards}) > 1
+    ]
+
+
+def _format_award(award: AwardFigures, figures: Figures) -> str:
+    """An award's number, and what is to be said of it."""
+    notes = []
+    if award.number == figures.award:
+        notes.append("this page")
+    if not award.can_be_first:
+        notes.append("has a bid in no program")
+    return f"{award.number} ({', '.join(notes)})" if notes else str(award.number)
+
+
+def _format_wins(award: AwardFigures, names: Sequence[str], figures: Figures) -> str:
+    """What these bidders win by an award."""
+    wins = {winner.name: _format_win(winner, figures) for winner in award.winners}
+    return "; ".join(f"{figures.format_name(name)}: {wins.get(name, 'nothing')}" for name in names)
+
+
+def _format_win(winner: WinnerFigures, figures: Figures) -> str:
+    return f"{winner.amount:,} for {figures.format_lots(winner.lots)} (bid {winner.bid:,})"
+
+
+def _format_costs(award: AwardFigures, groups: Sequence[int], figures: Figures) -> str:
+    """What the groups at these indices cost by an award."""
+    costs = [
+        f"{' + '.join(figures.groups[index].left_out)}: {award.costs[index]:,}" for index in groups
+    ]
+    return "; ".join(costs) or "the same"

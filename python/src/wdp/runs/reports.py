@@ -1,0 +1,143 @@
+"""The step that has the program judge what was found, and makes the report, the audit and the page.
+"""
+import json
+from contextlib import suppress
+from dataclasses import dataclass
+
+from wdp import files
+from wdp.folder import INPUT, Folder
+from wdp.publish.figures import Figures
+from wdp.publish.judging import AuditSource, Source, Sources, find_contradiction, judge
+from wdp.publish.making import make_results
+from wdp.publish.names import LONGEST, TITLE, PageOptions, is_line
+from wdp.publish.sentences import describe_awards_of_run, describe_proof_of_prices
+from wdp.publish.tables import DisplayTable, make_prices_table, make_ties_table
+from wdp.runs.contents import TIES, Contents
+from wdp.runs.means import Means
+from wdp.texts.answers import MOST_TIES
+from wdp.texts.refusals import NotSolved
+
+REPORT = "report.txt"
+AUDIT = "audit.txt"
+UNCERTIFIED = "report.uncertified.txt"
+_PAGE = "page.json"
+_RESULTS = "results"
+_NAMES = "names.csv"
+_MOST_OF_PAGE = 100_000  # bytes of page.json
+_WRONG = 3  # the status if an answer can't be the best one
+
+
+@dataclass
+class Page:
+    """What the page says at its head: a title, and the unit of all amounts; None is what it was, or
+    the usual one.
+    """
+
+    title: str | None = None
+    currency: str | None = None
+
+    def keep(self, folder: Folder) -> None:
+        """Keeps title and currency in a folder, or takes from it what nothing is said of."""
+        path = str(folder.path(_PAGE))
+        kept: object = None
+        with suppress(OSError, ValueError, RecursionError):
+            kept = json.loads(files.read(path, _MOST_OF_PAGE, regular=True))
+        fields = kept if isinstance(kept, dict) else {}
+        self.title = self.title or _choose_line(fields, "title")
+        self.currency = self.currency or _choose_line(fields, "currency")
+        wanted = {"title": self.title, "currency": self.currency}
+        if wanted != kept:
+            files.write_all({path: (json.dumps(wanted) + "\n").encode()})
+
+
+def _choose_line(fields: dict[str, object], name: str) -> str | None:
+    """What was kept by this name, if it is a line for the page."""
+    text = fields.get(name)
+    longest = LONGEST[name]
+    return text if isinstance(text, str) and is_line(text, longest) else None
+
+
+@dataclass(frozen=True)
+class Publisher:
+    """Makes the report of what a folder has, with certificates the audit of which `wdp verify`
+    prints it, and the results if a page is wanted.
+    """
+
+    folder: Folder
+    contents: Contents
+    means: Means
+    page: Page | None
+
+    def publish(self) -> None:
+        """Leaves the report and the audit, and the page with its tables; NotSolved if the report
+        shows by itself that an answer isn't the best one.
+        """
+        data = self.folder.read(INPUT)
+        is_certified = self.contents.goals.is_certified
+        text = self.contents.format_solutions() + data
+        judgement = judge(self.means.program, "report", text)
+        if not is_certified and (fault := find_contradiction(judgement.report)):
+            raise NotSolved(fault, _WRONG)
+        report = judgement.printed
+        audit = self.contents.format_audit() if is_certified else None
+        self._write_results(data, report, audit)
+        if audit is None:
+            self._leave({UNCERTIFIED: report})
+        else:
+            self._leave({AUDIT: audit, REPORT: report})
+
+    def _leave(self, texts: dict[str, bytes]) -> None:
+        """Leaves these files in the place of all of an earlier run, if they aren't the same."""
+        folder = self.folder
+        if all(folder.has(name) and folder.read(name) == text for name, text in texts.items()):
+            return
+        for name in (REPORT, UNCERTIFIED, AUDIT):
+            folder.path(name).unlink(missing_ok=True)
+        for name, text in texts.items():
+            folder.leave(name, text)
+
+    def _write_results(self, data: bytes, report: bytes, audit: bytes | None) -> None:
+        """Has the program judge what was found, and makes the tables and the page."""
+        page = self.page or Page()
+        names = self.folder.path(_NAMES)
+        sources = Sources(
+            input=Source(data, name="the input"),
+            report=Source(report, name="the report"),
+            audit=None if audit is None else AuditSource(audit, name="the audit"),
+        )
+        options = PageOptions(
+            title=page.title or TITLE,
+            currency=page.currency,
+            names_path=str(names) if names.exists() else None,
+            regular_names=True,
+        )
+        results = make_results(self.means.program, sources, options)
+        if self.page is not None:
+            results.write_files(str(self.folder.path(_RESULTS)))
+        self._tell_prices(results.figures)
+        self._tell_awards(results.figures)
+
+    def _show(self, table: DisplayTable) -> None:
+        """Shows the lines of a table."""
+        for line in table.format_text().splitlines():
+            self.means.reporter.show(line)
+
+    def _tell_prices(self, figures: Figures) -> None:
+        """Says what the winners pay, if that is known, and what is proved of it."""
+        if figures.prices is not None:
+            self._show(make_prices_table(figures))
+            proof = describe_proof_of_prices(figures, figures.prices)
+            self.means.reporter.say(f"proved: {proof}")
+
+    def _tell_awards(self, figures: Figures) -> None:
+        """Says who else can win with the total of group 1, as far as that is known."""
+        if figures.proof == "none":
+            return
+        reporter = self.means.reporter
+        table = make_ties_table(figures)
+        if self.contents.goals.finds_ties and table.rows:
+            self._show(table)
+        reporter.say(describe_awards_of_run(figures))
+        if figures.proof == "some" and self.folder.has(TIES):
+            limit = f"{MOST_TIES} beside the first"
+            reporter.say(f"the search for ties ended at the limit of an audit, {limit}")
