@@ -13,9 +13,11 @@ from commands import ROOT, read_text
 
 BLOCK = re.compile(r"^```([a-z]*)(?: ([^\n]*))?\n(.*?)^```$", re.MULTILINE | re.DOTALL)
 COMMAND = re.compile(r"(\./|sed |mkdir |PATH=|apt-get |pip )")
-# what needs a network or another machine, names no file of the tree (`DIR`, `rules.csv`), or runs
-# all tests: test_command.py installs by pip, test_auction.py has Slurm's profile
-NOT_RUN = re.compile(r"apt-get |pip |\./test |\./wdp-office explain rules\.csv |.* DIR ")
+# what needs a network or another machine, names no file of the tree (`DIR`, `rules.csv`), or proves
+# or tests everything: test_command.py installs by pip, test_auction.py has Slurm's profile
+NOT_RUN = re.compile(
+    r"apt-get |pip |\./build |\./test |\./wdp-office explain rules\.csv |.* DIR "
+)
 # the reports that the commands of OFFICE leave, of examples
 LEFT = {"report.txt": "spectrum", "worked/report.txt": "worked", "cluster/report.txt": "worked"}
 
