@@ -62,6 +62,16 @@ class Page:
         """The texts of a table's rows, the headings first; nothing if there is no such table."""
         return [[cell.text for cell in row] for row in self.tables.get(table, ())]
 
+    def list_first_lines(self) -> list[str]:
+        """The title, and what one reads below it before the first picture or table."""
+        head = re.split("<(?:h2|figure)", self.html.partition("<main>")[2])[0]
+        return strip_tags(head).strip().splitlines()
+
+    def list_proofs(self, table: str) -> list[str]:
+        """What the page says after a table, a sentence each; nothing if it says nothing there."""
+        match = re.search(f'<div class="proofs" id="proofs-{table}">(.*?)</div>', self.html, re.S)
+        return strip_tags(match[1]).strip().splitlines() if match else []
+
 
 class ResultsFolder:
     """A folder in which results are made of texts, in its folder `out`."""

@@ -30,7 +30,6 @@ from results_folder import (
     compute_digest,
     read_audit,
     read_example,
-    strip_tags,
 )
 
 from wdp import files
@@ -38,6 +37,7 @@ from wdp.publish.csv_files import format_cell
 
 POOL, POOL_REPORT = read_example("worked_pool")
 POOL_TEXT = read_text("fixtures", "office", "results.txt")
+UNIT = "All amounts, prices, reserves, values and costs are in GBP."
 POOL_OPTIONS = ["--text", "--currency", "GBP", "--title", "Award of low bands"]
 
 
@@ -158,7 +158,14 @@ def test_the_page_has_the_tables_of_the_text(folder: ResultsFolder) -> None:
     texts = [block.splitlines() for block in POOL_TEXT.split("\n\n")[1:]]
     for name, lines in zip(names, texts, strict=True):
         shown = [" ".join(" ".join(row).split()) for row in page.list_rows(name)]
+        shown += page.list_proofs(name)
         assert shown == [" ".join(line.replace(", GBP", "").split()) for line in lines]
+
+
+def test_the_page_begins_with_the_lines_of_the_text(folder: ResultsFolder) -> None:
+    page = folder.publish(POOL, POOL_REPORT, *POOL_OPTIONS[1:])
+    title, warning, result = POOL_TEXT.split("\n\n")[0].splitlines()
+    assert page.list_first_lines() == [title, warning, f"{result} {UNIT}"]
 
 
 def test_the_bars_of_the_page(folder: ResultsFolder) -> None:
@@ -219,8 +226,22 @@ def test_the_page_has_the_currency(named: ResultsFolder, part: str) -> None:
 
 def test_the_page_has_the_names(named: ResultsFolder) -> None:
     page = named.read_page()
-    assert page.list_rows("bidders")[1][0] == "Alpha (Alpha <b>Mobile</b>, Ltd)"
-    assert page.list_rows("categories")[1][0] == "A (800 MHz)"
+    assert page.list_rows("bidders")[1][0] == "Alpha <b>Mobile</b>, Ltd (Alpha)"
+    assert page.list_rows("categories")[1][0] == "800 MHz (A)"
+
+
+def test_lots_are_of_the_category_by_its_name(named: ResultsFolder) -> None:
+    page = named.read_page()
+    assert page.list_rows("bidders")[1][-1] == "1 of 800 MHz"
+    asked = "bid 2 asks for 3 of 800 MHz, of which there are 2"
+    assert page.list_rows("left_out")[3] == ["Beta", asked]
+
+
+def test_names_with_commas_are_parted_by_semicolons(named: ResultsFolder) -> None:
+    rows = named.read_page().list_rows("groups")
+    assert rows[1][-1] == "Alpha <b>Mobile</b>, Ltd; Gamma"
+    assert rows[2][-1] == "Beta, Gamma"
+    assert rows[5][1] == "Alpha <b>Mobile</b>, Ltd; Gamma"
 
 
 def test_the_csv_has_the_names(named: ResultsFolder) -> None:
@@ -281,19 +302,15 @@ def test_a_name_that_is_a_formula_is_a_text_in_a_table(formulas: ResultsFolder) 
 
 
 def test_a_name_that_is_a_formula_stays_elsewhere(formulas: ResultsFolder) -> None:
-    assert "Alpha (=1+1)" in formulas.read_page().html
+    assert "=1+1 (Alpha)" in formulas.read_page().html
     assert formulas.read_figures()["names"]["Alpha"] == "=1+1"
-
-
-def read_first_line(page: Page) -> str:
-    """The first line that one reads of a page's text."""
-    return strip_tags(page.html.partition("</h1>")[2]).strip().splitlines()[0]
 
 
 def test_nothing_is_certified_without_an_audit(folder: ResultsFolder) -> None:
     page = folder.publish(TIE, TIE_REPORT)
     figures = folder.read_figures()
-    assert read_first_line(page).startswith("Not certified: ")
+    assert page.list_first_lines()[1].startswith("Not certified: ")
+    assert page.list_proofs("groups") == []
     assert figures["certified"] is False
     assert figures["audit"] is None
     assert figures["proof"] == "none"
@@ -307,7 +324,9 @@ def test_tables_say_that_they_are_not_certified(folder: ResultsFolder) -> None:
 
 def test_an_audit_certifies(folder: ResultsFolder) -> None:
     page = folder.publish_tie(TIE_AUDIT)
-    assert read_first_line(page).startswith("Certified: each of the 2 totals")
+    totals = "Certified: each of the 2 totals is shown to be the greatest one."
+    assert page.list_proofs("groups") == [totals]
+    assert "Not certified" not in page.html
     assert "not certified" not in str(folder.read_first_lines())
 
 
@@ -342,7 +361,8 @@ ONLY_AUDIT = SOLUTIONS + ONLY_CERTIFICATES + ONLY
 def test_that_nobody_else_wins_is_shown(folder: ResultsFolder) -> None:
     page = folder.publish(ONLY, ONLY_REPORT, audit=ONLY_AUDIT)
     figures = folder.read_figures()
-    assert page.texts["proof"].startswith("Proved: these are the only winners.")
+    (proof,) = page.list_proofs("bidders")
+    assert proof.startswith("Proved: these are the only winners.")
     assert figures["proof"] == "all"
     assert len(figures["awards"]) == 1
 
@@ -387,15 +407,16 @@ def test_the_json_lists_the_awards_of_a_tie(folder: ResultsFolder) -> None:
 
 def test_a_tie_may_be_wider(folder: ResultsFolder) -> None:
     page = folder.publish_tie(TIED_AUDIT)
-    assert page.texts["proof"].startswith(AT_LEAST)
-    assert "don't draw from these alone" in page.texts["proof"]
+    (proof,) = page.list_proofs("ties")
+    assert proof.startswith(AT_LEAST)
+    assert "don't draw from these alone" in proof
     assert folder.read_figures()["proof"] == "some"
     assert compute_digest(TIE_REPORT + TIE_OF_BETA) in page.texts["audit"]
 
 
 def test_a_tie_of_no_others(folder: ResultsFolder) -> None:
     page = folder.publish_tie(WITHOUT_OTHERS)
-    assert page.texts["proof"].startswith(ALL)
+    assert page.list_proofs("ties") == [ALL]
     assert folder.read_figures()["proof"] == "all"
     assert compute_digest(TIE_REPORT + TIE_OF_BETA + "no other\n") in page.texts["audit"]
 
@@ -415,7 +436,7 @@ def drawn(folder: ResultsFolder) -> ResultsFolder:
 def test_the_page_says_which_award_was_drawn(drawn: ResultsFolder) -> None:
     page = drawn.read_page()
     assert page.list_rows("ties")[1:] == [["1", *ALPHA_WINS], ["2 (this page)", *BETA_WINS]]
-    assert "this page shows award 2, which was drawn" in page.texts["proof"]
+    assert "this page shows award 2, which was drawn" in page.list_first_lines()[1]
 
 
 def test_the_page_has_the_figures_of_the_award_that_was_drawn(drawn: ResultsFolder) -> None:

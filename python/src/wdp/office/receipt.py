@@ -70,7 +70,28 @@ def _format_rules(rules: AcceptedRules) -> Iterator[str]:
         "Value of an unsold lot",
     )
     yield from align_rows([headings, *map(astuple, rules.categories)])
-    yield from (f"pool {pool.name}: a load of at most {pool.cap:,}" for pool in rules.pools)
+    if rules.pools:
+        yield ""
+        yield from _tabulate_pools(rules)
+    yield ""
+    yield from _tabulate_bidders(rules)
+
+
+def _tabulate_pools(rules: AcceptedRules) -> list[str]:
+    """The table of the pools, with a row for each member."""
+    rows: list[Sequence[CellValue]] = [("Pool", "Cap", "Category", "Load of a lot")]
+    for pool in rules.pools:
+        members = pool.weights.items() or [("no category", None)]
+        rows += [(pool.name, pool.cap, category, weight) for category, weight in members]
+    return align_rows(rows)
+
+
+def _tabulate_bidders(rules: AcceptedRules) -> list[str]:
+    """The table of what the rules say of each bidder."""
+    rows: list[Sequence[CellValue]] = [("Bidder", "Eligibility", "Sessions")]
+    for name in rules.bidders:
+        rows.append((name, rules.eligibilities[name], rules.sessions[name]))
+    return align_rows(rows)
 
 
 def _format_left_out(auction: AuctionFiles) -> Iterator[str]:

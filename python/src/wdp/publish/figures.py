@@ -196,18 +196,44 @@ class Figures:
         """The bidders that win something."""
         return [bidder for bidder in self.bidders if bidder.is_winner]
 
-    def format_name(self, name: str) -> str:
-        """A name of the rules, followed by what the office calls it, if it does: `A (800 MHz)`."""
-        return f"{name} ({self.names[name]})" if name in self.names else name
+    @property
+    def lots(self) -> int:
+        """How many lots there are in all."""
+        return sum(category.supply for category in self.categories)
+
+    @property
+    def unsold(self) -> int:
+        """How many lots stay unsold in all."""
+        return sum(category.unsold for category in self.categories)
+
+    def find_name(self, code: str) -> str:
+        """What the office calls a bidder or category; its name in the rules if it has no other."""
+        return self.names.get(code, code)
+
+    def format_name(self, code: str) -> str:
+        """What the office calls a bidder or category, followed by its name in the rules, if these
+        differ: `800 MHz (A)`.
+        """
+        return f"{self.names[code]} ({code})" if code in self.names else code
+
+    def join_names(self, codes: Sequence[str]) -> str:
+        """What the office calls bidders, with `,` between them, or with `;` if a name has a comma;
+        `nobody` if there are none.
+        """
+        names = [self.find_name(code) for code in codes]
+        separator = "; " if any("," in name for name in names) else ", "
+        return separator.join(names) or "nobody"
 
     def format_amount(self, amount: int | Fraction) -> str:
         """An amount with its currency: `1,000 GBP`."""
         return f"{format_number(amount)} {self.currency or ''}".rstrip()
 
     def format_lots(self, lots: Iterable[int]) -> str:
-        """Lots in words: `2 of A, 1 of B`."""
+        """Lots in words: `2 of 800 MHz, 1 of B`."""
         pairs = zip(lots, self.categories, strict=True)
-        return ", ".join(f"{count:,} of {category.name}" for count, category in pairs if count)
+        return ", ".join(
+            f"{count:,} of {self.find_name(category.name)}" for count, category in pairs if count
+        )
 
 
 def _make_winners(award: Allocation, auction: Accepted) -> list[WinnerFigures]:

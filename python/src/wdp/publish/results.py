@@ -24,10 +24,16 @@ class Results:
     audit: bytes | None
 
     def format_text(self) -> str:
-        """What is to be said in sentences, and the tables, with aligned columns."""
-        sentences = vars(make_sentences(self.figures)).values()
-        lines = format_lines(filter(None, [self.figures.title, *sentences]))
-        return "\n".join([lines, *(table.format_text() for table in make_tables(self.figures))])
+        """The result in sentences, and the tables, with aligned columns, each with what is proved
+        of it.
+        """
+        sentences = make_sentences(self.figures)
+        head = [self.figures.title, *sentences.warnings, " ".join(sentences.result)]
+        pieces = [format_lines(head)]
+        for table in make_tables(self.figures):
+            proofs = format_lines(sentences.proofs.get(table.name, ()))
+            pieces.append(table.format_text() + proofs)
+        return "\n".join(pieces)
 
     def make_files(self) -> dict[str, bytes]:
         """The files by their names. Raises Missing without jinja2."""

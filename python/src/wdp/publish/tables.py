@@ -1,4 +1,5 @@
 """The tables of an auction's results, as people read them on the page and in a text."""
+import re
 from collections.abc import Sequence
 from dataclasses import dataclass
 
@@ -17,6 +18,8 @@ _NONE_WON = "none won"
 _NO_BIDS = "no bids"
 BLANKS = (_NOT_ASKED_FOR, _NONE_WON, _NO_BIDS)  # in the place of a number that there isn't
 _MOST_BOUND = 4  # groups that are named as binding a price
+# why a bid is in no program, as the program says it, up to the category's name
+_ASKED_FOR = re.compile(r"^(bid [0-9]+ asks for [0-9]+ of )(\w+)")
 
 
 @dataclass(frozen=True)
@@ -135,7 +138,7 @@ def make_prices_table(figures: Figures) -> DisplayTable:
         "prices",
         [
             _Column("Winner", [figures.format_name(each.name) for each in winners]),
-            _make_summed(f"Alone{unit}", [each.price_alone for each in winners]),
+            _make_summed(f"Price alone{unit}", [each.price_alone for each in winners]),
             _make_summed(f"Exact price{unit}", [each.exact_price for each in winners]),
             _make_summed(f"Price{unit}", [each.price for each in winners]),
             _make_summed(f"Amount{unit}", [each.amount for each in winners]),
@@ -147,13 +150,18 @@ def make_prices_table(figures: Figures) -> DisplayTable:
 def _list_bounds(name: str, figures: Figures, prices: PricesFigures) -> str:
     """What binds a winner's exact price: the groups that pay just their cost, and the reserve."""
     groups = [figures.groups[number - 1].left_out for number in prices.groups]
-    bounds = [" + ".join(names) for names in groups if name in names]
+    bounds = [_join_group(names, figures) for names in groups if name in names]
     if name in prices.reserves:
         bounds.append("reserve")
     shown = bounds[:_MOST_BOUND]
     if len(bounds) > _MOST_BOUND:
         shown.append(f"{len(bounds) - _MOST_BOUND} more")
     return ", ".join(shown)
+
+
+def _join_group(names: Sequence[str], figures: Figures) -> str:
+    """The bidders of a group: `Beta + Gamma`."""
+    return " + ".join(figures.find_name(name) for name in names)
 
 
 def _make_categories_table(figures: Figures) -> DisplayTable:
@@ -183,10 +191,6 @@ def _make_pools_table(figures: Figures) -> DisplayTable:
     )
 
 
-def _format_names(names: Sequence[str]) -> str:
-    return ", ".join(names) or "nobody"
-
-
 def _format_number(group: GroupFigures) -> str:
     """The number of a group, marked if the group was added to those of the input."""
     return f"{group.number:,} (added)" if group.is_added else f"{group.number:,}"
@@ -196,12 +200,12 @@ def _make_groups_table(figures: Figures) -> DisplayTable:
     """Who wins if the bidders of each group are left out."""
     unit = _format_unit(figures)
     groups = figures.groups
-    winners = [_format_names([winner.name for winner in group.winners]) for group in groups]
+    winners = [figures.join_names([winner.name for winner in group.winners]) for group in groups]
     return _make_table(
         "groups",
         [
             _Column("Group", [_format_number(group) for group in groups]),
-            _Column("Left out", [_format_names(group.left_out) for group in groups]),
+            _Column("Left out", [figures.join_names(group.left_out) for group in groups]),
             _Column(f"Total{unit}", [group.total for group in groups]),
             _Column(f"Opportunity cost{unit}", [group.cost for group in groups]),
             _Column(f"Paid{unit}", [group.paid for group in groups]),
@@ -215,8 +219,18 @@ def _make_left_out_table(figures: Figures) -> DisplayTable:
     return DisplayTable(
         name="left_out",
         headings=["Bidder", "Bid"],
-        rows=[[figures.format_name(bid.bidder), bid.why] for bid in figures.left_out],
+        rows=[
+            [figures.format_name(bid.bidder), _name_category(bid.why, figures)]
+            for bid in figures.left_out
+        ],
     )
+
+
+def _name_category(why: str, figures: Figures) -> str:
+    """Why a bid is in no program, with what the office calls the category of which there are too
+    few lots.
+    """
+    return _ASKED_FOR.sub(lambda match: f"{match[1]}{figures.find_name(match[2])}", why)
 
 
 def make_ties_table(figures: Figures) -> DisplayTable:
@@ -270,7 +284,7 @@ def _format_award(award: AwardFigures, figures: Figures) -> str:
 def _format_wins(award: AwardFigures, names: Sequence[str], figures: Figures) -> str:
     """What these bidders win by an award."""
     wins = {winner.name: _format_win(winner, figures) for winner in award.winners}
-    return "; ".join(f"{figures.format_name(name)}: {wins.get(name, 'nothing')}" for name in names)
+    return "; ".join(f"{figures.find_name(name)}: {wins.get(name, 'nothing')}" for name in names)
 
 
 def _format_win(winner: WinnerFigures, figures: Figures) -> str:
@@ -280,6 +294,7 @@ def _format_win(winner: WinnerFigures, figures: Figures) -> str:
 def _format_costs(award: AwardFigures, groups: Sequence[int], figures: Figures) -> str:
     """What the groups at these indices cost by an award."""
     costs = [
-        f"{' + '.join(figures.groups[index].left_out)}: {award.costs[index]:,}" for index in groups
+        f"{_join_group(figures.groups[index].left_out, figures)}: {award.costs[index]:,}"
+        for index in groups
     ]
     return "; ".join(costs) or "the same"

@@ -126,8 +126,7 @@ class Publisher:
         """Says what the winners pay, if that is known, and what is proved of it."""
         if figures.prices is not None:
             self._show(make_prices_table(figures))
-            proof = describe_proof_of_prices(figures, figures.prices)
-            self.means.reporter.say(f"proved: {proof}")
+            self.means.reporter.say(describe_proof_of_prices(figures, figures.prices))
 
     def _tell_awards(self, figures: Figures) -> None:
         """Says who else can win with the total of group 1, as far as that is known."""

@@ -45,11 +45,16 @@ class Bid:
 
 @dataclass
 class AcceptedRules:
-    """The rules; amounts are whole pounds, and bidders are numbered from 1 in their order."""
+    """The rules; amounts are whole pounds, and bidders are numbered from 1 in their order.
+
+    Of each bidder's name `eligibilities` has the points, and `sessions` how many there are.
+    """
 
     step: int
     categories: list[Category] = field(default_factory=list)
     bidders: list[str] = field(default_factory=list)
+    eligibilities: dict[str, int] = field(default_factory=dict)
+    sessions: dict[str, int] = field(default_factory=dict)
     pools: list[Pool] = field(default_factory=list)
 
     def load(self, pool: Pool, lots: Iterable[int]) -> int:
@@ -81,6 +86,8 @@ def parse_rules(rows: Iterable[TableRow]) -> AcceptedRules:
             rules.categories.append(Category(name, *map(int, values)))
         elif kind == "bidder":
             rules.bidders.append(name)
+            rules.eligibilities[name] = int(values[0])
+            rules.sessions[name] = int(values[1])
         elif kind == "pool":
             rules.pools.append(Pool(name, cap=int(values[0]), weights={}))
         else:
