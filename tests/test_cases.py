@@ -2,8 +2,8 @@
 error, byte for byte.
 
 A row of faults is a change to an accepted text, and the line that refuses it, in which the package finds its pieces; tools/pages
-puts it into docs/REFERENCE.md. If it is of rules, forms or groups, `explain` prints it first, followed by its field or name and the
-cause. The texts of solvers were written back from ours (commands.txt there says how), and answers.txt has what `wdp check` answers.
+puts the common ones into docs/REFERENCE.md. If it is of rules, forms or groups, `explain` prints it first, followed by its field or
+name and the cause. The texts of solvers were written back from ours (commands.txt there says how), and answers.txt has what `wdp check` answers.
 """
 
 import re
@@ -15,7 +15,6 @@ from trials.details import NUMBERED, is_line_of
 from trials.judging import done, refused, seen
 from wdp import Refused
 
-CHANGE = re.compile(r"`([^`]+)` → `([^`]*)`: `wdp: ([^`]+)`")
 # a refusal's part with its number, and the fault's number and name
 PIECES = re.compile(r"(\w+)(?: ([0-9]+))?: ([0-9]+ [A-Z]\w+)?")
 TEXTS = ROOT / "fixtures/solvers"
@@ -39,10 +38,12 @@ def changes():
     """The words, the changed text and the line of each; the text is empty where it hasn't what is to be changed."""
     for section in faults.sections():
         words, base = section.command.split(), section.text()
-        for change in CHANGE.findall("\n".join(section.rows)):
-            old, new, line = (part.replace("⏎", "\n") for part in change)
+        for row in section.rows:
+            old, new = (part.replace("⏎", "\n") for part in (row.old, row.new))
+            line = row.line.removeprefix("wdp: ")
             text = base.replace(old, new, 1) if old in base else ""
-            yield pytest.param(words, text, line, id=f"{line} by {new!r}")
+            if old:
+                yield pytest.param(words, text, line, id=f"{line} by {new!r}")
 
 
 @pytest.mark.parametrize("words, text, line", changes())

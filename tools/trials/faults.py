@@ -12,6 +12,10 @@ from trials.program import ROOT
 NUMBERED = re.compile(r'(?:"|: )([0-9]+ ([A-Z][A-Za-z]+))')
 VARIANT = re.compile(r"((?: +/// .*\n)+) +([A-Z]\w+)")
 MESSAGE = re.compile(r"FileFault::(?!OutOfMemory)(\w+)\S* => \[(.*?)\]", re.DOTALL)
+# a row of the file: a star, if its fault is a common one; words; a change; and the line that refuses the changed text
+ROW = re.compile(
+    r"(?P<star>\* )?(?:(?P<words>[^→]+?): )??(?:`(?P<old>[^`]+)` → `(?P<new>[^`]*)`: )?`(?P<line>wdp: [^`]+)`"
+)
 
 
 def docs_of(source: str) -> dict[str, str]:
@@ -21,14 +25,46 @@ def docs_of(source: str) -> dict[str, str]:
     }
 
 
+class Row(NamedTuple):
+    """A refused text: whether its fault is one of the commonest, what is wrong in words, what was changed into what, and the line
+    that refuses it. Words, or the change, may be missing: they are empty then."""
+
+    is_common: bool
+    words: str
+    old: str
+    new: str
+    line: str
+
+    def fault(self) -> str:
+        """The fault's number and name, if the line has them."""
+        found = NUMBERED.search(self.line)
+        return found[1] if found else ""
+
+
+def row_of(text: str) -> Row:
+    found = ROW.fullmatch(text)
+    if not found:
+        raise ValueError(f"fixtures/faults.txt has a line that is no row: {text}")
+    words, old, new = (found[name] or "" for name in ("words", "old", "new"))
+    return Row(bool(found["star"]), words, old, new, found["line"])
+
+
+def table_of(heads: list[str], rows: list[list[str]]) -> str:
+    """A table, with a blank line before it; nothing if it has no row."""
+    if not rows:
+        return ""
+    lines = [heads, ["---"] * len(heads), *rows]
+    return "\n" + "".join(f"| {' | '.join(cells)} |\n" for cells in lines)
+
+
 class Section(NamedTuple):
-    """Rows of changes to a text that a command accepts (a file, and perhaps lines after it), each with the line that refuses it."""
+    """Changes to a text that a command accepts (a file, and perhaps lines after it), each with the line that refuses the outcome."""
 
     name: str
     sources: str
     command: str
     texts: list[str]
-    rows: list[str]
+    rows: list[Row]
 
     def text(self) -> str:
         return Path(ROOT, self.texts[0]).read_text() + "".join(self.texts[1:]).replace("⏎", "\n")
@@ -39,19 +75,27 @@ class Section(NamedTuple):
         docs = docs_of(source)
         return {fault: docs.get(name, "") for fault, name in NUMBERED.findall(source)}
 
+    def without_meaning(self) -> list[Row]:
+        """The rows whose fault is none that the sources number."""
+        meanings = self.meanings()
+        return [row for row in self.rows if row.fault() not in meanings]
+
     def shown(self) -> str:
-        """The rows as docs/REFERENCE.md shows them: those of the sources' faults in a table, the others in a list before it."""
-        meanings, others = self.meanings(), list[str]()
-        rows = {fault: list[str]() for fault in meanings}
-        for row in self.rows:
-            fault = NUMBERED.search(row)
-            rows.get(fault[1] if fault else "", others).append(row)
-        texts = " and ".join(f"`{it}`" for it in self.texts)
-        table = ["| Fault | Cause | Changes |", "|---|---|---|"] if meanings else []
-        table += [f"| {it} | {meanings[it]} | {'; '.join(rows[it])} |" for it in meanings]
-        head = f"\nChanges to {texts}, and what `wdp {self.command}` prints:"
-        parts = head, "\n".join(f"- {row}" for row in others), "\n".join(table)
-        return "".join(f"{part}\n\n" for part in parts if part)
+        """The section as docs/REFERENCE.md has it: what the commonest faults look like in a text, what is refused without being
+        numbered by the sources, and what each numbered fault means."""
+        prints = f"`wdp {self.command}` prints"
+        text = f"`{self.texts[0]}`" + (" and a solution" if self.texts[1:] else "")
+        common = [
+            [f"`{it.new}`", f"`{it.old}`", f"`{it.line}`"] for it in self.rows if it.is_common
+        ]
+        others = [[it.words, f"`{it.line}`"] for it in self.without_meaning()]
+        meanings = [[f"`{fault}`", meaning] for fault, meaning in self.meanings().items()]
+        tables = [
+            table_of([f"In {text}", "in place of", prints], common),
+            table_of(["What is wrong", prints], others),
+            table_of(["Fault", "Meaning"], meanings),
+        ]
+        return "".join(tables) + "\n"
 
 
 def sections() -> list[Section]:
@@ -59,15 +103,15 @@ def sections() -> list[Section]:
     for text in Path(ROOT, "fixtures", "faults.txt").read_text().split("\n= ")[1:]:
         head, *rows = text.splitlines()
         name, sources, command, *texts = head.split(" | ")
-        found.append(Section(name, sources, command, texts, rows))
+        found.append(Section(name, sources, command, texts, [row_of(row) for row in rows]))
     return found
 
 
 def of_files() -> str:
     """What is said of a file that isn't read or written, and why, as docs/REFERENCE.md shows it."""
     source = Path(ROOT, "crates", "auction_input", "src", "files.rt").read_text()
-    docs, lines = docs_of(source), ["\n| Message | Cause |", "|---|---|"]
+    docs, rows = docs_of(source), []
     for name, words in MESSAGE.findall(source.replace("kind.words()", '"KIND"')):
         message = "".join(re.findall(r'"(.*?)"', words)).strip()
-        lines.append(f"| `{message}` | {docs[name]} |")
-    return "\n".join(lines) + "\n\n"
+        rows.append([f"`{message}`", docs[name]])
+    return table_of(["Message", "Meaning"], rows) + "\n"

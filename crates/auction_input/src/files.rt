@@ -39,9 +39,9 @@ pub enum FileFault {
     Unwritten,
     /// One of several files has no byte.
     Empty,
-    /// One of several files, before the last, has a last line without an end.
+    /// One of several files has a last line without an end, and isn't the last file.
     NoLineEnd,
-    /// The file comes earlier among those that are read, at that place from 0: its name there follows.
+    /// The file is one of those that are read already, at this place from 0. The name that it has there follows.
     ReadAlready(usize),
     /// The file that is to be written is one of those that are read.
     ReadToo,

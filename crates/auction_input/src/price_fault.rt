@@ -14,13 +14,13 @@ use thiserror::Error;
 pub enum PriceFault {
     /// The line of prices hasn't two fields, or the line of the rule hasn't three.
     Fields { place: usize },
-    /// The name isn't a bidder's; in the rule it isn't the number of a group either.
+    /// The name isn't that of a bidder, and in the rule it isn't the number of a group either.
     UnknownName { place: usize },
     /// The bidder wins nothing in group 1's solution.
     NotWinner { place: usize },
     /// An earlier line has the same name or number.
     RepeatedName { place: usize },
-    /// The number isn't 1 to 18 digits; a price may have two such numbers with a slash between them.
+    /// The number isn't 1 to 18 digits. A price may have two such numbers with a slash between them.
     NumberText { place: usize },
     /// The price is above the amount of the winner's bid.
     AboveAmount { place: usize },
@@ -32,11 +32,11 @@ pub enum PriceFault {
     DenominatorRange { place: usize },
     /// The price is above the greatest amount, £1,000,000,000,000.
     PriceRange { place: usize },
-    /// The prices so far are whole only in more than 1,000,000 parts of a pound.
+    /// The prices up to this one are whole only in more than 1,000,000 parts of a pound.
     TooManyParts { place: usize },
     /// The weights don't show that no prices that suffice have a lower sum.
     NotLeast,
-    /// The weights and the push don't show that of the prices of that sum these are the nearest.
+    /// The weights and the push don't show that these prices are the nearest of all that have their sum.
     NotNearest,
     /// Memory was refused.
     OutOfMemory,

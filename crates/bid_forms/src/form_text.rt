@@ -30,17 +30,18 @@ use thiserror::Error;
 pub enum FormFault {
     /// The text is above its limit.
     TooLarge,
-    /// `there is no record`, or `N fields in place of M`, or a field `in place of NAME`, the category's.
+    /// `there is no record`; or the header has `N fields in place of M`, or a field `in place of NAME`, which is the
+    /// category's name.
     Header { place: u32 },
     /// Field 1 `is no bidder's name`.
     UnknownBidder { place: u32 },
     /// The record has `N fields in place of M`.
     FieldCount { place: u32 },
-    /// Field 1 `isn't 1 to 18 digits`; a space isn't a digit.
+    /// Field 1 `isn't 1 to 18 digits`. A space isn't a digit.
     AmountText { place: u32 },
     /// Field 1 `isn't between L and H`.
     AmountRange { place: u32 },
-    /// Field 1 `isn't a multiple of N`, the step.
+    /// Field 1 `isn't a multiple of N`, which is the step.
     AmountStep { place: u32 },
     /// A quantity `isn't 1 to 18 digits`.
     QuantityText { place: u32 },
@@ -50,7 +51,7 @@ pub enum FormFault {
     EmptyPackage { place: u32 },
     /// The lots have `N points, above the eligibility of M`.
     OverEligibility { place: u32 },
-    /// Field 1 `is below the reserve of N`, that of the lots.
+    /// Field 1 `is below the reserve of N`, which is that of the lots.
     BelowReserve { place: u32 },
     /// The package is that of an earlier bid, which is numbered from 1.
     RepeatedPackage { place: u32, earlier: u32 },

@@ -11,11 +11,13 @@ use thiserror::Error;
 /// What is wrong with a certificate.
 #[derive(Clone, Copy, Debug, PartialEq, Eq)]
 pub enum CertificateFaultKind {
-    /// A leaf without faults 3 to 8 has a size of 2^126 or more, and may be refused.
+    /// The size of a leaf is 2^126 or more. Such a leaf may be refused if it has none of the faults from `Fields` to
+    /// `Sign`.
     TooLarge,
     /// The line comes after the end of the tree.
     Beyond,
-    /// The word is neither `split` nor `bound`; or there is no number after it, for a split above, or after a name.
+    /// The word is neither `split` nor `bound`; or a number is missing, after the word, for a split above, or after a
+    /// name.
     Fields,
     /// The field isn't a whole number.
     NumberText,
@@ -23,13 +25,13 @@ pub enum CertificateFaultKind {
     NumberRange,
     /// The program has no such column.
     UnknownColumn,
-    /// The program has no such row; the objective isn't one.
+    /// The program has no such row. The objective isn't a row.
     UnknownRow,
     /// A scale, or a multiplier of a split or row, has the wrong sign.
     Sign,
-    /// A leaf doesn't show the bound: the certificate is wrong or another program's, or the solution isn't optimal.
+    /// A leaf doesn't show the bound: the certificate is wrong or that of another program, or the solution isn't optimal.
     NotShown,
-    /// The text ends before the tree; the line is the last one.
+    /// The text ends before the tree does. The line is the last one.
     NoEnd,
     OutOfMemory,
 }

@@ -5,7 +5,7 @@ pub enum MpsFaultKind {
     TooLarge,
     /// A byte outside comments is neither a tab nor printable ASCII.
     NotText,
-    /// A section is unknown, comes twice or out of order; or data come before the first section or under `NAME`.
+    /// A section is unknown, comes twice or out of order; or there are data before the first section or under `NAME`.
     Section,
     /// The section is `RANGES`, `SOS`, `SOS1`, `SOS2`, `QUADOBJ`, `QMATRIX`, `QSECTION`, `QCMATRIX` or `INDICATORS`, in
     /// any place.
@@ -16,21 +16,22 @@ pub enum MpsFaultKind {
     RowType,
     /// An earlier line declares the row.
     RowRepeated,
-    /// There is no `N` row; at the section after `ROWS`.
+    /// There is no `N` row. The line is that of the section after `ROWS`.
     NoObjective,
     /// `ROWS` doesn't declare the row.
     UnknownRow,
     /// A marker or another column comes between the lines of the column.
     ColumnSplit,
-    /// A second entry of a column and row, or right side of a row, even in one line, even of 0.
+    /// The column has an entry in this row already, or the row has a right side already. This is so even if both are in
+    /// the same line, or are 0.
     EntryRepeated,
     /// The field isn't a number.
     NumberText,
     /// The number isn't whole.
     NotWhole,
-    /// The number has too many digits, an exponent beyond its limits, or is beyond 10^18 in size.
+    /// The number has too many digits or an exponent beyond its limits, or it is above 10^18 or below -10^18.
     NumberRange,
-    /// The markers aren't `NAME 'MARKER' 'INTORG'` and `NAME 'MARKER' 'INTEND'` in turn.
+    /// A marker isn't `NAME 'MARKER' 'INTORG'`, or after such a one `NAME 'MARKER' 'INTEND'`.
     Marker,
     /// The bound is of a column that isn't under `COLUMNS`.
     UnknownColumn,
@@ -42,10 +43,10 @@ pub enum MpsFaultKind {
     ObjectiveConstant,
     /// The sense is `MAX` or `MAXIMIZE`.
     SenseMax,
-    /// There is no `ENDATA`; the line is the last one.
+    /// There is no `ENDATA`. The line is the last one.
     NoEnd,
-    /// The first column that isn't integer, has no upper bound, or has a lower bound above its upper one, numbered from
-    /// 0; at `ENDATA`.
+    /// A column isn't integer, has no upper bound, or has a lower bound above its upper one. The first such column is
+    /// named, by its number from 0. The line is that of `ENDATA`.
     NotBinary { column: usize },
     /// Memory was refused.
     OutOfMemory,

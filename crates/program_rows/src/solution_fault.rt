@@ -17,7 +17,7 @@ pub enum SolutionFault {
     TooLarge,
     /// The line hasn't two fields.
     Fields { place: usize },
-    /// The program has no such column: there is no such bid, or it is left out; or there is no `K`.
+    /// The program has no such column: there is no such bid, or the bid is left out; or there is no `K`.
     UnknownColumn { place: usize },
     /// An earlier line names the column.
     RepeatedColumn { place: usize },
@@ -25,10 +25,10 @@ pub enum SolutionFault {
     ValueText { place: usize },
     /// The value is more than 1/100,000 from 0 and from 1.
     NotZeroOne { place: usize },
-    /// A fixed column has its other value: `K` is 0, or isn't named. The place is `at column NAME`.
+    /// A column that is fixed has another value: `K` is 0, or isn't named. The place is `at column NAME`.
     BoundBroken { column: usize },
-    /// The first row that is broken: a bidder with two bids (`B..`), a category above its supply (`C..`), a pool above
-    /// its cap (`P..`). The place is `at row NAME`.
+    /// A row is broken: a bidder has two bids (`B..`), a category is above its supply (`C..`), or a pool is above its cap
+    /// (`P..`). The place is `at row NAME`, with the first such row.
     RowBroken { row: usize },
     /// Memory was refused.
     OutOfMemory,
