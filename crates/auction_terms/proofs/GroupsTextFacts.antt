@@ -116,8 +116,8 @@ pub groups-more : (bidders : List Bidder) (place : ℕ) (so_far : List (Fault Gr
     → with-room place groups group ++ map (group_of bidders) rest ≡ all
 groups-more bidders place so_far groups group line ahead rest all before next is none =
     let both = both-none so_far (line_faults bidders place line) none in
-    let last = both-none (names_faults bidders place line) (fault_of 0 line (room_checks place)) both.1 in
-    let room = room-left place (none-failed 0 line (room_checks place) last.1) in
+    let last = both-none (names_faults bidders place line) (fault_of (room_checks place)) both.1 in
+    let room = room-left place (none-failed (room_checks place) last.1) in
     let whole = rw next at (before both.0) in
     rw (room, is both.1) (append_assoc groups (group_of bidders line ∷ []) (map (group_of bidders) rest) ∙ whole)
 

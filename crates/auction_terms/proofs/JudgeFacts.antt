@@ -2,10 +2,10 @@
 use Rattle.std.proofs.Common.{◌≡◌, ◌≤◌, ◌<◌, ◌+◌, ◌-◌, ◌∷◌, ◌++◌, ◌∙◌, ℕ, List, [], refl, sym, ap, arith, append_assoc, append-nil}
 use Rattle.std.proofs.Common.{slice_index_or, length, length-append, length-take, map, take}
 use Rattle.std.proofs.lemmas.List.{length-map, map-append, take-append-le}
-use Rattle.std.specs.Prelude.{◌^◌, min, Bool, Option, Some, None, Err, option_map, option_to_list}
+use Rattle.std.specs.Prelude.{◌^◌, min, Bool, Option, Some, None, Err, option_to_list}
 use Rattle.auction_terms.proofs.AllFaultsFacts.{take-more}
 use Rattle.auction_terms.specs.FirstFault.{first_failed}
-use Rattle.auction_terms.specs.Judged.{Fault, Holds, HoldsMore, fault_at, fault_of, first_or, kept_fault}
+use Rattle.auction_terms.specs.Judged.{Fault, Holds, HoldsMore, fault_of, first_or, kept_fault}
 use Rattle.auction_terms.specs.declared.judge.All.{All}
 use Rattle.auction_terms.specs.declared.judge.FaultAt.{FaultAt}
 
@@ -74,12 +74,12 @@ holds-count {F} most old new faults f holds full limit same counted =
 -- ---------- checks ----------
 
 -- a fault is reported just where a check fails
-pub none-failed : {F : Type 0} (field : ℕ) (text : List ℕ) (checks : List (Bool × F)) → fault_of field text checks ≡ [] → first_failed checks ≡ None
-none-failed {F} field text checks none = by (first_failed checks) none
+pub none-failed : {F : Type 0} (checks : List (Bool × Fault F)) → fault_of checks ≡ [] → first_failed checks ≡ None
+none-failed {F} checks none = by (first_failed checks) none
   where
-    by : (o : Option F) → option_to_list (option_map (fault_at field text) o) ≡ [] → o ≡ None
+    by : (o : Option (Fault F)) → option_to_list o ≡ [] → o ≡ None
     by None none = refl
     by (Some f) none = cc none
 
-pub failed-none : {F : Type 0} (field : ℕ) (text : List ℕ) (checks : List (Bool × F)) → first_failed checks ≡ None → fault_of field text checks ≡ []
-failed-none field text checks none = rw none refl
+pub failed-none : {F : Type 0} (checks : List (Bool × Fault F)) → first_failed checks ≡ None → fault_of checks ≡ []
+failed-none checks none = rw none refl

@@ -68,11 +68,11 @@ name-passes : (bidders : List Bidder) (place number : ℕ) (before : List (List 
     → IsNewName bidders before name
 name-passes bidders place number before name none =
     two-pass (list_any (λ bidder. bytes_eq bidder.name name) bidders) (list_any (λ other. bytes_eq other name) before) _ _
-    (none-failed number name (name_checks bidders place before name) none)
+    (none-failed (name_checks bidders place number before name) none)
 
 new-passes : (bidders : List Bidder) (place number : ℕ) (before : List (List ℕ)) (name : List ℕ) → IsNewName bidders before name
     → name_faults bidders place number before name ≡ []
-new-passes bidders place number before name new = failed-none number name (name_checks bidders place before name) (rw (new.0, new.1) refl)
+new-passes bidders place number before name new = failed-none (name_checks bidders place number before name) (rw (new.0, new.1) refl)
 
 some-bytes : (place : ℕ) (line : List ℕ) → first_failed (line_checks place line) ≡ None → line ≢ []
 some-bytes place [] none is = cc none
@@ -86,12 +86,12 @@ bytes-some place (b ∷ line) some =
 
 line-passes : (bidders : List Bidder) (place : ℕ) (line : List ℕ) → line_faults bidders place line ≡ [] → (place ≤ MOST_GROUPS) × IsGroupLine bidders line
 line-passes bidders place line none =
-    let both = both-none (names_faults bidders place line) (fault_of 0 line (room_checks place)) none in
-    let front = or_else-none (fault_of 0 line (line_checks place line)) (all_faults (name_faults bidders place) 1 [] (names_in line)) both.0 in
-    let room = none-failed 0 line (room_checks place) both.1 in (
+    let both = both-none (names_faults bidders place line) (fault_of (room_checks place)) none in
+    let front = or_else-none (fault_of (line_checks place line)) (all_faults (name_faults bidders place) 1 [] (names_in line)) both.0 in
+    let room = none-failed (room_checks place) both.1 in (
       grind (arith, common_steps, nat_tests, room),
       (
-        some-bytes place line (none-failed 0 line (line_checks place line) front.0),
+        some-bytes place line (none-failed (line_checks place line) front.0),
         λ before name after is. name-passes bidders place (1 + length before) before name
             (none-each (name_faults bidders place) 1 [] (names_in line) front.1 before name after is),
       ),
@@ -99,11 +99,11 @@ line-passes bidders place line none =
 
 passes-line : (bidders : List Bidder) (place : ℕ) (line : List ℕ) → place ≤ MOST_GROUPS → IsGroupLine bidders line → line_faults bidders place line ≡ []
 passes-line bidders place line few is =
-    let some : fault_of 0 line (line_checks place line) ≡ [] = failed-none 0 line (line_checks place line) (bytes-some place line is.0) in
+    let some : fault_of (line_checks place line) ≡ [] = failed-none (line_checks place line) (bytes-some place line is.0) in
     let names : all_faults (name_faults bidders place) 1 [] (names_in line) ≡ [] = each-none (name_faults bidders place) 1 [] (names_in line)
     (λ before name after at. new-passes bidders place (1 + length before) before name (is.1 before name after at)) in
     let passes : first_failed (room_checks place) ≡ None = grind (arith, common_steps, nat_tests, few) in
-    let room : fault_of 0 line (room_checks place) ≡ [] = failed-none 0 line (room_checks place) passes in
+    let room : fault_of (room_checks place) ≡ [] = failed-none (room_checks place) passes in
     rw (some, names, room) refl
 
 pub none-lines : (bidders : List Bidder) (text : List ℕ) → group_faults bidders text ≡ [] ↔ AreGroupLines bidders text

@@ -1,22 +1,34 @@
--- The faults of a text as a list, each with its place and the bytes there; and how many of them are kept.
-use Rattle.std.specs.Prelude.{◌≡◌, ◌-◌, ◌^◌, ◌++◌, min, Bool, ℕ, List, [], ◌∷◌, Result, Ok, Err, length, map, option_map, option_to_list, take}
+-- The faults of a text as a list, each with its place, the first bytes there and its cause; and how many of them are kept.
+use Rattle.std.specs.Prelude.{◌≡◌, ◌-◌, ◌^◌, ◌++◌, min, Bool, ℕ, List, [], ◌∷◌, Option, Some, Result, Ok, Err, length, map, option_map, option_to_list, take}
 use Rattle.auction_terms.specs.FirstFault.{first_failed}
 use Rattle.auction_terms.specs.declared.judge.All.{All}
 use Rattle.auction_terms.specs.declared.judge.FaultAt.{FaultAt}
+use Rattle.auction_terms.specs.declared.limits.TheConstants.{FRONT_LEN}
+use Rattle.auction_terms.specs.Wording.{wording_text}
 
--- a fault, the number of the field or name at which it is (0: the whole record or line), and the bytes there
+-- a fault, the number of the field or name at which it is (0: the whole record or line), the first bytes there, and what is wrong in words
+-- (none where the fault's own name says it)
 pub record Fault (F : Type 0) : Type 0 where
   pub field : ℕ
   pub text : List ℕ
   pub fault : F
+  pub cause : Option (List ℕ)
 
--- a fault with the number of the field or name at which it is, and the bytes there
-abbrev pub fault_at : {F : Type 0} → ℕ → List ℕ → F → Fault F
-fault_at field text fault = record { field = field; text = text; fault = fault }
+-- the fault of a field or name of this number, with these bytes and this cause
+abbrev pub fault_at : {F : Type 0} → ℕ → List ℕ → F → List ℕ → Fault F
+fault_at field text fault cause = record { field = field; text = take FRONT_LEN text; fault = fault; cause = Some cause }
+
+-- the fault of a whole record or line
+abbrev pub fault_of_whole : {F : Type 0} → F → Option (List ℕ) → Fault F
+fault_of_whole fault cause = record { field = 0; text = []; fault = fault; cause = cause }
+
+-- the fault of a text as that of what the text is part of
+abbrev pub reported_as : {F G : Type 0} → G → Fault F → Fault G
+reported_as whole at = record { field = at.field; text = at.text; fault = whole; cause = at.cause }
 
 -- the fault of the first check that is not passed, where each check rests on those before it
-abbrev pub fault_of : {F : Type 0} → ℕ → List ℕ → List (Bool × F) → List (Fault F)
-fault_of field text checks = option_to_list (option_map (fault_at field text) (first_failed checks))
+abbrev pub fault_of : {F : Type 0} → List (Bool × Fault F) → List (Fault F)
+fault_of checks = option_to_list (first_failed checks)
 
 -- what a text without a fault gives, and else its first fault
 abbrev pub first_or : {A F : Type 0} → List (Fault F) → A → Result A F
@@ -25,7 +37,7 @@ first_or (fault ∷ more) value = Err fault.fault
 
 -- a kept fault
 abbrev pub kept_fault : {F : Type 0} → FaultAt F → Fault F
-kept_fault at = fault_at at.field at.text.now at.fault
+kept_fault at = record { field = at.field; text = at.text; fault = at.fault; cause = option_map wording_text at.cause }
 
 -- of these faults the first ones are kept, so many at most, and the others counted, up to 2 ^ 64 - 1
 pub record Holds {F : Type 0} (most : ℕ) (all : All F) (faults : List (Fault F)) : Type 0 where

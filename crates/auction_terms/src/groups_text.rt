@@ -1,11 +1,11 @@
 //! The text of the bidder groups.
 
-ghost use Rattle.std.specs.Prelude.{◌++◌, if◌then◌else◌, nat_le, ◌≡◌, ◌≤◌, ◌<◌, ◌∷◌, Err, [], IfErr, IfOk, OnOk, length, map, option_map, option_to_list, Some};
+ghost use Rattle.std.specs.Prelude.{◌++◌, if◌then◌else◌, nat_le, ◌≡◌, ◌≤◌, ◌<◌, ◌∷◌, Err, [], IfErr, IfOk, OnOk, length, map, option_map, option_to_list, None, Some};
 ghost use Rattle.std.specs.List.{list_any};
 ghost use Rattle.std.specs.Str.{bytes_eq};
 ghost use Rattle.auction_terms.specs.AllFaults.{accepted_with, all_faults};
 ghost use Rattle.auction_terms.specs.FirstFault.{first_failed};
-ghost use Rattle.auction_terms.specs.Judged.{Holds, HoldsMore, fault_at};
+ghost use Rattle.auction_terms.specs.Judged.{Holds, HoldsMore, fault_of_whole, kept_fault};
 ghost use Rattle.auction_terms.specs.Lines.{bytes_of, lines_of};
 ghost use Rattle.auction_terms.specs.GroupsText.{group_faults, group_of, groups_of, is_groups_memory, line_checks, line_faults, name_checks, name_faults, names_faults, room_checks};
 ghost use Rattle.auction_terms.specs.inside.GroupsText.{numbers_from};
@@ -21,7 +21,7 @@ ghost use Rattle.auction_terms.specs.declared.groups_text.GroupFault.TheVariants
 use crate::group_list::Groups;
 use crate::group_names::NameReader;
 use crate::groups::Group;
-use crate::judge::All;
+use crate::judge::{All, FaultAt};
 use crate::limits::{MOST_FAULTS, MOST_GROUPS, TEXT_LIMIT};
 use crate::lines::LineReader;
 use crate::rules::{Bidder, Rules};
@@ -106,41 +106,61 @@ fn is_among(names: &[&[u8]], name: &[u8]) -> bool
 }
 
 // The fault of a name that no bidder has, or that stood before.
-fn name_fault(place: u32, bidders: &[Bidder], before: &[&[u8]], name: &[u8]) -> Option<GroupFault>
-    ensures { result ≡ first_failed (name_checks bidders.now place (bytes_of before.now) name.now) }
+fn name_fault(
+    place: u32,
+    number: usize,
+    bidders: &[Bidder],
+    before: &[&[u8]],
+    name: &[u8],
+) -> Option<FaultAt<GroupFault>>
+    ensures { option_map kept_fault result
+        ≡ first_failed (name_checks bidders.now place number (bytes_of before.now) name.now) }
 {
     if !is_known(bidders, name) {
-        return Some(GroupFault::UnknownBidder { place });
+        return Some(FaultAt::new(
+            number,
+            name,
+            GroupFault::UnknownBidder { place },
+            Wording::Words("is no bidder's name"),
+        ));
     }
     if is_among(before, name) {
-        return Some(GroupFault::RepeatedBidder { place });
+        return Some(FaultAt::new(
+            number,
+            name,
+            GroupFault::RepeatedBidder { place },
+            Wording::Words("is in the line already"),
+        ));
     }
     None
 }
 
 // The fault of a line without a byte.
-fn empty_fault(place: u32, line: &[u8]) -> Option<GroupFault>
-    ensures { result ≡ first_failed (line_checks place line.now) }
+fn empty_fault(place: u32, line: &[u8]) -> Option<FaultAt<GroupFault>>
+    ensures { option_map kept_fault result ≡ first_failed (line_checks place line.now) }
 {
     if line.is_empty() {
-        return Some(GroupFault::EmptyLine { place });
+        return Some(FaultAt::of_whole(GroupFault::EmptyLine { place }, None));
     }
     None
 }
 
 // The fault of a line after the last one that may be.
-fn room_fault(place: u32) -> Option<GroupFault>
-    ensures { result ≡ first_failed (room_checks place) }
+fn room_fault(place: u32) -> Option<FaultAt<GroupFault>>
+    ensures { option_map kept_fault result ≡ first_failed (room_checks place) }
 {
     if place > MOST_GROUPS {
-        return Some(GroupFault::TooManyGroups { place });
+        return Some(FaultAt::of_whole(
+            GroupFault::TooManyGroups { place },
+            Some(Wording::Between("more than ", u64::from(MOST_GROUPS), " groups")),
+        ));
     }
     None
 }
 
 // Adds the fault of a name, or adds the name to the accepted ones.
 fn read_name<'t>(
-    faults: &mut All<'t, GroupFault>,
+    faults: &mut All<GroupFault>,
     accepted: &mut Vec<&'t [u8]>,
     place: u32,
     number: usize,
@@ -153,8 +173,8 @@ fn read_name<'t>(
         ≡ accepted_with (name_faults bidders.now place number (bytes_of accepted.old.items)
         name.now) (bytes_of accepted.old.items) name.now) }
 {
-    if let Some(fault) = name_fault(place, bidders, accepted, name) {
-        return faults.add(number, name, fault);
+    if let Some(fault) = name_fault(place, number, bidders, accepted, name) {
+        return faults.add(fault);
     }
     if accepted.push(name).is_err() {
         return Err(AllocError);
@@ -165,7 +185,7 @@ fn read_name<'t>(
 // The accepted names of a line.
 fn read_names<'t>(
     alloc: Global,
-    faults: &mut All<'t, GroupFault>,
+    faults: &mut All<GroupFault>,
     place: u32,
     bidders: &[Bidder],
     line: &'t [u8],
@@ -189,7 +209,7 @@ fn read_names<'t>(
 // The same, of a line that may be empty.
 fn read_some<'t>(
     alloc: Global,
-    faults: &mut All<'t, GroupFault>,
+    faults: &mut All<GroupFault>,
     place: u32,
     bidders: &[Bidder],
     line: &'t [u8],
@@ -201,7 +221,7 @@ fn read_some<'t>(
 {
     match empty_fault(place, line) {
         Some(fault) => {
-            faults.add(0, line, fault)?;
+            faults.add(fault)?;
             Ok(Vec::new(alloc))
         }
         None => read_names(alloc, faults, place, bidders, line),
@@ -225,12 +245,12 @@ fn numbers_of(alloc: Global, bidders: &[Bidder], names: &[&[u8]]) -> Result<Vec<
 }
 
 // The group of a line.
-fn read_group<'t>(
+fn read_group(
     alloc: Global,
-    faults: &mut All<'t, GroupFault>,
+    faults: &mut All<GroupFault>,
     place: u32,
     bidders: &[Bidder],
-    line: &'t [u8],
+    line: &[u8],
 ) -> Result<Group, AllocError>
     requires { length bidders.now ≤ MOST_BIDDERS }
     ensures told { OnOk result (HoldsMore faults.old faults.new
@@ -240,9 +260,7 @@ fn read_group<'t>(
     ensures numbers { IfOk result IsGroup }
 {
     let names = read_some(alloc, faults, place, bidders, line)?;
-    if let Some(fault) = room_fault(place) {
-        faults.add(0, line, fault)?;
-    }
+    faults.add_any(room_fault(place))?;
     let numbers = numbers_of(alloc, bidders, &names)?;
     Ok(Group::new(numbers))
 }
@@ -259,10 +277,10 @@ fn add_group(groups: &mut Vec<Group>, place: u32, group: Group) -> Result<(), Al
 }
 
 // Adds each fault of a text. Where there is none, these are its groups.
-fn judge_groups<'t>(
+fn judge_groups(
     alloc: Global,
-    faults: &mut All<'t, GroupFault>,
-    bytes: &'t [u8],
+    faults: &mut All<GroupFault>,
+    bytes: &[u8],
     bidders: &[Bidder],
 ) -> Result<Vec<Group>, AllocError>
     requires few { length bidders.now ≤ MOST_BIDDERS }
@@ -302,20 +320,20 @@ pub fn read_groups(alloc: Global, bytes: &[u8], rules: &Rules) -> Result<Groups,
 }
 
 /// All faults of a text of groups, under rules.
-pub fn group_faults<'t>(
+pub fn group_faults(
     alloc: Global,
-    bytes: &'t [u8],
+    bytes: &[u8],
     rules: &Rules,
-) -> Result<All<'t, GroupFault>, AllocError>
+) -> Result<All<GroupFault>, AllocError>
     ensures too_large { TEXT_LIMIT < length bytes.now
-        → IfOk result (λ all. Holds MOST_FAULTS all (fault_at 0 [] fault.TooLarge ∷ [])) }
+        → IfOk result (λ all. Holds MOST_FAULTS all (fault_of_whole fault.TooLarge None ∷ [])) }
     ensures all { length bytes.now ≤ TEXT_LIMIT
         → IfOk result (λ all. Holds MOST_FAULTS all
         (group_faults rules.now.bidders bytes.now)) }
 {
     let mut all = All::new(alloc, MOST_FAULTS);
     if bytes.len() > TEXT_LIMIT {
-        all.add(0, b"", GroupFault::TooLarge)?;
+        all.add(FaultAt::of_whole(GroupFault::TooLarge, None))?;
         return Ok(all);
     }
     judge_groups(alloc, &mut all, bytes, rules.bidders())?;

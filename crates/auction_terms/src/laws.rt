@@ -19,7 +19,7 @@ ghost use Rattle.auction_terms.specs.declared.record_kinds.Version.{Version};
 ghost use Rattle.auction_terms.specs.declared.rules.Bidder.{Bidder};
 ghost use Rattle.auction_terms.specs.declared.limits.TheConstants.{GREATEST_AMOUNT, GREATEST_POINTS, GREATEST_QUANTITY};
 ghost use Rattle.auction_terms.specs.declared.limits.TheConstants.{GREATEST_VALUE, GREATEST_WEIGHT, MOST_BIDDERS, MOST_BIDS};
-ghost use Rattle.auction_terms.specs.declared.limits.TheConstants.{MOST_CATEGORIES, MOST_FAULTS, MOST_GROUPS, MOST_PARTS, MOST_POOLS, MOST_TIES};
+ghost use Rattle.auction_terms.specs.declared.limits.TheConstants.{FRONT_LEN, MOST_CATEGORIES, MOST_FAULTS, MOST_GROUPS, MOST_PARTS, MOST_POOLS, MOST_TIES};
 ghost use Rattle.auction_terms.specs.declared.limits.TheConstants.{MOST_SESSIONS, MOST_WORKERS, TEXT_LIMIT};
 
 /// The records after the header of rules have the fault of the first of them with a fault.
@@ -118,6 +118,7 @@ pub fn the_limits_are_these()
     ensures points { GREATEST_POINTS ≡ 1000000 }
     ensures weight { GREATEST_WEIGHT ≡ 10000 }
     ensures faults { MOST_FAULTS ≡ 10000 }
+    ensures front { FRONT_LEN ≡ 41 }
     ensures parts { MOST_PARTS ≡ 1000000 }
     ensures ties { MOST_TIES ≡ 64 }
     ensures text { TEXT_LIMIT ≡ 4194304 }

@@ -27,6 +27,7 @@ mod draft;
 mod faults;
 mod faulty_rules;
 mod fractions;
+mod front;
 mod group_list;
 mod group_names;
 mod groups;
@@ -57,15 +58,16 @@ pub use decimals::{NumberFault, read_number, scaled};
 pub use faults::{Faults, Found};
 pub use faulty_rules::rules_faults;
 pub use fractions::{Fraction, gcd, in_parts, lcm, read_fraction};
+pub use front::Front;
 pub use group_list::Groups;
 pub use group_names::NameReader;
 pub use groups::Group;
 pub use groups_text::{GroupFault, group_faults, read_groups};
 pub use judge::{All, FaultAt};
 pub use limits::{
-    GREATEST_AMOUNT, GREATEST_POINTS, GREATEST_QUANTITY, GREATEST_VALUE, GREATEST_WEIGHT,
-    MOST_BIDDERS, MOST_BIDS, MOST_CATEGORIES, MOST_FAULTS, MOST_GROUPS, MOST_PARTS, MOST_POOLS,
-    MOST_SESSIONS, MOST_TIES, MOST_WORKERS, TEXT_LIMIT,
+    FRONT_LEN, GREATEST_AMOUNT, GREATEST_POINTS, GREATEST_QUANTITY, GREATEST_VALUE,
+    GREATEST_WEIGHT, MOST_BIDDERS, MOST_BIDS, MOST_CATEGORIES, MOST_FAULTS, MOST_GROUPS,
+    MOST_PARTS, MOST_POOLS, MOST_SESSIONS, MOST_TIES, MOST_WORKERS, TEXT_LIMIT,
 };
 pub use line_fields::{Field, next_field};
 pub use lines::LineReader;

@@ -40,6 +40,9 @@ pub const GREATEST_WEIGHT: u64 = 10_000;
 /// The most faults that are kept of a text, or of an input; others are counted.
 pub const MOST_FAULTS: usize = 10_000;
 
+/// How many bytes of a field or name a fault keeps: those that are shown, and one more.
+pub const FRONT_LEN: usize = 41;
+
 /// How many parts of a pound prices may be whole in.
 pub const MOST_PARTS: u64 = 1_000_000;
 

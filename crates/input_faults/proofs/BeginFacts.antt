@@ -3,7 +3,7 @@ use Rattle.std.proofs.Common.{◌≡◌, ◌+◌, ◌++◌, ◌∷◌, ◌∙◌
 use Rattle.std.proofs.lemmas.List.{map-append}
 use Rattle.std.specs.Prelude.{Bool, true, false, if◌then◌else◌, nat_lt}
 use Rattle.auction_terms.specs.AllFaults.{AreFaultsOf, accepted_with, all_faults, found}
-use Rattle.auction_terms.specs.Judged.{Fault, fault_at}
+use Rattle.auction_terms.specs.Judged.{Fault, reported_as}
 use Rattle.auction_terms.specs.Stages.{and_then, each_in_turn, refused_as, unless}
 use Rattle.auction_terms.specs.declared.faults.Found.{Found}
 use Rattle.auction_terms.specs.declared.limits.TheConstants.{TEXT_LIMIT}
@@ -29,7 +29,7 @@ begin-sized {A} {F} too_large text faults reported are = by (nat_lt TEXT_LIMIT (
 pub begin-fault : {A F G H : Type 0} (part : F → G) (whole : G → H) (fault : Option F) (x : A)
     → BeginWith (judged_as whole (fault_as part fault)) (refused_as (λ f. whole (part f)) (unless fault (Ok x)))
 begin-fault part whole None x = refl
-begin-fault part whole (Some f) x = (0, [], [], refl)
+begin-fault part whole (Some f) x = (_, [], refl, refl)
 
 -- a stage, and what is reported after it
 pub begin-next : {A B F G : Type 0} (whole : F → G) (some others : List (Fault F)) (reported : Result A G) (next : A → Result B G)
@@ -37,12 +37,11 @@ pub begin-next : {A B F G : Type 0} (whole : F → G) (some others : List (Fault
     → ((x : A) → reported ≡ Ok x → BeginWith (judged_as whole others) (next x)) → BeginWith (judged_as whole (some ++ others)) (and_then reported next)
 begin-next whole [] others (Ok x) next are after = after x refl
 begin-next whole (at ∷ some) others (Ok x) next are after = cc
-begin-next whole some others (Err f) next (field, text, more, are) after = (
-  field,
-  text,
+begin-next whole some others (Err f) next (first, more, are, is) after = (
+  first,
   more ++ judged_as whole others,
-  map-append (λ at. fault_at at.field at.text (whole at.fault)) some others ∙ ap (λ faults. faults ++
-      judged_as whole others) are,
+  map-append (λ at. reported_as (whole at.fault) at) some others ∙ ap (λ faults. faults ++ judged_as whole others) are,
+  is,
 )
 
 -- the same faults, where more is made of what is reported

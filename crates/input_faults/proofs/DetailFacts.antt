@@ -18,12 +18,12 @@ pub line-with : (message_of : Fault → List ℕ) (detail_of : Judged Fault → 
     → reported ≡ detail_of at → message_of at.fault ++ (reported ++ 10 ∷ []) ≡ fault_line message_of detail_of at
 line-with message_of detail_of at reported is = ap (λ (d : List ℕ). message_of at.fault ++ (d ++ 10 ∷ [])) is
 
-pub form-known : (t : Terms) (forms : List (List ℕ)) (n number other place : ℕ) (text : List ℕ) (reported : Fault) (f : FormFault)
+pub form-known : (t : Terms) (forms : List (List ℕ)) (at : Judged Fault) (number other place : ℕ) (reported : Fault) (f : FormFault)
     (most : Option ℕ) (row : Record) → reported ≡ fault.Form number f → other ≡ number
     → most ≡ parsed_eligibility t (numbered 1 (records_of (within_limit (numbered other forms)))) → place ≡ form_place f
     → row ≡ numbered place (records_of (within_limit (numbered other forms)))
-    → form_fault_message t most row n f ≡ detail_under_at t forms n text reported
-form-known t forms n number other place text reported f most row is same known at held = rw (is, known, held, at, same) refl
+    → form_fault_message t most row at.field f ≡ detail_under_at t forms at reported
+form-known t forms at number other place reported f most row is same known stands held = rw (is, known, held, stands, same) refl
 
 -- where the rules are refused nothing is reported of other faults
 pub of-no-rules : (records : List Record) (n : ℕ) (reported : Fault) → ((f : RulesFault) → reported ≡ fault.Rules f → ⊥)
@@ -32,10 +32,10 @@ of-no-rules records n (fault.Rules f) not = absurd (not f refl)
 of-no-rules records n reported not = refl
 
 -- and where they are read, of faults of neither forms nor groups, nor of what a command wants
-pub of-neither : (t : Terms) (forms : List (List ℕ)) (n : ℕ) (text : List ℕ) (reported : Fault)
+pub of-neither : (t : Terms) (forms : List (List ℕ)) (at : Judged Fault) (reported : Fault)
     → ((number : ℕ) (f : FormFault) → reported ≡ fault.Form number f → ⊥) → ((f : GroupFault) → reported ≡ fault.Groups f → ⊥)
-    → ((u : Unmet) → reported ≡ fault.Unmet u → ⊥) → [] ≡ detail_under_at t forms n text reported
-of-neither t forms n text (fault.Form number f) no_form no_groups no_unmet = absurd (no_form number f refl)
-of-neither t forms n text (fault.Groups f) no_form no_groups no_unmet = absurd (no_groups f refl)
-of-neither t forms n text (fault.Unmet u) no_form no_groups no_unmet = absurd (no_unmet u refl)
-of-neither t forms n text reported no_form no_groups no_unmet = refl
+    → ((u : Unmet) → reported ≡ fault.Unmet u → ⊥) → [] ≡ detail_under_at t forms at reported
+of-neither t forms at (fault.Form number f) no_form no_groups no_unmet = absurd (no_form number f refl)
+of-neither t forms at (fault.Groups f) no_form no_groups no_unmet = absurd (no_groups f refl)
+of-neither t forms at (fault.Unmet u) no_form no_groups no_unmet = absurd (no_unmet u refl)
+of-neither t forms at reported no_form no_groups no_unmet = refl

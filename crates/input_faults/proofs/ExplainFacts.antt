@@ -53,7 +53,7 @@ faulty held [] (Ok x) true keeps are none some = (λ is. is, λ is. is)
 faulty held [] (Ok x) false keeps are none some =
     (λ is. absurd (some refl (sym (length-map held.kept.items (kept_fault {F = Fault})) ∙ ap length keeps.kept)), λ _. refl)
 faulty held (at ∷ more) (Ok x) empty keeps are none some = cc
-faulty held [] (Err r) empty keeps (field, text, more, are) none some = cc
+faulty held [] (Err r) empty keeps (first, more, are, is) none some = cc
 faulty held (at ∷ more) (Err r) false keeps are none some = (λ _. refl, λ _. refl)
 faulty held (at ∷ more) (Err r) true keeps are none some = (let nothing = none-held MOST_FAULTS held (at ∷ more) (omega arith) keeps (none refl) in cc)
 

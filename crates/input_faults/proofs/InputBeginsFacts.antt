@@ -22,7 +22,7 @@ use Rattle.auction_terms.specs.AllFaults.{AreFaultsOf, all_failed, or_else}
 use Rattle.auction_terms.specs.AllRulesFaults.{all_rules_faults}
 use Rattle.auction_terms.specs.FirstFault.{first_failed, first_fault}
 use Rattle.auction_terms.specs.GroupsText.{group_faults, groups_of}
-use Rattle.auction_terms.specs.Judged.{fault_at, first_or}
+use Rattle.auction_terms.specs.Judged.{fault_of_whole, first_or, reported_as}
 use Rattle.auction_terms.specs.Judged.{Fault as Judged}
 use Rattle.auction_terms.specs.declared.limits.TheConstants.{TEXT_LIMIT}
 use Rattle.auction_terms.specs.Records.{records_of}
@@ -39,7 +39,7 @@ use Rattle.bid_forms.specs.FormText.{form_of_records}
 use Rattle.bid_forms.specs.Offers.{Offers}
 use Rattle.bid_forms.specs.declared.form_text.FormFault.TheVariants as form
 use Rattle.input_faults.proofs.BeginFacts.{begin-each, begin-fault, begin-next, begin-sized}
-use Rattle.input_faults.specs.FaultsAs.{BeginWith, fault_as, faults_as, judged_as}
+use Rattle.input_faults.specs.FaultsAs.{BeginWith, fault_as, faults_as, judged_as, unseen}
 use Rattle.input_faults.specs.InputFaults.{call_fault, faults_in_parts, faults_of_form, faults_of_forms, faults_of_groups}
 use Rattle.input_faults.specs.InputFaults.{faults_of_rules, faults_of_texts, faults_under, input_faults, refusal_of}
 use Rattle.input_faults.specs.InputFaults.{text_fault, unmet_faults, unmet_under, where_read}
@@ -54,7 +54,7 @@ by-fault : {A F : Type 0} (part : F → Fault) (faults : List (Found F)) (report
     → BeginWith (judged_as refusal_of (faults_as part faults)) (refused_as (λ f. refusal_of (part f)) reported)
 by-fault part faults (Ok x) are = ap (λ fs. judged_as refusal_of (faults_as part fs)) are
 by-fault part faults (Err f) (field, more, are) =
-    (field, [], judged_as refusal_of (faults_as part more), ap (λ fs. judged_as refusal_of (faults_as part fs)) are)
+    (unseen field (refusal_of (part f)), judged_as refusal_of (faults_as part more), ap (λ fs. judged_as refusal_of (faults_as part fs)) are, refl)
 
 pub begin-terms : (text : List ℕ) → BeginWith (judged_as refusal_of (faults_of_rules text)) (parsed_terms text)
 begin-terms text = by-fault fault.Rules _ _ (begin-sized rules.TooLarge text (all_rules_faults (records_of text))
@@ -69,11 +69,11 @@ begin-group-text : (t : Terms) (text : List ℕ) → BeginWith (judged_as refusa
 begin-group-text t text = by _ (nat_lt TEXT_LIMIT (length text)) (group_faults t.bidders text)
   where
     by : {A : Type 0} (value : A) (b : Bool) (faults : List (Judged GroupFault))
-        → BeginWith (judged_as refusal_of (judged_as fault.Groups (if b then fault_at 0 [] groups.TooLarge ∷ [] else faults)))
+        → BeginWith (judged_as refusal_of (judged_as fault.Groups (if b then fault_of_whole groups.TooLarge None ∷ [] else faults)))
         (refused_as refusal.Groups (if b then Err groups.TooLarge else first_or faults value))
-    by value true faults = (0, [], [], refl)
+    by value true faults = (fault_of_whole (refusal.Groups groups.TooLarge) None, [], refl, refl)
     by value false [] = refl
-    by value false (f ∷ more) = (f.field, f.text, judged_as refusal_of (judged_as fault.Groups more), refl)
+    by value false (f ∷ more) = (reported_as (refusal.Groups f.fault) f, judged_as refusal_of (judged_as fault.Groups more), refl, refl)
 
 -- what forms and groups describe under the rules
 module _ (last_wins : Bool) (numbers : List ℕ) where
@@ -115,13 +115,13 @@ begin-parts : (asked : Request) (parts : List Part) (found : Option PartFault) (
     (next : List Part → Result Auction Refusal) → BeginWith (judged_as refusal_of others) (next parts)
     → BeginWith (judged_as refusal_of (or_else (or_else (fault_as fault.Parts found) (fault_as fault.PartCount (miscounted asked parts))) others))
     (and_then (and_then (refused_as refusal.Parts (unless found (Ok parts))) (λ ps. refused_as refusal.PartCount (unless (miscounted asked ps) (Ok ps)))) next)
-begin-parts asked parts (Some f) others next are = (0, [], [], refl)
+begin-parts asked parts (Some f) others next are = (fault_of_whole (refusal.Parts f) None, [], refl, refl)
 begin-parts asked parts None others next are = by (miscounted asked parts)
   where
     by : (o : Option PartKind) → BeginWith (judged_as refusal_of (or_else (fault_as fault.PartCount o) others))
         (and_then (refused_as refusal.PartCount (unless o (Ok parts))) next)
     by None = are
-    by (Some k) = (0, [], [], refl)
+    by (Some k) = (fault_of_whole (refusal.PartCount k) None, [], refl, refl)
 
 -- the auction that parts describe, with these forms and groups
 abbrev auction_in : List Part → Terms → List Offers → List (List ℕ) → Auction
@@ -153,7 +153,7 @@ begin-wants : {A : Type 0} (tests : List (Bool × Unmet)) (x : A)
     → BeginWith (judged_as refusal_of (faults_as fault.Unmet (all_failed 0 tests))) (unless (first_failed (refused_unless tests)) (Ok x))
 begin-wants [] x = refl
 begin-wants ((true, u) ∷ more) x = begin-wants more x
-begin-wants ((false, u) ∷ more) x = (0, [], judged_as refusal_of (faults_as fault.Unmet (all_failed 0 more)), refl)
+begin-wants ((false, u) ∷ more) x = (unseen 0 (refusal_of (fault.Unmet u)), judged_as refusal_of (faults_as fault.Unmet (all_failed 0 more)), refl, refl)
 
 -- of an auction that the texts in parts describe
 begin-unmet : (command : Option Target) (last_wins : Bool) (parts : List Part) (auction : Auction) → texts_in last_wins parts ≡ Ok auction

@@ -2,16 +2,16 @@
 use Rattle.std.proofs.Common.{◌≡◌, ◌≤◌, ◌+◌, ◌-◌, ◌++◌, ◌∷◌, ◌∙◌, ℕ, zero, suc, List, [], ap, append_assoc, append-nil, arith, length, length-append}
 use Rattle.std.proofs.Common.{length-take, refl, sym, take, take_all}
 use Rattle.std.proofs.Common.{map}
-use Rattle.std.proofs.lemmas.List.{length-map, take-map, take-take}
+use Rattle.std.proofs.lemmas.List.{length-map, map-append, take-map, take-take}
 use Rattle.std.specs.Prelude.{◌^◌, min}
 use Rattle.auction_terms.specs.AllFaults.{Keeps}
 use Rattle.auction_terms.specs.declared.faults.Faults.{Faults}
 use Rattle.auction_terms.specs.declared.faults.Found.{Found}
 use Rattle.auction_terms.specs.declared.limits.TheConstants.{MOST_FAULTS}
-use Rattle.auction_terms.specs.Judged.{Fault, Holds, fault_at, kept_fault}
+use Rattle.auction_terms.specs.Judged.{Fault, Holds, HoldsMore, kept_fault, reported_as}
 use Rattle.auction_terms.specs.declared.judge.All.{All}
 use Rattle.auction_terms.specs.declared.judge.FaultAt.{FaultAt}
-use Rattle.input_faults.specs.FaultsAs.{faults_as, judged_as}
+use Rattle.input_faults.specs.FaultsAs.{faults_as, judged_as, unseen}
 use Rattle.input_faults.specs.inside.Finding.{FindsMore}
 
 -- none
@@ -51,28 +51,44 @@ pub keeps-others : {F G : Type 0} (whole : F → G) (old middle new : All G) (he
     → FindsMore old middle (faults_as whole (take place held.kept.items)) → new.most ≡ middle.most
     → new.kept.items ≡ middle.kept.items → new.more ≡ min (middle.more + held.more) (2 ^ 64 - 1) → FindsMore old new (faults_as whole faults)
 keeps-others {F} {G} whole old middle new held faults place holds all adds limit same count =
-    let as_many = length-map faults (λ (at : Found F). fault_at at.field [] (whole at.fault)) in
+    let as_many = length-map faults (λ (at : Found F). unseen at.field (whole at.fault)) in
     let h = holds.more in
     finds-all old middle new (faults_as whole (take place held.kept.items)) (faults_as whole faults) held.more
     (ap (faults_as whole) (take_all place held.kept.items all ∙ holds.kept)
-    ∙ sym (take-map (λ (at : Found F). fault_at at.field [] (whole at.fault)) MOST_FAULTS faults)) (omega arith) adds limit same count
+    ∙ sym (take-map (λ (at : Found F). unseen at.field (whole at.fault)) MOST_FAULTS faults)) (omega arith) adds limit same count
 
 -- ---------- faults with their bytes ----------
 
 abbrev pub kept_as : {F G : Type 0} → (F → G) → List (FaultAt F) → List (Fault G)
-kept_as whole faults = map (λ at. fault_at at.field at.text.now (whole at.fault)) faults
+kept_as whole faults = map (λ at. reported_as (whole at.fault) (kept_fault at)) faults
 
 kept-as : {F G : Type 0} (whole : F → G) (faults : List (FaultAt F)) → kept_as whole faults ≡ judged_as whole (map kept_fault faults)
 kept-as whole [] = refl
-kept-as whole (at ∷ more) = ap (λ fs. fault_at at.field at.text.now (whole at.fault) ∷ fs) (kept-as whole more)
+kept-as whole (at ∷ more) = ap (λ fs. reported_as (whole at.fault) (kept_fault at) ∷ fs) (kept-as whole more)
 
-pub holds-others : {F G : Type 0} (whole : F → G) (old middle new : All G) (held : All F) (faults : List (Fault F)) (place : ℕ)
-    → Holds MOST_FAULTS held faults → length held.kept.items ≤ place → FindsMore old middle (kept_as whole (take place held.kept.items))
+pub holds-others : {F G : Type 0} (whole : F → G) (old middle new : All G) (held : All F) (faults : List (Fault F))
+    → Holds MOST_FAULTS held faults → FindsMore old middle (kept_as whole held.kept.items)
     → new.most ≡ middle.most → new.kept.items ≡ middle.kept.items → new.more ≡ min (middle.more + held.more) (2 ^ 64 - 1)
     → FindsMore old new (judged_as whole faults)
-holds-others {F} {G} whole old middle new held faults place holds all adds limit same count =
-    let as_many = length-map faults (λ (at : Fault F). fault_at at.field at.text (whole at.fault)) in
+holds-others {F} {G} whole old middle new held faults holds adds limit same count =
+    let as_many = length-map faults (λ (at : Fault F). reported_as (whole at.fault) at) in
     let h = holds.more in
-    finds-all old middle new (kept_as whole (take place held.kept.items)) (judged_as whole faults) held.more
-    (ap (kept_as whole) (take_all place held.kept.items all) ∙ kept-as whole held.kept.items ∙ ap (judged_as whole) holds.kept
-    ∙ sym (take-map (λ (at : Fault F). fault_at at.field at.text (whole at.fault)) MOST_FAULTS faults)) (omega arith) adds limit same count
+    finds-all old middle new (kept_as whole held.kept.items) (judged_as whole faults) held.more
+    (kept-as whole held.kept.items ∙ ap (judged_as whole) holds.kept
+    ∙ sym (take-map (λ (at : Fault F). reported_as (whole at.fault) at) MOST_FAULTS faults)) (omega arith) adds limit same count
+
+-- one more of the kept faults is added
+pub merged-more : {F G : Type 0} (whole : F → G) (old middle new : All G) (yielded rest rest' all : List (FaultAt F)) (at : FaultAt F) (told : FaultAt G)
+    → FindsMore old middle (kept_as whole yielded) → yielded ++ rest ≡ all → rest ≡ at ∷ rest'
+    → kept_fault told ≡ reported_as (whole at.fault) (kept_fault at) → HoldsMore middle new (kept_fault told ∷ [])
+    → FindsMore old new (kept_as whole (yielded ++ at ∷ [])) × ((yielded ++ at ∷ []) ++ rest' ≡ all)
+merged-more whole old middle new yielded rest rest' all at told finds are next same adds = (
+  rw (map-append (λ at. reported_as (whole at.fault) (kept_fault at)) yielded (at ∷ []), ← same) (finds-both _ _ _ _ _ finds (adds MOST_FAULTS)),
+  append_assoc yielded (at ∷ []) rest' ∙ ap (λ xs. yielded ++ xs) (sym next) ∙ are,
+)
+
+-- and all are
+pub merged-all : {F G : Type 0} (whole : F → G) (old middle : All G) (yielded rest all : List (FaultAt F)) → FindsMore old middle (kept_as whole yielded)
+    → yielded ++ rest ≡ all → length rest ≡ 0 → FindsMore old middle (kept_as whole all)
+merged-all whole old middle yielded [] all finds are none = rw (← are, append-nil yielded) finds
+merged-all whole old middle yielded (x ∷ rest) all finds are none = absurd (omega arith)

@@ -9,7 +9,7 @@ use Rattle.auction_input.specs.ParsedTexts.{parsed_terms}
 use Rattle.auction_input.specs.declared.part_kind.PartKind.{PartKind}
 use Rattle.auction_input.specs.declared.parts.PartFault.{PartFault}
 use Rattle.auction_input.specs.declared.parts.PartFault.TheVariants as part_fault
-use Rattle.auction_terms.specs.Judged.{Fault as Judged, fault_at}
+use Rattle.auction_terms.specs.Judged.{Fault as Judged, fault_of_whole}
 use Rattle.input_faults.specs.Details.{parts_count_message}
 use Rattle.input_faults.specs.FaultsAs.{fault_as}
 use Rattle.input_faults.specs.InputFaults.{faults_of_parts}
@@ -27,7 +27,7 @@ part-reported asked input (part_fault.PartName n) reported other = reported
 part-reported asked input (part_fault.OfVersion1 n) reported other = reported
 
 module _ (asked : Request) (input : Input) where
-  pub parts-unknown : (f : PartFault) → input_fault asked input ≡ Some f → faults_of_parts asked input ≡ fault_at 0 [] (fault.Parts f) ∷ []
+  pub parts-unknown : (f : PartFault) → input_fault asked input ≡ Some f → faults_of_parts asked input ≡ fault_of_whole (fault.Parts f) None ∷ []
   parts-unknown f is = rw is refl
 
   pub parts-counted : (parts : List Part) (count : Option PartKind) → input_fault asked input ≡ None → parts ≡ input_parts input

@@ -1,5 +1,5 @@
 -- What texts describe, and all faults of each.
-use Rattle.std.proofs.Common.{◌≡◌, ◌≤◌, ◌<◌, ◌++◌, ◌∷◌, ℕ, Bool, false, List, [], Result, Ok, Err, ap, arith, length, refl, sym, inl, inr}
+use Rattle.std.proofs.Common.{◌≡◌, ◌≤◌, ◌<◌, ◌++◌, ◌∷◌, ℕ, Bool, false, List, [], None, Result, Ok, Err, ap, arith, length, refl, sym, inl, inr}
 use Rattle.std.proofs.lemmas.Bool.Decides.{leb_tells}
 use Rattle.auction_input.proofs.FaultFacts.{no_rules}
 use Rattle.auction_input.proofs.InputTextFacts.{rules-faulted, rules-parse, sized-answers}
@@ -7,7 +7,7 @@ use Rattle.auction_input.specs.ParsedTexts.{form_in, parsed_form, parsed_groups,
 use Rattle.auction_input.specs.declared.refusal.Refusal.{Refusal}
 use Rattle.auction_input.specs.declared.refusal.Refusal.TheVariants as refusal
 use Rattle.auction_terms.specs.AllFaults.{Keeps, found}
-use Rattle.auction_terms.specs.Judged.{Holds, fault_at}
+use Rattle.auction_terms.specs.Judged.{Holds, fault_of_whole}
 use Rattle.auction_terms.specs.Judged.{Fault as Judged}
 use Rattle.auction_terms.specs.declared.judge.All.{All}
 use Rattle.auction_terms.specs.GroupsText.{groups_of, is_groups_memory}
@@ -41,7 +41,7 @@ keeps-sized held too_large text faults large small =
     elim (leb_tells 4194305 (length text)) [ inl (is, more) ↦ rw is (large (omega arith)) | inr (is, few) ↦ rw is (small (omega arith)) ]
 
 pub holds-sized : {F : Type 0} (held : All F) (too_large : F) (text : List ℕ) (faults : List (Judged F))
-    → (TEXT_LIMIT < length text → Holds MOST_FAULTS held (fault_at 0 [] too_large ∷ [])) → (length text ≤ TEXT_LIMIT → Holds MOST_FAULTS held faults)
+    → (TEXT_LIMIT < length text → Holds MOST_FAULTS held (fault_of_whole too_large None ∷ [])) → (length text ≤ TEXT_LIMIT → Holds MOST_FAULTS held faults)
     → Holds MOST_FAULTS held (judged_of_sized too_large text faults)
 holds-sized held too_large text faults large small =
     elim (leb_tells 4194305 (length text)) [ inl (is, more) ↦ rw is (large (omega arith)) | inr (is, few) ↦ rw is (small (omega arith)) ]

@@ -6,14 +6,13 @@ use Rattle.auction_input.specs.declared.part_kind.PartKind.{PartKind}
 use Rattle.auction_input.specs.declared.part_kind.PartKind.TheVariants as part
 use Rattle.auction_input.specs.declared.wanted.Unmet.{Unmet}
 use Rattle.auction_input.specs.declared.wanted.Unmet.TheVariants as unmet
+use Rattle.auction_terms.specs.Judged.{Fault as Judged}
 use Rattle.auction_terms.specs.Records.{Record}
 use Rattle.auction_terms.specs.RulesFields.{limits_outside}
 use Rattle.auction_terms.specs.RulesText.{field_count, is_kind, record_field, record_kind}
 use Rattle.auction_terms.specs.Terms.{Terms}
-use Rattle.auction_terms.specs.declared.groups_text.GroupFault.{GroupFault}
-use Rattle.auction_terms.specs.declared.groups_text.GroupFault.TheVariants as groups
 use Rattle.auction_terms.specs.declared.limits.TheConstants.{GREATEST_AMOUNT, GREATEST_QUANTITY, MOST_BIDDERS, MOST_BIDS}
-use Rattle.auction_terms.specs.declared.limits.TheConstants.{MOST_CATEGORIES, MOST_GROUPS, MOST_POOLS}
+use Rattle.auction_terms.specs.declared.limits.TheConstants.{MOST_CATEGORIES, MOST_POOLS}
 use Rattle.auction_terms.specs.declared.record_kinds.RecordKind.{RecordKind}
 use Rattle.auction_terms.specs.declared.record_kinds.RecordKind.TheVariants as kind
 use Rattle.auction_terms.specs.declared.record_kinds.Version.{Version}
@@ -36,9 +35,18 @@ use Rattle.auction_input.specs.declared.request.Target.TheVariants as target
 abbrev pub field_message : ℕ → Record → List ℕ → List ℕ
 field_message n r wrong = codes ", field " ++ (decimal n ++ (codes ": " ++ (shown_text (record_field n r) ++ wrong)))
 
--- the number of a name in a line of groups, the name itself, and what is wrong with it
-abbrev pub name_message : ℕ → List ℕ → List ℕ → List ℕ
-name_message n name wrong = codes ", name " ++ (decimal n ++ (codes ": " ++ (shown_text name ++ wrong)))
+-- words and the number of a field or name after them, what is there, and what is wrong with it
+abbrev pub place_message : List ℕ → ℕ → List ℕ → List ℕ → List ℕ
+place_message words n text cause = words ++ (decimal n ++ (codes ": " ++ (shown_text text ++ (codes " " ++ cause))))
+
+-- what is wrong, if there are words for it: with what is at a field or name, or (0) with a whole record or line
+abbrev pub cause_message : List ℕ → ℕ → List ℕ → Option (List ℕ) → List ℕ
+cause_message words n text None = []
+cause_message words n text (Some cause) = if n == 0 then codes ": " ++ cause else place_message words n text cause
+
+-- a fault that tells its cause, with words before the number of its field or name
+abbrev pub fault_message : {F : Type 0} → List ℕ → Judged F → List ℕ
+fault_message words at = cause_message words at.field at.text at.cause
 
 -- how many fields there are, and how many were wanted
 abbrev pub count_message : ℕ → ℕ → List ℕ
@@ -164,14 +172,3 @@ form_fault_message t most r n (form.BelowReserve place) =
     option_map_or (λ least. field_message n r (codes " is below the reserve of " ++ decimal least)) (parsed_reserve t r) []
 form_fault_message t most r n (form.TooManyBids place) = codes ": more than " ++ (decimal MOST_BIDS ++ codes " bids")
 form_fault_message t most r n f = []
-
--- ---------- groups ----------
-
--- a fault at a name of a line of groups
-abbrev pub group_message : List ℕ → ℕ → GroupFault → List ℕ
-group_message name n (groups.UnknownBidder place) = name_message n name (codes " is no bidder's name")
-group_message name n (groups.RepeatedBidder place) = name_message n name (codes " is in the line already")
-group_message name n (groups.TooManyGroups place) = codes ": more than " ++ (decimal MOST_GROUPS ++ codes " groups")
-group_message name n groups.TooLarge = []
-group_message name n (groups.EmptyLine place) = []
-group_message name n groups.OutOfMemory = []

@@ -1,25 +1,29 @@
 -- Faults of a text, as those of a whole input.
-use Rattle.std.specs.Prelude.{◌≡◌, ℕ, List, [], ◌∷◌, Option, Result, Ok, Err, if◌then◌else◌, length, map, nat_lt, option_map, option_to_list}
+use Rattle.std.specs.Prelude.{◌≡◌, ℕ, List, [], ◌∷◌, Option, None, Result, Ok, Err, if◌then◌else◌, length, map, nat_lt, option_map, option_to_list}
 use Rattle.auction_terms.specs.AllFaults.{found}
-use Rattle.auction_terms.specs.Judged.{Fault, fault_at}
+use Rattle.auction_terms.specs.Judged.{Fault, fault_of_whole, reported_as}
 use Rattle.auction_terms.specs.declared.faults.Found.{Found}
 use Rattle.auction_terms.specs.declared.limits.TheConstants.{TEXT_LIMIT}
 
 -- each fault at its place, reported as another
 abbrev pub judged_as : {F G : Type 0} → (F → G) → List (Fault F) → List (Fault G)
-judged_as whole faults = map (λ at. fault_at at.field at.text (whole at.fault)) faults
+judged_as whole faults = map (λ at. reported_as (whole at.fault) at) faults
+
+-- a fault at a field, of which the bytes and the cause aren't known
+abbrev pub unseen : {F : Type 0} → ℕ → F → Fault F
+unseen field fault = record { field = field; text = []; fault = fault; cause = None }
 
 -- faults of which the bytes aren't known, each at its place and reported as another
 abbrev pub faults_as : {F G : Type 0} → (F → G) → List (Found F) → List (Fault G)
-faults_as whole faults = map (λ at. fault_at at.field [] (whole at.fault)) faults
+faults_as whole faults = map (λ at. unseen at.field (whole at.fault)) faults
 
 -- a fault, if there is one, which is of no field
 abbrev pub fault_as : {F G : Type 0} → (F → G) → Option F → List (Fault G)
-fault_as whole fault = option_to_list (option_map (λ f. fault_at 0 [] (whole f)) fault)
+fault_as whole fault = option_to_list (option_map (λ f. fault_of_whole (whole f) None) fault)
 
 -- the faults of a text; one above the limit has that fault alone
 abbrev pub judged_of_sized : {F : Type 0} → F → List ℕ → List (Fault F) → List (Fault F)
-judged_of_sized too_large text faults = if nat_lt TEXT_LIMIT (length text) then fault_at 0 [] too_large ∷ [] else faults
+judged_of_sized too_large text faults = if nat_lt TEXT_LIMIT (length text) then fault_of_whole too_large None ∷ [] else faults
 
 -- faults of a text of which the bytes aren't known; one above the limit has that fault alone
 abbrev pub faults_of_sized : {F : Type 0} → F → List ℕ → List (Found F) → List (Found F)
@@ -28,4 +32,4 @@ faults_of_sized too_large text faults = if nat_lt TEXT_LIMIT (length text) then 
 -- the listed faults of a text agree with what is reported of it: there is none if the text is accepted, and else the reported one comes first
 abbrev pub BeginWith : {A F : Type 0} → List (Fault F) → Result A F → Type 0
 BeginWith faults (Ok x) = faults ≡ []
-BeginWith {A} {F} faults (Err fault) = (field : ℕ) × (text : List ℕ) × (more : List (Fault F)) × (faults ≡ fault_at field text fault ∷ more)
+BeginWith {A} {F} faults (Err fault) = (first : Fault F) × (more : List (Fault F)) × (faults ≡ first ∷ more) × (first.fault ≡ fault)

@@ -22,7 +22,7 @@ use Rattle.auction_terms.specs.declared.limits.TheConstants.{TEXT_LIMIT}
 use Rattle.auction_terms.specs.declared.rules_text.RulesFault.{RulesFault}
 use Rattle.bid_forms.specs.RowNumbers.{parsed_eligibility, form_place}
 use Rattle.bid_forms.specs.declared.form_text.FormFault.{FormFault}
-use Rattle.input_faults.specs.Details.{beginning_message, form_fault_message, group_message, parts_count_message, rules_message, unmet_message}
+use Rattle.input_faults.specs.Details.{beginning_message, fault_message, form_fault_message, parts_count_message, rules_message, unmet_message}
 use Rattle.input_faults.specs.declared.fault.Fault.{Fault}
 use Rattle.input_faults.specs.declared.fault.Fault.TheVariants as fault
 use Rattle.auction_input.specs.declared.request.Request.{Request}
@@ -43,7 +43,7 @@ detail_of_rules records n f = rules_message (version_of (numbered 1 records)) (n
 abbrev pub detail_of_form : Terms → List Record → ℕ → FormFault → List ℕ
 detail_of_form t records n f = form_fault_message t (parsed_eligibility t (numbered 1 records)) (numbered (form_place f) records) n f
 
--- a fault, at this field or name and with these bytes there, where the rules are refused
+-- a fault, at this field, where the rules are refused
 abbrev pub detail_in_rules_at : List Record → ℕ → Fault → List ℕ
 detail_in_rules_at records n (fault.Rules f) = detail_of_rules records n f
 detail_in_rules_at records n f = []
@@ -52,16 +52,16 @@ detail_in_rules_at records n f = []
 abbrev pub detail_in_rules : List Record → Judged Fault → List ℕ
 detail_in_rules records at = detail_in_rules_at records at.field at.fault
 
--- the detail of a fault, at this field or name and with these bytes there, of an input whose rules are accepted
-abbrev pub detail_under_at : Terms → List (List ℕ) → ℕ → List ℕ → Fault → List ℕ
-detail_under_at t forms n text (fault.Form number f) = detail_of_form t (records_of (within_limit (numbered number forms))) n f
-detail_under_at t forms n text (fault.Groups f) = group_message text n f
-detail_under_at t forms n text (fault.Unmet u) = unmet_message u
-detail_under_at t forms n text f = []
+-- the detail of this fault, of an input whose rules are accepted
+abbrev pub detail_under_at : Terms → List (List ℕ) → Judged Fault → Fault → List ℕ
+detail_under_at t forms at (fault.Form number f) = detail_of_form t (records_of (within_limit (numbered number forms))) at.field f
+detail_under_at t forms at (fault.Groups f) = fault_message (codes ", name ") at
+detail_under_at t forms at (fault.Unmet u) = unmet_message u
+detail_under_at t forms at f = []
 
 -- the detail of a fault of an input whose rules are accepted
 abbrev pub detail_under : Terms → List (List ℕ) → Judged Fault → List ℕ
-detail_under t forms at = detail_under_at t forms at.field at.text at.fault
+detail_under t forms at = detail_under_at t forms at at.fault
 
 -- a fault of these texts
 abbrev pub detail_in_texts : Result Terms Refusal → List ℕ → List (List ℕ) → Judged Fault → List ℕ

@@ -3,15 +3,17 @@
 ghost use Rattle.std.specs.Prelude.{◌≡◌, ◌++◌, codes, decimal};
 ghost use Rattle.csv.specs.Records.{fields_of};
 ghost use Rattle.auction_terms.specs.RulesText.{record_field};
+ghost use Rattle.auction_terms.specs.Judged.{kept_fault};
 ghost use Rattle.auction_terms.specs.Wording.{wording_text};
-ghost use Rattle.input_faults.specs.Details.{beginning_message, field_message};
+ghost use Rattle.input_faults.specs.Details.{beginning_message, fault_message, field_message, place_message};
 ghost use Rattle.input_faults.specs.Shown.{shown_text};
 ghost use Rattle.input_faults.specs.inside.DetailText.{detail_text};
 ghost use Rattle.byte_sinks.specs.Adds.{Adds};
 
+use crate::fault::Fault;
 use crate::shown::add_shown;
 use crate::wording::add_wording;
-use auction_terms::{Wording, field};
+use auction_terms::{FaultAt, Wording, field};
 use byte_sinks::{Sink, Writer};
 use csv::ByteRecord;
 
@@ -29,8 +31,10 @@ pub enum Detail<'d> {
     Field(usize, &'d [u8], Wording),
     /// The number of a field, what is there, and the name of the category that was wanted.
     Column(usize, &'d [u8], &'d [u8]),
-    /// The number of a name in a line, the name, and what is wrong with it.
-    Name(usize, &'d [u8], Wording),
+    /// What is wrong with a whole record or line.
+    Cause(Wording),
+    /// Words, the number of a field or name after them, what is there, and what is wrong with it.
+    Place(&'static str, usize, &'d [u8], Wording),
 }
 
 // The bytes of a field of this number. There is none of number 0: the first stands for it, as in the definitions.
@@ -51,7 +55,40 @@ pub fn of_field<'d>(row: &'d ByteRecord, number: usize, wrong: Wording) -> Detai
     Detail::Field(number, field_at(row, number), wrong)
 }
 
-// Adds the number of a field or name, what is there, and what is wrong with it.
+/// The detail of a fault that tells its cause. The words come before the number of its field or name, if it is of one.
+pub fn fault_detail<'d>(words: &'static str, at: &'d FaultAt<Fault>) -> Detail<'d>
+    ensures { detail_text result ≡ fault_message words.now (kept_fault at.now) }
+{
+    match at.cause {
+        None => Detail::Nothing,
+        Some(cause) => {
+            if at.field == 0 {
+                Detail::Cause(cause)
+            } else {
+                Detail::Place(words, at.field, at.text.as_slice(), cause)
+            }
+        }
+    }
+}
+
+// Adds words and the number of a field or name, what is there, and what is wrong with it.
+fn add_place<S: Sink>(
+    writer: &mut Writer<'_, S>,
+    words: &'static str,
+    number: usize,
+    value: &[u8],
+    cause: Wording,
+)
+    ensures { Adds S.taken S.failures writer.old writer.new
+        (place_message words.now number value.now (wording_text cause)) }
+{
+    add_wording(writer, Wording::Between(words, number as u64, ": "));
+    add_shown(writer, value);
+    writer.add(b" ");
+    add_wording(writer, cause);
+}
+
+// Adds the number of a field, what is there, and what is wrong with it.
 fn add_value<S: Sink>(
     writer: &mut Writer<'_, S>,
     words: &'static str,
@@ -103,6 +140,12 @@ pub fn add_detail<S: Sink>(writer: &mut Writer<'_, S>, detail: &Detail<'_>)
         }
         Detail::Field(number, value, wrong) => add_value(writer, ", field ", number, value, wrong),
         Detail::Column(number, value, name) => add_column(writer, number, value, name),
-        Detail::Name(number, value, wrong) => add_value(writer, ", name ", number, value, wrong),
+        Detail::Cause(cause) => {
+            writer.add(b": ");
+            add_wording(writer, cause);
+        }
+        Detail::Place(words, number, value, cause) => {
+            add_place(writer, words, number, value, cause);
+        }
     }
 }

@@ -19,7 +19,7 @@ use auction_input::{
     Input, Numbers, Part, PartFault, PartKind, Request, Target, miscounted, proof_wants,
     solution_wants, split_parts, text_numbers_of, text_of, texts_of,
 };
-use auction_terms::{All, Groups, MOST_FAULTS, Rules};
+use auction_terms::{All, FaultAt, Groups, MOST_FAULTS, Rules};
 use std::alloc::{AllocError, Global};
 
 /// Tests that a fault of parts isn't that memory was refused.
@@ -35,7 +35,7 @@ pub(crate) fn check_part_fault(fault: PartFault) -> Result<(), AllocError>
 // Adds the fault of the parts, or returns them.
 fn take_parts<'t>(
     alloc: Global,
-    faults: &mut All<'t, Fault>,
+    faults: &mut All<Fault>,
     request: &Request,
     input: &'t Input,
 ) -> Result<Option<Vec<Part<'t>>>, AllocError>
@@ -50,24 +50,24 @@ fn take_parts<'t>(
         Ok(parts) => parts,
         Err(fault) => {
             check_part_fault(fault)?;
-            faults.add(0, b"", Fault::Parts(fault))?;
+            faults.add(FaultAt::of_whole(Fault::Parts(fault), None))?;
             return Ok(None);
         }
     };
     match miscounted(request, parts.as_slice()) {
         None => Ok(Some(parts)),
         Some(kind) => {
-            faults.add(0, b"", Fault::PartCount(kind))?;
+            faults.add(FaultAt::of_whole(Fault::PartCount(kind), None))?;
             Ok(None)
         }
     }
 }
 
 // Adds the faults of all forms, and returns what is wrong with them together.
-fn take_form_parts<'t>(
+fn take_form_parts(
     alloc: Global,
-    faults: &mut All<'t, Fault>,
-    parts: &[Part<'t>],
+    faults: &mut All<Fault>,
+    parts: &[Part<'_>],
     rules: &Rules,
     last_wins: bool,
 ) -> Result<Together, AllocError>
@@ -95,10 +95,10 @@ fn take_form_parts<'t>(
 }
 
 // Adds the faults of forms and groups under the rules.
-fn take_under<'t>(
+fn take_under(
     alloc: Global,
-    faults: &mut All<'t, Fault>,
-    parts: &[Part<'t>],
+    faults: &mut All<Fault>,
+    parts: &[Part<'_>],
     rules: &Rules,
     last_wins: bool,
 ) -> Result<(), AllocError>
@@ -115,10 +115,10 @@ fn take_under<'t>(
 }
 
 // Adds what a command wants of parts with these groups, and they haven't got.
-fn add_wanted<'t>(
-    faults: &mut All<'t, Fault>,
+fn add_wanted(
+    faults: &mut All<Fault>,
     command: Target,
-    parts: &[Part<'t>],
+    parts: &[Part<'_>],
     groups: &Groups,
 ) -> Result<(), AllocError>
     ensures { OnOk result (FindsMore faults.old faults.new
@@ -136,11 +136,11 @@ fn add_wanted<'t>(
 }
 
 // Adds what a command wants of these parts, and they haven't got, if their groups are read.
-fn take_wanted<'t>(
+fn take_wanted(
     alloc: Global,
-    faults: &mut All<'t, Fault>,
+    faults: &mut All<Fault>,
     command: Target,
-    parts: &[Part<'t>],
+    parts: &[Part<'_>],
     rules: &Rules,
 ) -> Result<(), AllocError>
     ensures { OnOk result (FindsMore faults.old faults.new
@@ -153,11 +153,11 @@ fn take_wanted<'t>(
 }
 
 // The same of a command, if one is named: else nothing is wanted.
-fn take_wanted_by<'t>(
+fn take_wanted_by(
     alloc: Global,
-    faults: &mut All<'t, Fault>,
+    faults: &mut All<Fault>,
     command: Option<Target>,
-    parts: &[Part<'t>],
+    parts: &[Part<'_>],
     rules: &Rules,
 ) -> Result<(), AllocError>
     ensures { OnOk result (FindsMore faults.old faults.new
@@ -170,11 +170,11 @@ fn take_wanted_by<'t>(
 }
 
 // Adds the faults of the texts of rules, forms and groups, and of what a command wants of the parts.
-fn take_texts<'t>(
+fn take_texts(
     alloc: Global,
-    faults: &mut All<'t, Fault>,
+    faults: &mut All<Fault>,
     command: Option<Target>,
-    parts: &[Part<'t>],
+    parts: &[Part<'_>],
     last_wins: bool,
 ) -> Result<(), AllocError>
     ensures { OnOk result (FindsMore faults.old faults.new
@@ -190,11 +190,11 @@ fn take_texts<'t>(
 }
 
 /// All faults of the input of a request.
-pub fn input_faults<'t>(
+pub fn input_faults(
     alloc: Global,
     request: &Request,
-    input: &'t Input,
-) -> Result<All<'t, Fault>, AllocError>
+    input: &Input,
+) -> Result<All<Fault>, AllocError>
     ensures { IfOk result (λ faults. Holds MOST_FAULTS faults
         (input_faults request.now input.now)) }
 {

@@ -7,7 +7,6 @@ mod fault;
 mod finding;
 mod form_details;
 mod form_reading;
-mod group_details;
 pub mod laws;
 mod lines;
 mod merging;

@@ -16,12 +16,11 @@ ghost use Rattle.input_faults.specs.inside.HeldLines.{held_lines, kept_line};
 ghost use Rattle.byte_sinks.specs.Adds.{Adds};
 ghost use Rattle.byte_sinks.specs.Sinks.{HasFailed, SentFront, written_of};
 
-use crate::detail::{Detail, add_detail};
+use crate::detail::{Detail, add_detail, fault_detail};
 use crate::fault::Fault;
 use crate::finding::check_part_fault;
 use crate::form_details::form_detail;
 use crate::form_reading::{FormReading, within_limit};
-use crate::group_details::group_detail;
 use crate::part_details::{count_detail, part_detail, unmet_detail};
 use crate::placed::add_message;
 use crate::reading::rules_in;
@@ -58,7 +57,7 @@ fn add_line_of_rules<S: Sink>(
     places: &Places<'_>,
     cursor: &mut RecordCursor<'_>,
     version: Option<Version>,
-    at: &FaultAt<'_, Fault>,
+    at: &FaultAt<Fault>,
 ) -> Result<(), AllocError>
     ensures added { (text : List ℕ) → StandsAt cursor.old text
         → version ≡ version_of (numbered 1 (records_of text))
@@ -87,7 +86,7 @@ fn add_lines_of_rules<S: Sink>(
     writer: &mut Writer<'_, S>,
     places: &Places<'_>,
     text: &[u8],
-    faults: &[FaultAt<'_, Fault>],
+    faults: &[FaultAt<Fault>],
 ) -> Result<(), AllocError>
     ensures { OnOk result (Adds S.taken S.failures writer.old writer.new
         (flat_map (kept_line (message_of places.now) (detail_in_rules (records_of text.now)))
@@ -110,7 +109,7 @@ fn add_line_under<'t, S: Sink>(
     rules: &Rules,
     forms: &[&'t [u8]],
     form: &mut FormReading<'t>,
-    at: &FaultAt<'_, Fault>,
+    at: &FaultAt<Fault>,
 ) -> Result<(), AllocError>
     requires { ReadsForm rules.now (bytes_of forms.now) form.old }
     ensures added { OnOk result (Adds S.taken S.failures writer.old writer.new
@@ -128,9 +127,8 @@ fn add_line_under<'t, S: Sink>(
             add_line(writer, places, at.fault, &detail);
             Ok(())
         }
-        Fault::Groups(fault) => {
-            let detail = group_detail(at.text, at.field, fault);
-            add_line(writer, places, at.fault, &detail);
+        Fault::Groups(_) => {
+            add_line(writer, places, at.fault, &fault_detail(", name ", at));
             Ok(())
         }
         Fault::Unmet(unmet) => {
@@ -151,7 +149,7 @@ fn add_lines_under<S: Sink>(
     places: &Places<'_>,
     rules: &Rules,
     forms: &[&[u8]],
-    faults: &[FaultAt<'_, Fault>],
+    faults: &[FaultAt<Fault>],
 ) -> Result<(), AllocError>
     ensures { OnOk result (Adds S.taken S.failures writer.old writer.new
         (flat_map (kept_line (message_of places.now)
@@ -168,7 +166,7 @@ fn add_lines_under<S: Sink>(
 fn add_lines_alike<S: Sink>(
     writer: &mut Writer<'_, S>,
     places: &Places<'_>,
-    faults: &[FaultAt<'_, Fault>],
+    faults: &[FaultAt<Fault>],
     detail: &Detail<'_>,
 )
     ensures { Adds S.taken S.failures writer.old writer.new
@@ -187,7 +185,7 @@ fn add_lines_in<S: Sink>(
     places: &Places<'_>,
     rules: &[u8],
     forms: &[&[u8]],
-    faults: &[FaultAt<'_, Fault>],
+    faults: &[FaultAt<Fault>],
 ) -> Result<(), AllocError>
     ensures { OnOk result (Adds S.taken S.failures writer.old writer.new
         (flat_map (kept_line (message_of places.now) (detail_in_texts (parsed_terms rules.now) rules.now
@@ -206,7 +204,7 @@ fn add_lines_of_parts<S: Sink>(
     places: &Places<'_>,
     request: &Request,
     parts: &[Part<'_>],
-    faults: &[FaultAt<'_, Fault>],
+    faults: &[FaultAt<Fault>],
 ) -> Result<(), AllocError>
     ensures { OnOk result (Adds S.taken S.failures writer.old writer.new
         (flat_map (kept_line (message_of places.now) (detail_of_counted request.now
@@ -231,7 +229,7 @@ fn add_lines<S: Sink>(
     places: &Places<'_>,
     request: &Request,
     input: &Input,
-    faults: &[FaultAt<'_, Fault>],
+    faults: &[FaultAt<Fault>],
 ) -> Result<(), AllocError>
     ensures { OnOk result (Adds S.taken S.failures writer.old writer.new
         (flat_map (kept_line (message_of places.now) (detail request.now input.now))
@@ -269,7 +267,7 @@ fn lines_at(
     places: &Places<'_>,
     request: &Request,
     input: &Input,
-    faults: &All<'_, Fault>,
+    faults: &All<Fault>,
 ) -> Result<Vec<u8>, AllocError>
     ensures { IfOk result (λ lines. lines.items
         ≡ held_lines (message_of places.now) (detail request.now input.now) faults.now) }
@@ -296,7 +294,7 @@ pub fn lines_of(
     alloc: Global,
     request: &Request,
     input: &Input,
-    faults: &All<'_, Fault>,
+    faults: &All<Fault>,
 ) -> Result<Vec<u8>, AllocError>
     ensures { IfOk result (λ lines. lines.items
         ≡ held_lines (message_of input.now.texts) (detail request.now input.now) faults.now) }

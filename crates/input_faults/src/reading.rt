@@ -82,7 +82,7 @@ pub fn groups_in(alloc: Global, text: &[u8], rules: &Rules) -> Result<Option<Gro
 /// Adds the faults of a text of rules, or returns the rules.
 pub fn take_rules(
     alloc: Global,
-    faults: &mut All<'_, Fault>,
+    faults: &mut All<Fault>,
     text: &[u8],
 ) -> Result<Option<Rules>, AllocError>
     ensures faults { OnOk result (FindsMore faults.old faults.new (faults_of_rules text.now)) }
@@ -103,7 +103,7 @@ pub fn take_rules(
 // Adds the faults of the form of that number, or returns the form.
 fn take_form(
     alloc: Global,
-    faults: &mut All<'_, Fault>,
+    faults: &mut All<Fault>,
     number: usize,
     text: &[u8],
     rules: &Rules,
@@ -138,7 +138,7 @@ pub struct Together {
 /// read.
 pub fn take_forms(
     alloc: Global,
-    faults: &mut All<'_, Fault>,
+    faults: &mut All<Fault>,
     texts: &[&[u8]],
     numbers: &[usize],
     rules: &Rules,
@@ -178,16 +178,16 @@ pub fn take_forms(
 }
 
 /// Adds the faults of a text of groups.
-pub fn take_groups<'t>(
+pub fn take_groups(
     alloc: Global,
-    faults: &mut All<'t, Fault>,
-    text: &'t [u8],
+    faults: &mut All<Fault>,
+    text: &[u8],
     rules: &Rules,
 ) -> Result<(), AllocError>
     ensures { OnOk result (FindsMore faults.old faults.new
         (faults_of_groups rules.now text.now)) }
 {
     let found = group_faults(alloc, text, rules)?;
-    add_groups(faults, &found)?;
+    add_groups(faults, found)?;
     Ok(())
 }

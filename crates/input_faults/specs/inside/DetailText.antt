@@ -1,6 +1,7 @@
 -- What the code's details say.
 use Rattle.std.specs.Prelude.{◌++◌, ℕ, List, [], codes, decimal}
 use Rattle.auction_terms.specs.Wording.{wording_text}
+use Rattle.input_faults.specs.Details.{place_message}
 use Rattle.input_faults.specs.Shown.{shown_text}
 use Rattle.input_faults.specs.declared.detail.Detail.{Detail}
 use Rattle.input_faults.specs.declared.detail.Detail.TheVariants as of
@@ -13,4 +14,5 @@ detail_text (of.Whole words) = wording_text words
 detail_text (of.Both words more) = wording_text words ++ wording_text more
 detail_text (of.Field n value wrong) = codes ", field " ++ (decimal n ++ (codes ": " ++ (shown_text value.now ++ wording_text wrong)))
 detail_text (of.Column n value name) = codes ", field " ++ (decimal n ++ (codes ": " ++ (shown_text value.now ++ (codes " in place of " ++ name.now))))
-detail_text (of.Name n value wrong) = codes ", name " ++ (decimal n ++ (codes ": " ++ (shown_text value.now ++ wording_text wrong)))
+detail_text (of.Cause cause) = codes ": " ++ wording_text cause
+detail_text (of.Place words n value cause) = place_message words.now n value.now (wording_text cause)

@@ -1,4 +1,4 @@
-use Rattle.std.proofs.Common.{◌≡◌, ◌∙◌, Ok, [], ap, arith, length}
+use Rattle.std.proofs.Common.{Err, ◌≡◌, ◌∙◌, Ok, [], ap, arith, length}
 use Rattle.auction_terms.proofs.FirstFaultFacts.{answers-parsed}
 use Rattle.auction_terms.proofs.JudgeFacts.{first-held, none-held}
 use Rattle.auction_terms.specs.GroupsText.{group_faults, groups_of, is_groups_memory}
@@ -16,5 +16,6 @@ pub returns-clause-answer : goal.returns-clause-answer
 returns-clause-answer c short =
     let held = rw c.bidders.ensures.value at (c.in_ok-groups.ensures.told 1 [] c.new-faults.ensures) in
     let some = rw c.as_slice.ensures.value at c.in-len1-up.len_at_least in
-    rw c.as_slice.ensures.value (answers-parsed is_groups_memory _ (groups_of c.args.rules.now.bidders c.args.bytes.now)
-    (first-held c.judge_groups.new.faults _ _ _ held some))
+    let first : Err c.first-item.result.fault ≡ groups_of c.args.rules.now.bidders c.args.bytes.now =
+    rw (c.first-item.is, c.as_slice.ensures.value) (first-held c.judge_groups.new.faults _ _ _ held some) in
+    answers-parsed is_groups_memory _ (groups_of c.args.rules.now.bidders c.args.bytes.now) first

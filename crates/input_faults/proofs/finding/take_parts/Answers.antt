@@ -1,7 +1,7 @@
-use Rattle.std.proofs.Common.{◌∙◌, [], None, Some, sym}
+use Rattle.std.proofs.Common.{◌∙◌, None, Some, sym}
 use Rattle.input_faults.proofs.MergeFacts.{finds-none}
 use Rattle.auction_input.specs.Parts.{parts_held}
-use Rattle.auction_terms.specs.Judged.{fault_at}
+use Rattle.auction_terms.specs.Judged.{fault_of_whole}
 use Rattle.auction_terms.specs.declared.limits.TheConstants.{MOST_FAULTS}
 use Rattle.input_faults.specs.declared.fault.Fault.TheVariants as fault
 use Rattle.input_faults.proofs.PartsFacts.{part-reported, parts-counted, parts-unknown}
@@ -13,7 +13,7 @@ returns-in-Err c =
     let input = c.args.input.now in
     let f = c.in-Err.fault in
     let is = parts-unknown asked input f (part-reported asked input f c.in-Err.ensures c.in_ok-check_part_fault-in-Err.ensures) in
-    record { faults = rw is (c.in_ok-add-in-Err.ensures MOST_FAULTS); parts = (fault_at 0 [] (fault.Parts f), is) }
+    record { faults = rw (is, ← c.of_whole.ensures) (c.in_ok-add-in-Err.ensures MOST_FAULTS); parts = (fault_of_whole (fault.Parts f) None, is) }
 
 pub returns-in-None : goal.returns-in-None
 returns-in-None c =
@@ -28,4 +28,4 @@ returns c =
     let kind = c.in-Some.kind in
     let counted = rw c.as_slice.ensures.value at c.miscounted.ensures in
     let is = parts-counted c.args.request.now c.args.input.now (parts_held c.in-Ok.parts.items) (Some kind) none held (sym counted ∙ c.in-Some.is) in
-    record { faults = rw is (c.in_ok-add-in-Some.ensures MOST_FAULTS); parts = (fault_at 0 [] (fault.PartCount kind), is) }
+    record { faults = rw (is, ← c.of_whole-in-Some.ensures) (c.in_ok-add-in-Some.ensures MOST_FAULTS); parts = (fault_of_whole (fault.PartCount kind) None, is) }

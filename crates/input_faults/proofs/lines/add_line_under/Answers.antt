@@ -15,7 +15,7 @@ returns-in_ok-go_to-in-Form g c =
     let went = c.in_ok-go_to-in-Form.ensures in record {
       added = Adds-to c.add_line.ensures (line-with (message_of c.args.places.now) (detail_under t forms) (kept_fault at) _
           (c.form_detail-detail.ensures
-          ∙ form-known t forms at.field _ _ _ at.text.now at.fault c.in-Form.fault _ _ c.in-Form.is went.number
+          ∙ form-known t forms (kept_fault at) _ _ _ at.fault c.in-Form.fault _ _ c.in-Form.is went.number
           went.reads.eligibility (went.place ∙ c.place.ensures) went.reads.stands.held));
       form = went.reads;
     }
@@ -25,7 +25,7 @@ returns-in-Groups g c =
     let t = c.args.rules.now in
     let forms = bytes_of c.args.forms.now in record {
       added = Adds-to c.add_line-in-Groups.ensures (line-with (message_of c.args.places.now) (detail_under t forms)
-          (kept_fault c.args.at.now) _ (c.group_detail-detail.ensures ∙ rw c.in-Groups.is refl));
+          (kept_fault c.args.at.now) _ (c.fault_detail.ensures ∙ rw c.in-Groups.is refl));
       form = c.requires;
     }
 
@@ -44,7 +44,7 @@ returns-in_default g c =
     let forms = bytes_of c.args.forms.now in
     let at = c.args.at.now in record {
       added = Adds-to c.add_line-in_default.ensures (line-with (message_of c.args.places.now) (detail_under t forms)
-          (kept_fault at) _ (of-neither t forms at.field at.text.now at.fault c.in_default.not-Form
+          (kept_fault at) _ (of-neither t forms (kept_fault at) at.fault c.in_default.not-Form
           c.in_default.not-Groups c.in_default.not-Unmet));
       form = c.requires;
     }

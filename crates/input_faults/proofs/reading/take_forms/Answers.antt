@@ -11,7 +11,7 @@ use Rattle.auction_terms.specs.Terms.{Terms}
 use Rattle.auction_terms.specs.Judged.{Fault as Judged}
 use Rattle.input_faults.specs.InputFaults.{faults_of_form, faults_of_forms}
 use Rattle.input_faults.specs.declared.fault.Fault.{Fault}
-use Rattle.input_faults.proofs.FormsFacts.{Seen, calls-known, form-less, form-more, texts-known}
+use Rattle.input_faults.proofs.FormsFacts.{Seen, calls-known, form-less, form-more}
 use Rattle.input_faults.proofs.reading.take_forms.Goals.{in-Some, in-None}
 use Rattle.input_faults.proofs.reading.take_forms.Goals as goal
 
