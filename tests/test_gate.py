@@ -1,9 +1,11 @@
-"""What the gate is made of (tools/gate, conftest.py), on made-up checks, tasks, tests and steps: what isn't refused is never said to be,
-each task runs once after those that it waits for, and what breaks off, doesn't begin or isn't run has failed."""
+"""What the gate is made of (tools/gate, tools/pages, conftest.py), on made-up checks, tasks, tests and steps: what isn't refused is never
+said to be, each task runs once after those that it waits for, and what breaks off, doesn't begin, isn't run or can't be compared has
+failed."""
 
 import itertools
 import os
 import re
+import shutil
 import signal
 import subprocess
 import sys
@@ -306,3 +308,83 @@ steps.run_from([(str(n), ['sh', '-c', 'sleep 61.37 & wait']) for n in range(3)],
     told = ending.communicate(timeout=20)[0]
     assert (ending.returncode, len(re.findall(rb"ended with status -9", told))) == (128 + number, 2)
     assert find_processes(mark) == []
+
+
+@pytest.fixture
+def pages(tmp_path):
+    """A tree whose tools and pages may be changed, and a call of its tools/pages, by a toolchain without libraries."""
+    for name in ("tools", "docs"):
+        shutil.copytree(ROOT / name, tmp_path / name)
+    for path in ROOT.iterdir():
+        if path.name not in ("tools", "docs", ".git"):
+            (tmp_path / path.name).symlink_to(path)
+    kit = tmp_path / "kit"
+    for folder in (kit / "bin", kit / "rattle"):
+        folder.mkdir(parents=True)
+    (kit / "bin" / "rt").touch(mode=0o755)
+
+    def call(path, old, new):
+        text = (tmp_path / path).read_text()
+        assert old in text
+        (tmp_path / path).write_text(text.replace(old, new, 1))
+        env = {"PATH": f"{kit}/bin"}
+        return seen("/usr/bin/python3", [f"{tmp_path}/tools/pages"], b"", cwd=tmp_path, env=env)
+
+    return call
+
+
+COMPILE = "answers/src/commands/compile.rt | run_compile.faithful"
+FITS = "auction_terms.Packages.fits"
+MISSING = "can't be read: No such file or directory"
+# a file, what is changed in it, and what is said of the change
+ABSENT = {
+    "clause": (
+        "tools/pages",
+        COMPILE,
+        COMPILE.replace("faithful", "faithless"),
+        "a promise names run_compile.faithless, and run_compile of compile.rt hasn't a clause faithless",
+    ),
+    "function": (
+        "tools/pages",
+        COMPILE,
+        COMPILE.replace("run_compile", "run_away"),
+        "a promise names run_away, which isn't a public function of compile.rt",
+    ),
+    "source": (
+        "tools/pages",
+        COMPILE,
+        COMPILE.replace("compile.rt", "none.rt"),
+        f"crates/answers/src/commands/none.rt {MISSING}",
+    ),
+    "definition": (
+        "docs/PROOFS.md",
+        FITS,
+        FITS.replace("fits", "misfits"),
+        "PROOFS.md shows auction_terms.Packages.misfits, and its file has no such definition",
+    ),
+    "file of definitions": (
+        "docs/PROOFS.md",
+        FITS,
+        FITS.replace("Packages", "Parcels"),
+        f"crates/auction_terms/specs/Parcels.antt {MISSING}",
+    ),
+    "quoted text": (
+        "docs/REFERENCE.md",
+        "text examples/worked.txt",
+        "text examples/none.txt",
+        f"examples/none.txt {MISSING}",
+    ),
+    "rt": (
+        "tools/pages",
+        'which("rt")',
+        'which("no rt")',
+        "there is no rt on the path, or no libraries beside it",
+    ),
+}
+
+
+@pytest.mark.parametrize("path, old, new, line", ABSENT.values(), ids=ABSENT)
+def test_what_pages_name_and_is_not_there(pages, path, old, new, line):
+    status, output, errors = pages(path, old, new)
+    last = output.decode().splitlines()[-2:]
+    assert (status, last, errors) == (1, [f"tools/pages: {line}", "0 passed, 1 failed"], b"")
