@@ -10,6 +10,7 @@ from typing import NamedTuple
 
 import pytest
 from commands import REPORTED, read_text
+from made_figures import Bidder, make_figures
 from results_folder import (
     TIE,
     TIE_REPORT,
@@ -19,6 +20,9 @@ from results_folder import (
     read_audit,
     read_example,
 )
+
+from wdp.publish.figures import Figures
+from wdp.publish.results import Results
 
 
 @pytest.fixture(scope="module", params=REPORTED)
@@ -41,8 +45,20 @@ def test_each_cell_has_its_headings(page: Page) -> None:
 
 
 def test_nothing_is_loaded(page: Page) -> None:
-    loaded = r"https?:|url\(|@import|<script|<link| (?:src|href|action|data)="
+    loaded = r"https?:|url\((?!#)|@import|<script|<link| (?:src|href|action|data)="
     assert not re.search(loaded, page.html)
+
+
+def test_each_picture_is_in_words(page: Page) -> None:
+    """Each bar has a title and a description; a key beside words is nothing to be read."""
+    svgs = re.findall("<svg([^>]*)>(.*?)</svg>", page.html, re.S)
+    bars = [(head, inner) for head, inner in svgs if 'aria-hidden="true"' not in head]
+    assert len(bars) >= 2
+    for head, inner in bars:
+        match = re.fullmatch(' class="bar" role="img" aria-labelledby="(\\S+) (\\S+)"', head)
+        assert match, head
+        title, words = match.groups()
+        assert re.match(f'<title id="{title}">.+?</title><desc id="{words}">.+?</desc>', inner)
 
 
 def test_sums_are_at_the_end_of_a_printed_table_alone(page: Page) -> None:
@@ -53,10 +69,12 @@ def test_sums_are_at_the_end_of_a_printed_table_alone(page: Page) -> None:
 
 # widths in CSS pixels; of paper what a page shows of 1/96 inch: A4 upright is 210 mm, less margins
 # of 12 mm
-WIDTHS = {"phone": 360, "tablet": 760, "screen": 1280, "paper": round((210 - 24) / 25.4 * 96)}
-# the last one is the widest that the format has: 32 categories, names of 16 letters, amounts of 13
-# digits; and each bidder pays the value of its lots, so that every group binds
-PAGES = ["twelve_bands", "spectrum_cap", "unsold_values", "tie", "long"]
+WIDTHS = {"phone": 320, "tablet": 768, "screen": 1280, "paper": round((210 - 24) / 25.4 * 96)}
+# `long` is the widest that the format has: 32 categories, names of 16 letters, amounts of 13 digits;
+# and each bidder pays the value of its lots, so that every group binds; `many` has 40 winners with
+# long names, who share a category, and in `nobody` nothing is sold
+PAGES = ["twelve_bands", "spectrum_cap", "unsold_values", "tie", "long", "many", "nobody"]
+LOSER = Bidder("Alpha", [0, 0], price=0)
 LONG_NAME = f"Bidder{0:010},{'Incorporated' * 8}\n"
 SPOILT = "spoilt screen"
 SCRIPT = f"<script>{read_text('fixtures', 'office', 'measure.js')}</script></body>"
@@ -105,8 +123,26 @@ def measure_pages(pages: dict[str, str], folder: Path) -> dict[str, Measured]:
     raise AssertionError(done.stdout[-300:] + done.stderr[-300:])
 
 
+def make_many() -> Figures:
+    """40 winners of 100 letters each: each wins a lot of the first category, and one of another."""
+    codes = [f"Bidder{number}" for number in range(40)]
+    supplies = {"C0": 41, **{f"C{number}": 3 for number in range(1, 32)}}
+    bidders = []
+    for index, code in enumerate(codes):
+        lots = [1] + [int(number == index % 31) for number in range(31)]
+        amount = 10**12 - index
+        bidders.append(Bidder(code, lots, amount=amount, price=index, reserve=index, cost=index))
+    names = {code: f"{code} {'Incorporated' * 8}"[:100] for code in codes}
+    return make_figures(supplies, bidders, currency="GBP", names={**names, "C1": "M" * 100})
+
+
 def publish_page(name: str, folder: ResultsFolder) -> str:
-    """The page of an example, of the tie, or of the longest names and amounts."""
+    """The page of an example, of the tie, of the longest names and amounts, or of figures that are
+    made.
+    """
+    made = {"many": make_many, "nobody": lambda: make_figures({"A": 4, "B": 0}, [LOSER])}
+    if name in made:
+        return Results(made[name](), None).make_files()["results.html"].decode()
     options: list[object] = ["--currency", "GBP"]
     audit: str | None = None
     if name == "tie":

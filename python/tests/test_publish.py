@@ -168,17 +168,41 @@ def test_the_page_begins_with_the_lines_of_the_text(folder: ResultsFolder) -> No
     assert page.list_first_lines() == [title, warning, f"{result} {UNIT}"]
 
 
-def test_the_bars_of_the_page(folder: ResultsFolder) -> None:
-    page = folder.publish(POOL, POOL_REPORT)
-    bars = re.findall(r'class="(\w+)" x="(\d+)%" y="0" width="([\d.]+)%', page.html)
-    assert [bar for bar in bars if bar[2] != "100"] == [
-        ("cost", "0", "66.67"),
-        ("full", "0", "40"),
-        ("cost", "0", "26.67"),
-        ("full", "0", "50"),
-        ("open", "50", "50"),
-        ("full", "0", "50"),
+# what is drawn in a bar, in its order, and where, in percent: fills, reserves and costs
+DRAWN = re.compile(
+    r'class="(unsold|fill-\d|amount|price|reserve|cost)" (?:x|x1|cx)="(\S+)%"(?: y="\S+" width="(\S+)%")?'
+)
+
+
+def list_drawn(page: Page, bars: str) -> list[tuple[str, ...]]:
+    """What is drawn in the bars of categories or winners."""
+    html = re.split(f'id="bars-{bars}"', page.html)[1].split("</figure>")[0]
+    svgs = re.findall('<svg class="bar".*?</svg>', html)
+    return [DRAWN.findall(svg) for svg in svgs]
+
+
+def test_the_bars_of_categories(folder: ResultsFolder) -> None:
+    """One of two lots of A is unsold."""
+    assert list_drawn(folder.publish(POOL, POOL_REPORT), "categories") == [
+        [("fill-0", "0", "50"), ("unsold", "50", "50")],
+        [("fill-1", "0", "100")],
     ]
+
+
+def test_the_bars_of_winners(folder: ResultsFolder) -> None:
+    """Of 30, which Alpha bids: its reserve is 10 and its cost 20; Gamma's are 5 and 8 of 12."""
+    assert list_drawn(folder.publish(POOL, POOL_REPORT), "winners") == [
+        [("amount", "0", "100"), ("reserve", "33.33", ""), ("cost", "66.67", "")],
+        [("amount", "0", "40"), ("reserve", "16.67", ""), ("cost", "26.67", "")],
+    ]
+
+
+def test_the_picture_has_the_names(named: ResultsFolder) -> None:
+    texts = named.read_page().texts
+    assert texts["category-1-title"] == "800 MHz, 2 lots"
+    assert texts["category-1-words"].startswith("1 to Alpha <b>Mobile</b>, Ltd; 1 unsold")
+    assert texts["winner-1-title"] == "Alpha <b>Mobile</b>, Ltd bids 30 GBP"
+    assert texts["winner-1-words"].startswith("amount 30, reserve 10, opportunity cost 20")
 
 
 def test_the_text_needs_no_library(folder: ResultsFolder) -> None:

@@ -8,6 +8,7 @@ from wdp.files import write_folder
 from wdp.office.faults import format_lines, format_number
 from wdp.publish.csv_files import make_csv_files
 from wdp.publish.figures import Figures
+from wdp.publish.picture import make_picture
 from wdp.publish.sentences import make_sentences
 from wdp.publish.tables import BLANKS, make_tables
 from wdp.texts.refusals import need
@@ -78,9 +79,8 @@ def _make_page(figures: Figures) -> bytes:
     page: str = template.render(
         vars(figures),
         sentences=make_sentences(figures),
-        winners=figures.winners,
+        picture=make_picture(figures),
         tables=make_tables(figures),
-        format_name=figures.format_name,
         format_number=format_number,
         blanks=BLANKS,
     )
