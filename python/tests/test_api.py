@@ -169,7 +169,9 @@ CALLS = parse_rows(read_text("fixtures", "package", "calls.txt"))
 
 
 @pytest.mark.parametrize("calls, wanted", CALLS)
-def test_calls(tmp_path: Path, monkeypatch: pytest.MonkeyPatch, calls: str, wanted: str) -> None:
+def test_a_call_gives_what_its_row_says(
+    tmp_path: Path, monkeypatch: pytest.MonkeyPatch, calls: str, wanted: str
+) -> None:
     monkeypatch.chdir(tmp_path)
     write_files(tmp_path)
     for call in calls.split("; "):
@@ -290,7 +292,7 @@ BEGUN = [None, ["X1_1 1\nX2_1 1\n", *SOLUTIONS[1:]]]
 
 
 @pytest.mark.parametrize("solutions", BEGUN, ids=["from nothing", "from less than the best"])
-def test_certified(solutions: list[str] | None) -> None:
+def test_all_groups_are_certified(solutions: list[str] | None) -> None:
     pytest.importorskip("swiglpk", reason="swiglpk isn't there")
     outcome = auction.certify(solutions, ties=True, time_limit=60)
     assert list_values(outcome.report) == EXPECTED

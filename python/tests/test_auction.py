@@ -78,13 +78,13 @@ def paged(tmp_path_factory: pytest.TempPathFactory, wdp: str) -> PagedAuction:
     return auction
 
 
-def test_to_its_page(paged: PagedAuction) -> None:
+def test_a_run_makes_the_page(paged: PagedAuction) -> None:
     assert list_results(paged) == RESULTS
     assert is_certified(paged)
     assert b"Lots &amp; &lt;more&gt;" in paged.read("results/results.html")
 
 
-def test_to_its_report(paged: PagedAuction) -> None:
+def test_a_run_makes_a_certified_report(paged: PagedAuction) -> None:
     report, audit = paged.read_outcome()
     assert read_totals(report) == TOTALS
     assert run_program(paged.wdp, "verify", audit).endswith(b"by the rule\nunique\n")
@@ -204,7 +204,7 @@ yes "X1_1 1" > "$2"
 
 
 @pytest.mark.parametrize("lie", [lie for lie, in parse_rows(LIARS)])
-def test_liars(auction: AuctionFolder, tmp_path: Path, lie: str) -> None:
+def test_a_false_answer_makes_no_page(auction: AuctionFolder, tmp_path: Path, lie: str) -> None:
     """No answer makes a false page: it is refused, or it counts for nothing; another solver goes
     on.
     """

@@ -44,7 +44,7 @@ def run_script(wdp: str, words: Sequence[object], *, statuses: Sequence[int] = (
 
 
 @pytest.mark.parametrize("words, size", parse_rows(GENERATORS))
-def test_generators(wdp: str, words: str, size: str) -> None:
+def test_a_generator_makes_an_auction_of_its_size(wdp: str, words: str, size: str) -> None:
     text = run_script(wdp, words.split())
     assert text == run_script(wdp, words.split())
     most, groups = map(int, size.split())

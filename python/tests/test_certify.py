@@ -349,13 +349,13 @@ def test_the_size_of_a_leaf(odd_checker: Checker, size: int, large_lines: list[i
 
 
 @pytest.mark.parametrize("missing, kind", [(0, "NotShown"), (1, "Fields")])
-def test_a_deep_tree(odd_checker: Checker, missing: int, kind: str) -> None:
+def test_a_deep_tree_is_read(odd_checker: Checker, missing: int, kind: str) -> None:
     depth = 100_000
     text = b"split 0\n" * depth + b"bound 1" + b" 0" * (depth - missing)
     assert odd_checker.verdict(-2, text).fault == (depth + 1, kind)
 
 
-def test_damaged_certificates(odd_checker: Checker) -> None:
+def test_a_damaged_certificate_shows_no_more(odd_checker: Checker) -> None:
     kinds: set[str] = set()
     for number in range(1500):
         text, names = damage_certificate(SHOWN, "kinds", number)

@@ -15,9 +15,7 @@ BLOCK = re.compile(r"^```([a-z]*)(?: ([^\n]*))?\n(.*?)^```$", re.MULTILINE | re.
 COMMAND = re.compile(r"(\./|sed |mkdir |PATH=|apt-get |pip )")
 # what needs a network or another machine, names no file of the tree (`DIR`, `rules.csv`), or proves
 # or tests everything: test_command.py installs by pip, test_auction.py has Slurm's profile
-NOT_RUN = re.compile(
-    r"apt-get |pip |\./build |\./test |\./wdp-office explain rules\.csv |.* DIR "
-)
+NOT_RUN = re.compile(r"apt-get |pip |\./build |\./test |\./wdp-office explain rules\.csv |.* DIR ")
 # the reports that the commands of OFFICE leave, of examples
 LEFT = {"report.txt": "spectrum", "worked/report.txt": "worked", "cluster/report.txt": "worked"}
 
@@ -134,7 +132,7 @@ def test_python_has_blocks_of_these_kinds() -> None:
     assert {kind for kind, _, _ in list_blocks("docs/PYTHON.md")} == {"csv", "python", "sh"}
 
 
-def test_python(clone: Clone) -> None:
+def test_the_page_of_python_does_what_it_shows(clone: Clone) -> None:
     """Each block of Python, one after the other, with the files that the page shows."""
     for name in ("numpy", "pandas", "scipy", "swiglpk"):
         pytest.importorskip(name, reason=f"{name} isn't there")

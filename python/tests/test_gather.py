@@ -190,7 +190,9 @@ CELLS = [
 ]
 
 
-def test_workbooks(office: OfficeFolder, workbook: Callable[..., None]) -> None:
+def test_a_workbook_is_read_by_its_sheets_and_cells(
+    office: OfficeFolder, workbook: Callable[..., None]
+) -> None:
     floats = [9900.0, 4.0, 0]
     workbook([SHEET[0] + [None], [], SHEET[1], floats, [None] * 3, SHEET[3]], more=["Notes"])
     seen = office.gather()

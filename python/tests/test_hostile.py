@@ -12,7 +12,7 @@ from collections.abc import Callable, Iterable
 from concurrent.futures import ThreadPoolExecutor
 from functools import partial
 from pathlib import Path
-from typing import Any
+from typing import IO, Any
 
 import pytest
 
@@ -29,6 +29,7 @@ from commands import (
     write_script,
 )
 from wdp import example
+from wdp.program import ProcessResult
 from wdp.texts.answers import ExpectedAnswer, read_report
 
 WORKED = read_text("examples", "worked.report.txt")
@@ -119,7 +120,7 @@ def test_no_program_outlives_its_answer(
     wait_for(lambda: not find_processes(mark), 30)
 
 
-def test_large_and_full(
+def test_what_is_too_large_or_has_no_room_is_refused(
     program: Callable[..., wdp.Auction], monkeypatch: pytest.MonkeyPatch, tmp_path: Path
 ) -> None:
     deaf = "echo 'wdp: input: too large' >&2; exit 1"
@@ -142,11 +143,21 @@ def test_large_and_full(
     check_fails(wdp.Auction.from_text(ONE).compile, wdp.Unclear, why)
 
 
-def test_threads() -> None:
+def test_threads_get_the_same_report() -> None:
     auction = wdp.Auction.from_text(example.INPUT)
     with ThreadPoolExecutor(4) as pool:
         seen = list(pool.map(auction.report, [example.SOLUTIONS] * 4))
     assert seen == [auction.report(example.SOLUTIONS)] * 4
+
+
+def end_with(
+    answer: bytes, *_: object, output: IO[bytes] | None = None, **__: object
+) -> ProcessResult:
+    """A process that has printed an answer, into a file if one is named."""
+    if output is None:
+        return ProcessResult(0, answer, "")
+    output.write(answer)
+    return ProcessResult(0, b"", "")
 
 
 @pytest.fixture
@@ -159,7 +170,8 @@ def answered(monkeypatch: pytest.MonkeyPatch) -> Callable[..., Any]:
         auction = wdp.Auction.from_text(text)
         taken = []
         for answer in answers:
-            monkeypatch.setattr("wdp.api.ask", lambda *_, **__: answer.encode())
+            run_process = partial(end_with, answer.encode())
+            monkeypatch.setattr("wdp.program.run_process", run_process)
             try:
                 call(auction)
                 taken.append(answer)

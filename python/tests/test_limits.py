@@ -180,7 +180,7 @@ def test_a_run_with_little_memory(
     assert "1 at a time and not 3, for which there isn't memory enough\n" in said
 
 
-def test_time_is_told(auction: AuctionFolder) -> None:
+def test_a_run_tells_how_long_its_steps_took(auction: AuctionFolder) -> None:
     said = auction.read_messages()
     took = next(line for line in said.splitlines() if "it took" in line)
     assert re.fullmatch(r"auction: it took [\d.]+ s: .*; the longest, group \d: [\d.]+ s", took)
@@ -189,7 +189,7 @@ def test_time_is_told(auction: AuctionFolder) -> None:
     assert "it took" not in auction.read_messages("--quiet")
 
 
-def test_times_in_words() -> None:
+def test_a_time_is_rounded_as_people_read_it() -> None:
     rows = [
         (0, "0 s"),
         (0.049, "0 s"),

@@ -556,7 +556,7 @@ kill -9 $$ | none
 
 
 @pytest.mark.parametrize("lie, outcome", parse_rows(LIES))
-def test_liars(
+def test_a_false_answer_leaves_prices_to_the_next_run(
     auction: AuctionFolder, whole: AuctionFolder, tmp_path: Path, lie: str, outcome: str
 ) -> None:
     """An award without prices is there, and the next run has them."""

@@ -112,7 +112,7 @@ def worked(wdp: str) -> Problem:
     return Problem.read(text)
 
 
-def test_other_costs(worked: Problem) -> None:
+def test_a_surplus_raises_the_costs_of_its_bidder(worked: Problem) -> None:
     raised = worked.raise_costs({1: 7, 3: 2})
     costs = {column.name: column.cost for column in raised.program.columns}
     assert costs == {"X1_1": -23, "X1_2": -43, "X2_1": -20, "X3_1": -10}

@@ -99,7 +99,7 @@ def make_odd(sides: Sequence[tuple[str, int]]) -> ZeroOne:
 
 
 @pytest.mark.parametrize("kinds", [AT_MOST * 3, AT_LEAST + AT_MOST * 2, AT_LEAST * 3])
-def test_one_of_three(kinds: str) -> None:
+def test_of_three_in_pairs_one_at_most_wins(kinds: str) -> None:
     """Of the three sums of two at most 1 comes: all three at most 1, whichever way the rows are
     turned.
     """

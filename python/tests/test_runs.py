@@ -24,7 +24,7 @@ RUNS = parse_rows(read_text("fixtures", "office", "runs.txt"))
 
 
 @pytest.mark.parametrize("change, words, status, said", RUNS)
-def test_run(
+def test_a_run_ends_as_its_row_says(
     office: OfficeFolder,
     monkeypatch: pytest.MonkeyPatch,
     mark: str,

@@ -59,7 +59,7 @@ INFEASIBLE = HEAD.replace(b" L", b" G") + b" X1_1 OBJ 1\n" + END + BOUNDS
 
 
 @SOLVERS
-def test_a_point(solver: str) -> None:
+def test_a_solver_finds_the_best_point(solver: str) -> None:
     assert solve.find_point(SMALL, solver) == BEST
 
 
@@ -119,7 +119,9 @@ def test_a_solver_that_does_not_end(tmp_path: Path, monkeypatch: pytest.MonkeyPa
     assert failed.value.status == solve.TIME_OUT
 
 
-def test_the_command(tmp_path: Path, monkeypatch: pytest.MonkeyPatch) -> None:
+def test_the_command_prints_the_point_and_keeps_the_log(
+    tmp_path: Path, monkeypatch: pytest.MonkeyPatch
+) -> None:
     (tmp_path / "p.mps").write_bytes(SMALL)
     monkeypatch.chdir(tmp_path)
     seen = run("solve", "--solver", "cbc", "--log", "log", "p.mps", stdin=subprocess.DEVNULL)

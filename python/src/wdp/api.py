@@ -2,13 +2,13 @@
 from __future__ import annotations
 
 import os
-from collections.abc import Iterable, Sequence
-from dataclasses import dataclass, replace
+from collections.abc import Iterable, Iterator, Sequence
+from contextlib import contextmanager
 from itertools import chain
 from numbers import Real
 from typing import TypeVar
 
-from wdp import audits, certify, files, solve
+from wdp import audits, files, solve
 from wdp.folder import INPUT
 from wdp.office.faults import format_count
 from wdp.office.judge import Explained, explain
@@ -16,35 +16,25 @@ from wdp.office.part_files import PartReader, find_names
 from wdp.office.reading import format_groups
 from wdp.outcome import Outcome
 from wdp.program import Limits, StrPath, ask, find_program
-from wdp.results import Allocation, Counts, Program, Report, Solutions, join_names
-from wdp.runs.contents import NAMES, Contents, Goals, name_file
-from wdp.runs.direct import DirectWorker, describe_failure
+from wdp.publish.judging import judge
+from wdp.results import Allocation, Counts, Program, Report, Solutions
+from wdp.runs.contents import Contents, Goals, name_file
+from wdp.runs.direct import DirectWorker
+from wdp.runs.flow import Flow
 from wdp.runs.means import Means
-from wdp.runs.payments import find_prices
 from wdp.runs.stores import MemoryStore
 from wdp.texts import answers, records
 from wdp.texts.accepted import KINDS
 from wdp.texts.parts import Part, add_groups, list_groups, list_names, parse_parts
 from wdp.texts.records import Forms, Groups, Rules, Solution, Text
-from wdp.texts.refusals import NotFound, NotSolved, Refused, WrongArgument, escape
+from wdp.texts.refusals import NotFound, Refused, WrongArgument, escape
 from wdp.texts.tables import encode
 
 _Value = TypeVar("_Value")
 
+_ANSWERS = Goals(is_certified=False, is_priced=False, is_reported=False)
 _EACH = "each"
 _WINNERS = "winners"
-
-
-@dataclass(frozen=True)
-class _Proof:
-    """What is known of the groups: optimal solutions and their certificates; and of group 1 the
-    solutions that tie with its own, and the certificate that there are no others.
-    """
-
-    solutions: Sequence[bytes]
-    certificates: Sequence[bytes]
-    ties: Sequence[bytes] = ()
-    unique: bytes | None = None
 
 
 class Auction:
@@ -259,10 +249,15 @@ class Auction:
         Raises Refused if the rules, a form or a group has a fault, and WrongArgument for other
         numbers of workers.
         """
-        arguments = ["compile", f"--workers={records.format_whole(workers, 'workers')}"]
-        expected = answers.ExpectedAnswer(self._input)
-        output = self._ask(arguments, self._input, expected.most_of_programs)
-        return answers.read_programs(output, expected)
+        flow = self._begin(_ANSWERS, workers=workers)
+        with self._place_refusals():
+            flow.compile()
+        texts = flow.contents.read_all("program")
+        lines = flow.contents.list_groups().values()
+        return [
+            Program(group=group, names=_list_left_out(line), text=text.decode())
+            for group, (line, text) in enumerate(zip(lines, texts, strict=True), 1)
+        ]
 
     def solve(
         self, solver: str | None = None, time_limit: float | None = None, workers: int = 1
@@ -276,14 +271,10 @@ class Auction:
         WrongArgument if it isn't known.
         """
         name = _check_solver(solver)
-        seconds = _check_seconds(time_limit)
-        programs = self.compile(workers)
-        points = [_find_point(program, name, seconds) for program in programs]
-        if self._awaits_winners and points:
-            self._add_winners(self.map(points[0]))
-            programs = self.compile(workers)[len(points) :]
-            points += [_find_point(program, name, seconds) for program in programs]
-        return Solutions(tuple(points), name)
+        flow = self._begin(_ANSWERS, solver=name, time_limit=time_limit, workers=workers)
+        self._find_outcome(flow)
+        texts = [text.decode() for text in flow.contents.read_all("answer")]
+        return Solutions(tuple(texts), name)
 
     def certify(
         self,
@@ -299,25 +290,15 @@ class Auction:
         `time_limit` is in seconds, for each search. Raises Refused if `report` does or a limit is
         reached, and Missing without numpy, scipy and swiglpk.
         """
-        programs = self.compile()
-        seconds = _check_seconds(time_limit)
-        begun = None
+        goals = Goals(finds_ties=ties, is_priced=False)
+        flow = self._begin(goals, time_limit=time_limit)
         if solutions is not None:
             begun = [records.encode_text(x, "solution") for x in _format_solutions(solutions)]
             self._report("report", self.input(begun))
-        settled = _certify_programs(programs, begun, seconds)
-        if self._awaits_winners and settled:
-            self._add_winners(self.map(settled[0].solution))
-            programs = self.compile()
-            settled += _certify_programs(programs[len(settled) :], None, seconds)
-        proof = _Proof(
-            solutions=[each.solution for each in settled],
-            certificates=[each.certificate for each in settled],
-        )
-        if ties and settled:
-            proof = _find_ties(programs[0], proof, seconds)
-        names = [join_names(program.names) for program in programs]
-        return self._make_outcome(self._fill_store(proof, names), solver="certify")
+            for group, solution in enumerate(begun, 1):
+                flow.contents.store.leave(name_file("answer", group), solution)
+        self._find_outcome(flow)
+        return self._make_outcome(flow, solver="certify")
 
     def prices(
         self,
@@ -336,24 +317,11 @@ class Auction:
         else what `solve` and `certify` do.
         """
         outcome = self._check_certified(certified)
-        means = Means(
-            program=self._program,
-            solver=_check_solver(solver),
-            seconds=_check_seconds(time_limit),
-            program_seconds=self._time_limit,
-        )
-        names = list_groups(self._input)
-        proof = _Proof(
-            solutions=[text.encode() for text in outcome.solutions.texts[: len(names)]],
-            certificates=[text.encode() for text in outcome.certificates[: len(names)]],
-            ties=[text.encode() for text in outcome.ties],
-            unique=None if outcome.unique is None else outcome.unique.encode(),
-        )
-        contents = self._fill_store(proof, names)
-        worker = DirectWorker(contents, means)
-        worker.compile_programs()
-        find_prices(contents, worker)
-        return self._make_outcome(contents, solver=means.solver, limit=worker.limit)
+        name = _check_solver(solver)
+        flow = self._begin(Goals(), solver=name, time_limit=time_limit)
+        _leave_outcome(flow.contents, outcome)
+        self._find_outcome(flow)
+        return self._make_outcome(flow, solver=name)
 
     def report(self, solutions: Iterable[Solution], workers: int = 1) -> Report:
         """Winners, total and opportunity cost of each group in pounds, from a solution for each:
@@ -433,10 +401,17 @@ class Auction:
         self._awaits_winners = False
         self._add_groups(winner.bidder for winner in allocation.winners)
 
-    def _ask(self, arguments: list[str], data: bytes, most: int = answers.MOST_OF_GROUP) -> bytes:
-        """What the program prints, at most so many bytes."""
+    def _ask(self, arguments: list[str], data: bytes) -> bytes:
+        """What the program prints, of one group at most."""
+        limits = Limits(answers.MOST_OF_GROUP, self._time_limit)
+        with self._place_refusals():
+            return ask(self._program, arguments, data, limits=limits)
+
+    @contextmanager
+    def _place_refusals(self) -> Iterator[None]:
+        """Within this, the refusal of a form says which bid it is about, as it was given."""
         try:
-            return ask(self._program, arguments, data, limits=Limits(most, self._time_limit))
+            yield
         except Refused as refused:
             self._place(refused)
             raise
@@ -458,33 +433,50 @@ class Auction:
         _describe_place(refused)
 
     def _report(self, command: str, data: bytes, workers: int = 1) -> Report:
-        arguments = [command, f"--workers={records.format_whole(workers, 'workers')}"]
-        expected = answers.ExpectedAnswer(data)
-        output = self._ask(arguments, data, expected.most_of_report)
-        return answers.read_report(output, expected, is_certified=command == "verify")
+        """What the program says of a text, by `report` or `verify`."""
+        count = int(records.format_whole(workers, "workers"))
+        with self._place_refusals():
+            judgement = judge(self._program, command, data, workers=count, seconds=self._time_limit)
+        return judgement.report
 
-    def _fill_store(self, proof: _Proof, names: Iterable[str]) -> Contents:
-        """What steps would have left that proved this, of groups with these lines."""
-        store = MemoryStore()
-        store.leave(INPUT, self._input)
-        store.leave(NAMES, "".join(f"{line}\n" for line in names).encode())
-        for group, solution in enumerate(proof.solutions, 1):
-            store.leave(name_file("solution", group), solution)
-        for group, certificate in enumerate(proof.certificates, 1):
-            store.leave(name_file("certificate", group), certificate)
-        contents = Contents(store, Goals())
-        if proof.ties or proof.unique is not None:
-            contents.leave_ties(proof.ties, proof.unique)
-        return contents
+    def _begin(
+        self,
+        goals: Goals,
+        *,
+        solver: str | None = None,
+        time_limit: float | None = None,
+        workers: int = 1,
+    ) -> Flow:
+        """The steps of the auction, of which nothing is done yet, in memory."""
+        means = Means(
+            program=self._program,
+            solver=solver,
+            seconds=_check_seconds(time_limit),
+            workers=int(records.format_whole(workers, "workers")),
+            program_seconds=self._time_limit,
+        )
+        contents = Contents(MemoryStore({INPUT: self._input}), goals)
+        return Flow(contents, means, worker=DirectWorker())
 
-    def _make_outcome(
-        self, contents: Contents, *, solver: str, limit: str | None = None
-    ) -> Outcome:
+    def _find_outcome(self, flow: Flow) -> None:
+        """Does all steps before the report, and again once it is known which winners are groups."""
+        with self._place_refusals():
+            flow.find_outcome()
+            if self._awaits_winners:
+                kind = "solution" if flow.contents.goals.is_certified else "answer"
+                first = flow.contents.read_all(kind)[0]
+                self._add_winners(self.map(first))
+                flow.contents.take_input(self._input)
+                flow.find_outcome()
+
+    def _make_outcome(self, flow: Flow, *, solver: str) -> Outcome:
         """What `wdp verify` says of what steps have left."""
-        outcome = self._verify_parts(list(parse_parts(contents.format_audit())), solver=solver)
-        return outcome if limit is None else replace(outcome, limit=limit)
+        parts = list(parse_parts(flow.contents.format_audit()))
+        return self._verify_parts(parts, solver=solver, limit=flow.pricer.limit)
 
-    def _verify_parts(self, parts: Sequence[Part], solver: str = "audit") -> Outcome:
+    def _verify_parts(
+        self, parts: Sequence[Part], *, solver: str = "audit", limit: str | None = None
+    ) -> Outcome:
         """What `wdp verify` says of the parts of an audit."""
         shown = [part for part in parts if part.kind not in KINDS]
         data = audits.join_parts(part for part in parts if part.kind in KINDS)
@@ -499,6 +491,7 @@ class Auction:
             audit=audit,
             input=self._input,
             program=self._program,
+            limit=limit,
         )
 
     def _check_certified(self, certified: object) -> Outcome:
@@ -557,26 +550,20 @@ def _list_texts(parts: Iterable[Part], kind: str) -> tuple[str, ...]:
     return tuple(part.text.decode() for part in parts if part.kind == kind)
 
 
-def _certify_programs(
-    programs: Sequence[Program], begun: Sequence[bytes] | None, seconds: float | None
-) -> list[certify.Optimum]:
-    """An optimal solution of each program and its certificate, from a solution of each, or from
-    nothing.
-    """
-    texts = [program.text.encode() for program in programs]
-    if begun is None:
-        begun = [solve.find_empty_solution(text) for text in texts]
-    pairs = zip(texts, begun, strict=True)
-    return [certify.find_optimum(text, solution, seconds=seconds) for text, solution in pairs]
+def _list_left_out(line: str) -> tuple[str, ...]:
+    """The names in a line of groups, in its order."""
+    return () if line == "-" else tuple(line.split("+"))
 
 
-def _find_ties(program: Program, proof: _Proof, seconds: float | None) -> _Proof:
-    """The proof with all solutions that tie with that of group 1, up to the limit of an audit."""
-    problem = certify.read_problem(program.text.encode())
-    from wdp.certify.ties import find_ties
-
-    tied = find_ties(problem, proof.solutions[0], seconds=seconds)
-    return replace(proof, ties=tied.points, unique=tied.unique)
+def _leave_outcome(contents: Contents, outcome: Outcome) -> None:
+    """Leaves what steps would have left that found a certified outcome, but for its prices."""
+    count = len(list_groups(outcome.input))
+    pairs = zip(outcome.solutions.texts[:count], outcome.certificates[:count], strict=True)
+    for group, (solution, certificate) in enumerate(pairs, 1):
+        contents.leave_group(group, solution=solution.encode(), certificate=certificate.encode())
+    if outcome.ties or outcome.unique is not None:
+        unique = None if outcome.unique is None else outcome.unique.encode()
+        contents.leave_ties([text.encode() for text in outcome.ties], unique)
 
 
 def _check_solver(solver: str | None) -> str:
@@ -584,14 +571,6 @@ def _check_solver(solver: str | None) -> str:
     if solver is not None and not (isinstance(solver, str) and solver and solver.isprintable()):
         raise WrongArgument("a solver is cbc, highs, or a command with {mps} in it, on one line")
     return solve.find_solver(solver)
-
-
-def _find_point(program: Program, solver: str, seconds: float | None) -> str:
-    """A solver's point of a group's program; a NotSolved says of which group."""
-    try:
-        return solve.find_point(program.text.encode(), solver, seconds=seconds).decode()
-    except NotSolved as failed:
-        raise describe_failure(failed, program.group, join_names(program.names)) from None
 
 
 def _format_solutions(solutions: Iterable[Solution]) -> list[Text]:

@@ -5,11 +5,11 @@ import os
 from dataclasses import dataclass, field
 
 from wdp.program import StrPath
-from wdp.publish.judging import AuditSource, Source, Sources, judge
 from wdp.publish.making import make_results
 from wdp.publish.names import LONGEST, TITLE, PageOptions, is_line
 from wdp.results import Report, Solutions
 from wdp.runs.contents import format_parts
+from wdp.runs.reports import make_sources
 from wdp.texts.parts import list_groups
 from wdp.texts.refusals import WrongArgument
 
@@ -57,11 +57,11 @@ class Outcome:
             _check_line(name, text)
         count = len(list_groups(self.input))
         solutions = [text.encode() for text in self.solutions.texts[:count]]
-        data = format_parts("solution", solutions) + self.input
-        sources = Sources(
-            input=Source(self.input, name="the input"),
-            report=Source(judge(self.program, "report", data).printed, name="the report"),
-            audit=AuditSource(self.audit, name="the audit"),
+        sources = make_sources(
+            self.program,
+            data=self.input,
+            solutions=format_parts("solution", solutions),
+            audit=self.audit,
         )
         options = PageOptions(
             title=title or TITLE,

@@ -21,6 +21,7 @@ _END_OF_MESSAGES = 65_536  # bytes at the end of standard error that are read: a
 _MOST_OF_MESSAGES = 256 * 1024 * 1024  # bytes of standard error, after which a program is ended
 _LOOK_EVERY = 0.25  # seconds, at how much a program has printed
 _PATIENCE = 15  # seconds for a program that is to end
+_MOST_OF_VERSION = 1_000  # bytes of what the program says of its version
 _REFUSALS = {1: Refused, 2: WrongArgument, 3: NotFound}  # by the program's status
 
 
@@ -221,6 +222,11 @@ def ask(
         why = f": {line}" if line else " and said nothing"
         raise Unclear(f"{program} ended with status {ended.status}{why}")
     return ended.output
+
+
+def read_version(program: str) -> str:
+    """What the program says of its version."""
+    return ask(program, ["--version"], b"", limits=Limits(_MOST_OF_VERSION)).decode().strip()
 
 
 def format_signal(number: int) -> str:

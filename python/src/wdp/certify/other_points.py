@@ -40,7 +40,7 @@ class UniquenessSearch(CertificateSearch):
         super().__init__(below, points[0], seconds=seconds, say=say, hints=hints)
         self.points = points
         self.least += 1
-        self._is_from_nothing = False  # (the points that are known aren't of this program)
+        self._begins_with_promising = False  # (it would only find the points that are known)
 
     def _try_point(self, places: set[int]) -> bool:
         if places | self.layout.fixed_ones in self.points:
@@ -50,7 +50,7 @@ class UniquenessSearch(CertificateSearch):
     def _describe_bound(self) -> str:
         return f"no other point has an objective below {self.root_value}"
 
-    def _take_better(self, gain: int) -> NoReturn:
+    def _go_on_from_better(self, gain: int) -> NoReturn:
         raise Beaten(gain - 1)
 
 
@@ -101,7 +101,7 @@ class TieSearch(UniquenessSearch):
             raise _Enough
         return False
 
-    def _part(self, visit: Visit, reached: float | None) -> None:
+    def _branch(self, visit: Visit, reached: float | None) -> None:
         """Splits off a point that was found, if there is one below the node, so that one side has
         it alone.
         """
@@ -109,16 +109,16 @@ class TieSearch(UniquenessSearch):
             if _is_below(self.layout, visit.node, ones):
                 places = _find_difference(self.layout, visit.node, ones)
                 if places is not None:
-                    self._split(visit, places)
+                    self._split_at(visit, places)
                 return
-        super()._part(visit, reached)
+        super()._branch(visit, reached)
 
-    def _settle(self, node: Node) -> None:
+    def _show_point(self, node: Node) -> None:
         """Shows a node with one point, unless that is as good."""
         places = np.flatnonzero(node.allowed)
         self._try_point(set(places.tolist()))
         if set(places.tolist()) | self.layout.fixed_ones not in self.ties:
-            super()._settle(node)
+            super()._show_point(node)
 
 
 def _is_below(layout: Layout, node: Node, ones: set[int]) -> bool:

@@ -1,9 +1,18 @@
 """Branch and bound that leaves a certificate: each leaf is shown in whole numbers, and floating
 point only guides.
 
-The tree is searched depth first, in the order of its text. If a bound is missed by little, columns
-whose reduced cost is above the gap are fixed to 0 by a split of their own, whose second side the
-same prices show.
+The tree is searched depth first, in the order of its text: the tasks are a stack, whose last one is
+the next. A split has its low side first, on which none of its columns is 1, and the high side after
+all that the low one leads to; so the high side is put on the stack before the low one.
+
+Objectives are minimised, and whole. A node is shown once its bound is above `least - 1`, so that no
+point below the node is better than the best one that is known. The gap is by how much a bound
+misses that: at 0 and above it has to be made up for, and below 0 the node is shown. Prices are
+whole, too; at a scale of 16 they are prices of 16 times the objective, and the gap is in sixteenths
+then.
+
+If a bound is missed by little, columns whose reduced cost is above the gap are fixed to 0 by a
+split of their own, whose second side the same prices show.
 """
 import contextlib
 import math
@@ -65,6 +74,9 @@ class CertificateSearch:
     `ones` has the places of the columns at 1 of the best point that is known, and `least` its
     objective: the search goes on at each better point that it finds. `root_value` is a bound on all
     objectives.
+
+    Searches for other points as good are made of this one: they take points in another way, branch
+    also where they have found one, and end at a better one.
     """
 
     def __init__(
@@ -87,7 +99,8 @@ class CertificateSearch:
         self.hints = hints
         self.tree = Tree()
         self.root_value = -math.inf
-        self._is_from_nothing = ones <= layout.fixed_ones
+        # (whether a tree that begins at the root has a good point looked for first)
+        self._begins_with_promising = ones <= layout.fixed_ones
         self._is_strong = False
 
     def find_certificate(self) -> bytes:
@@ -200,7 +213,7 @@ class CertificateSearch:
         self.clock.report(progress)
 
     def _describe_bound(self) -> str:
-        """What is known if the search ends early."""
+        """What is known if the search ends early; other searches know something else."""
         return f"the least objective is between {self.root_value} and {self.least}"
 
     def _write(self, leaf: Leaf) -> bool:
@@ -240,7 +253,7 @@ class CertificateSearch:
         for turn in range(_ROUNDS):
             bound = Bound(layout, node, prices=prices)
             self.root_value = max(bound.value, self.root_value)
-            if turn == 0 and self._is_from_nothing and not self._is_strong:
+            if turn == 0 and self._begins_with_promising and not self._is_strong:
                 self._try_promising(bound)
             gap = bound.compute_gap(self.least)
             if gap < 0 and self._write(Leaf(bound)):
@@ -343,7 +356,7 @@ class CertificateSearch:
             reached = relaxation.solve()
             is_shown = self._show(node, relaxation)
         if not is_shown and not self._fix_and_shrink(node, relaxation):
-            self._part(Visit(node, relaxation, relaxation.find_basis()), reached)
+            self._branch(Visit(node, relaxation, relaxation.find_basis()), reached)
 
     def _has_empty_block(self, node: Node) -> bool:
         """Whether a block that has to win has no column left."""
@@ -370,7 +383,7 @@ class CertificateSearch:
             self.tree.tasks.append(Visit(fixed, relaxation, basis))
         return is_again
 
-    def _part(self, visit: Visit, reached: float | None) -> None:
+    def _branch(self, visit: Visit, reached: float | None) -> None:
         """Splits where the relaxation is undecided, or if it is of no help by halves, down to
         single points.
         """
@@ -382,16 +395,16 @@ class CertificateSearch:
         if reached is not None and splits:
             limit = relaxation.to_units(self.least - 1)
             strongest = choose_strongest(visit, splits, reached=reached, limit=limit)
-            self._split(visit, strongest.places)
+            self._split_at(visit, strongest.places)
             return
         self._try_point(set(relaxation.core[values > 0.5].tolist()))
         half = halve(self.layout, node)
         if half is None:
-            self._settle(node)
+            self._show_point(node)
         else:
-            self._split(visit, half.places)
+            self._split_at(visit, half.places)
 
-    def _split(self, visit: Visit, places: Array) -> None:
+    def _split_at(self, visit: Visit, places: Array) -> None:
         """Splits a node into none of these columns and one of them."""
         self.tree.write_split(self.layout, places)
         low = visit.node.exclude(places)
@@ -399,7 +412,7 @@ class CertificateSearch:
         self.tree.tasks.append(Visit(high, visit.relaxation, visit.basis))
         self.tree.tasks.append(Visit(low, visit.relaxation, visit.basis))
 
-    def _settle(self, node: Node) -> None:
+    def _show_point(self, node: Node) -> None:
         """Shows a node with one point, by the rows that it breaks or by its objective."""
         places = np.flatnonzero(node.allowed)
         shared = self.layout.shared
@@ -421,9 +434,9 @@ class CertificateSearch:
         gain = self.least - objective
         self.ones = ones
         self.least = objective
-        self._take_better(gain)
+        self._go_on_from_better(gain)
         return True
 
-    def _take_better(self, gain: int) -> None:
-        """Goes on at a point that is better by this."""
+    def _go_on_from_better(self, gain: int) -> None:
+        """Goes on from a point that was taken, and is better by this; other searches end there."""
         self.clock.report_event(f"a better point: {self.least}, by {gain}")

@@ -37,6 +37,7 @@ _EPILOG = """Exit status: 0 everything is there; 1 something is refused or missi
 goes on from there; 2 the options are wrong; 3 without certificates, figures that contradict each
 other."""
 _MOST_JOBS = 1000
+_MOST_WORKERS = 64  # threads of the program
 
 
 def add_shared_arguments(parser: argparse.ArgumentParser) -> None:
@@ -124,8 +125,8 @@ def make_run(
     goals: Goals,
     *,
     folder: Path | None,
-    page: Page | None,
     reporter: ConsoleReporter,
+    page: Page = Page(),
 ) -> Run:
     """What the options ask for, in a folder or a temporary one; Refused before the work begins if
     something is missing.
@@ -138,7 +139,7 @@ def make_run(
         program=program,
         solver=solver,
         seconds=options.time_limit,
-        workers=options.jobs,
+        workers=min(options.jobs, _MOST_WORKERS),
         reporter=reporter,
         at_once=steps.end_at_once,
     )
@@ -146,6 +147,7 @@ def make_run(
         folder=Folder(folder or name_temporary_folder()),
         goals=goals,
         means=means,
+        is_named=folder is not None,
         jobs=options.jobs,
         page=page,
     )
@@ -177,8 +179,8 @@ def run(options: argparse.Namespace) -> int:
         options,
         goals,
         folder=options.folder,
-        page=Page(options.title, options.currency) if options.folder else None,
         reporter=ConsoleReporter(command="auction", is_quiet=options.quiet),
+        page=Page(options.title, options.currency),
     )
     if not options.folder:
         if _needs_folder(options):

@@ -20,7 +20,7 @@ from wdp.commands.auction import add_shared_arguments, make_run
 from wdp.reporter import ConsoleReporter
 from wdp.runs.contents import Goals
 from wdp.runs.places import run_in_folder, run_without_folder, take_audit
-from wdp.runs.reports import AUDIT, Page
+from wdp.runs.reports import AUDIT
 from wdp.texts.refusals import WrongArgument
 
 
@@ -53,7 +53,6 @@ def run(options: argparse.Namespace) -> int:
         options,
         Goals(),
         folder=options.award if is_folder else None,
-        page=Page() if is_folder else None,
         reporter=_TableReporter(command="prices", is_quiet=options.quiet),
     )
     if is_folder:

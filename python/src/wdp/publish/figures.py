@@ -143,7 +143,8 @@ class LeftOutBid:
 
 @dataclass(frozen=True)
 class AuditFigures:
-    """The SHA-256 of an audit, of the input at its end, and of what `wdp verify` prints of it.
+    """The SHA-256 of an audit, of the input at its end, and of all that `wdp verify` prints of it:
+    added groups, prices and ties, too.
 
     `input_bytes` is how long the input is. The audit has `added_bytes` more in it, the lines of
     groups that were added, after the first `bytes_before`.

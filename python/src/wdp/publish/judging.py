@@ -62,13 +62,22 @@ class PublishedAward:
     added_bytes: int = 0
 
 
-def judge(program: str, command: str, text: bytes) -> Judgement:
-    """Has the program judge a text by `report` or `verify`.
+def judge(
+    program: str,
+    command: str,
+    text: bytes,
+    *,
+    workers: int = 1,
+    seconds: float | None = None,
+) -> Judgement:
+    """Has the program judge a text by `report` or `verify`, by so many threads and within so many
+    seconds.
 
     Raises Refused if it refuses the text, and Unclear if its answer isn't one.
     """
     expected = ExpectedAnswer(text)
-    printed = ask(program, [command], text, limits=Limits(expected.most_of_report))
+    limits = Limits(expected.most_of_report, seconds)
+    printed = ask(program, [command, f"--workers={workers}"], text, limits=limits)
     report = read_report(printed, expected, is_certified=command == "verify")
     return Judgement(printed, report)
 

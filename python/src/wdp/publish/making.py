@@ -4,7 +4,7 @@ judged them.
 from collections.abc import Mapping, Sequence
 
 from wdp.office.judge import explain
-from wdp.program import Limits, ask
+from wdp.program import read_version
 from wdp.publish import figures
 from wdp.publish.judging import (
     PublishedAward,
@@ -22,11 +22,9 @@ from wdp.texts.parts import find_end_of_groups
 from wdp.texts.refusals import Refused
 from wdp.texts.tables import compute_digest
 
-_MOST_OF_VERSION = 1_000  # bytes of what the program says of its version
-
 
 def make_results(program: str, sources: Sources, options: PageOptions) -> Results:
-    """The results of an auction, judged by the program of this path.
+    """The results of an auction, judged by the proved program, wdp, at this path.
 
     Raises Refused if the program refuses the input or the audit, if the report isn't what it prints
     of them, or if a name can't be published, and WrongArgument if an award can't have been drawn.
@@ -42,7 +40,6 @@ def make_results(program: str, sources: Sources, options: PageOptions) -> Result
         award = judge_report(program, sources, auction)
     else:
         award = judge_audit(program, sources, sources.audit, left_out=left_out)
-    version = ask(program, ["--version"], b"", limits=Limits(_MOST_OF_VERSION))
     made = _make_figures(
         auction,
         award,
@@ -50,7 +47,7 @@ def make_results(program: str, sources: Sources, options: PageOptions) -> Result
         options=options,
         names=names,
         left_out=left_out,
-        version=version.decode().strip(),
+        version=read_version(program),
     )
     return Results(made, award.audit)
 
@@ -81,7 +78,7 @@ def _make_figures(
     bidders = figures.make_bidders(report, auction)
     sold = figures.count_sold(bidders, auction)
     categories = figures.make_categories(sold, auction)
-    printed = cut_report(award.judgement.printed, len(auction.groups))
+    report_of_input = cut_report(award.judgement.printed, len(auction.groups))
     return figures.Figures(
         certified=report.is_certified,
         title=options.title,
@@ -101,7 +98,7 @@ def _make_figures(
         left_out=[figures.LeftOutBid(bidder=bidder, why=why) for bidder, why in left_out],
         names=names,
         input_sha256=compute_digest(sources.input.text),
-        report_sha256=compute_digest(printed),
+        report_sha256=compute_digest(report_of_input),
         audit=_make_audit(award, sources.input.text),
         wdp=version,
     )

@@ -12,6 +12,7 @@ from wdp.runs.stores import Store
 from wdp.texts.parts import add_groups, list_groups, list_names, parse_parts
 from wdp.texts.refusals import Refused
 
+FIRST_GROUP = 1  # the number of the group that leaves nobody out
 # the names that each group leaves out; there once all programs are
 NAMES = "programs/names.txt"
 # multipliers of rows that group 1's search found to be of use
@@ -39,12 +40,13 @@ def format_parts(head: str, texts: Iterable[bytes]) -> bytes:
 @dataclass(frozen=True)
 class Goals:
     """What is asked for besides an answer for each group: certificates, all awards that tie with
-    the first one, and prices.
+    the first one, prices, and a report.
     """
 
     is_certified: bool = True
     finds_ties: bool = False
     is_priced: bool = True
+    is_reported: bool = True
 
 
 @dataclass(frozen=True)
@@ -65,12 +67,32 @@ class Contents:
             raise Refused(f"{self.store.path(NAMES)} {why}") from None
         return dict(enumerate(lines, 1))
 
+    def take_input(self, data: bytes) -> None:
+        """Takes an input with more groups than the one that is there; what was left of those that
+        are in both stays.
+        """
+        self.store.leave(INPUT, data)
+        self.leave_names(list_groups(data))
+
+    def leave_names(self, lines: Iterable[str]) -> None:
+        """Leaves the lines of the input's groups."""
+        self.store.leave(NAMES, "".join(f"{line}\n" for line in lines).encode())
+
+    def leave_group(self, group: int, *, solution: bytes, certificate: bytes) -> None:
+        """Leaves the optimal solution of a group, and its certificate."""
+        self.store.leave(name_file("solution", group), solution)
+        self.store.leave(name_file("certificate", group), certificate)
+
+    def read_all(self, kind: str) -> list[bytes]:
+        """What was left of this kind, such as solutions, of all groups of the input."""
+        return [self.store.read(name_file(kind, group)) for group in self.list_groups()]
+
     def list_added(self) -> dict[int, str]:
         """The lines of the groups that prices need besides those of the input, by their numbers:
         each winner alone, and those that bind the prices.
         """
         groups = self.list_groups()
-        first = name_file("solution", 1)
+        first = name_file("solution", FIRST_GROUP)
         if not self.goals.is_priced or not self.store.has(first):
             return {}
         if self.store.has(PRICES):
@@ -106,7 +128,7 @@ class Contents:
         """
         kinds = ("solution", "certificate") if self.goals.is_certified else ("answer",)
         wanted = [name_file(kind, group) for kind in kinds]
-        if self.goals.finds_ties and group == 1:
+        if self.goals.finds_ties and group == FIRST_GROUP:
             wanted.append(TIES)
         return all(self.store.has(name) and self.store.read(name) is not None for name in wanted)
 
@@ -168,6 +190,10 @@ class Contents:
         if not self.goals.is_priced or not self.store.has(PRICES):
             return False
         return not self.find_missing(self.list_added())
+
+    def lacks_prices(self) -> bool:
+        """Whether prices are asked for, and aren't there."""
+        return self.goals.is_priced and not self.has_prices()
 
     def format_audit(self, *, with_prices: bool = True) -> bytes:
         """The input with all that shows its report, and the prices if they are there with their

@@ -8,14 +8,16 @@ from wdp.steps import AtOnce
 
 @dataclass(frozen=True)
 class Means:
-    """What steps work with: the path of the proved program, how many processes it may use, and the
+    """What steps work with: the path of the proved program, by how many threads it works, and the
     seconds that each call of it may take; a solver, by its name or command, and the seconds that it
     and each search may take; and who takes messages. Within `at_once` nothing is begun that would
     have to be put away.
+
+    Without a solver each search begins at the answer that is there, or from nothing.
     """
 
     program: str
-    solver: str
+    solver: str | None = None
     seconds: float | None = None
     workers: int = 1
     program_seconds: float | None = None
@@ -25,7 +27,7 @@ class Means:
     @property
     def solver_name(self) -> str:
         """What messages call the solver."""
-        return self.solver.split()[0]
+        return self.solver.split()[0] if self.solver else "no solver"
 
     def format_limit(self) -> str:
         """The seconds that a search may take."""

@@ -4,6 +4,7 @@ from collections.abc import Mapping, Sequence
 from pathlib import Path
 
 from wdp.office.faults import format_count
+from wdp.runs.contents import FIRST_GROUP
 from wdp.runs.means import Means
 
 NOT_PRICED = "no prices; the next run looks for them again, and --no-prices leaves them out"
@@ -39,7 +40,7 @@ def format_missing(
     hint = ""
     if late_seconds:
         hint = f"; run again, with --time-limit {2 * late_seconds} for twice the time"
-    return f"no {'report' if 1 in groups else 'prices'}: {which}{hint}"
+    return f"no {'report' if FIRST_GROUP in groups else 'prices'}: {which}{hint}"
 
 
 def format_certified(report: Path | None, audit: Path) -> str:

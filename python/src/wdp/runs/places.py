@@ -13,7 +13,7 @@ from wdp.office.judge import explain
 from wdp.publish.judging import judge
 from wdp.runs.contents import TIES, name_file
 from wdp.runs.processes import Processes
-from wdp.runs.reports import AUDIT
+from wdp.runs.reports import AUDIT, Page
 from wdp.runs.run import Run
 from wdp.texts import accepted
 from wdp.texts.parts import Part, parse_parts
@@ -96,7 +96,7 @@ def _run_for_award(run: Run, award: int) -> int:
     audits.check_first(award, report.awards, left_out)
     audit = audits.put_first(run.contents.format_audit(with_prices=False), award)
     folder = Folder(run.folder.path(AWARDS) / str(award))
-    run_of_award = replace(run, folder=folder, page=None)
+    run_of_award = replace(run, folder=folder, is_named=False, page=Page())
     if not folder.has(_UNPRICED) or folder.read(_UNPRICED) != audit:
         files.remove(folder.where)
     folder.where.mkdir(parents=True, exist_ok=True)
@@ -118,7 +118,7 @@ def take_audit(run: Run, audit: bytes) -> None:
     parts = list(parse_parts(audit))
     judge(run.means.program, "verify", audit)
     run.folder.take_input(audits.join_parts(part for part in parts if part.kind in accepted.KINDS))
-    run.compiler.compile()
+    run.flow.compiler.compile()
     _leave_solutions(run.folder, parts)
     certificates = [part.text for part in parts if part.kind == "certificate"]
     for group, text in enumerate(certificates, 1):

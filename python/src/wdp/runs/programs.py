@@ -1,19 +1,16 @@
 """The step that writes the 0-1 program of each group."""
 from collections.abc import Sequence
 from dataclasses import dataclass
-from itertools import groupby
 from typing import IO
 
 from wdp.folder import INPUT
 from wdp.program import Limits, ask
+from wdp.results import join_names
 from wdp.runs.contents import NAMES, Contents, name_file
 from wdp.runs.means import Means
 from wdp.texts import answers
 from wdp.texts.parts import add_groups, list_groups
 from wdp.texts.refusals import Refused
-
-_MOST_WORKERS = 64
-_HEAD = b"* program "
 
 
 @dataclass(frozen=True)
@@ -33,16 +30,16 @@ class Compiler:
         if self._is_complete(added):
             return
         text = add_groups(self.contents.store.read(INPUT), added)
+        expected = answers.ExpectedAnswer(text)
         with self.contents.store.open_temporary() as printed:
-            self._print_programs(text, printed)
-            if list_groups(text)[:1] != ["-"]:
+            self._print_programs(text, expected, output=printed)
+            if self.contents.goals.is_reported and list_groups(text)[:1] != ["-"]:
                 why = "group 1 is not empty: the first line of %groups has to be `-`"
                 raise Refused(why)
             printed.seek(0)
-            lines = self._leave_programs(printed)
+            lines = self._leave_programs(printed, expected)
         if not added:
-            names = "".join(f"{line}\n" for line in lines)
-            self.contents.store.leave(NAMES, names.encode())
+            self.contents.leave_names(lines)
 
     def _is_complete(self, added: Sequence[str]) -> bool:
         """Whether each program is there."""
@@ -53,12 +50,12 @@ class Compiler:
         numbers = range(1, count + 1)
         return count > 0 and all(store.has(name_file("program", number)) for number in numbers)
 
-    def _print_programs(self, text: bytes, output: IO[bytes]) -> None:
+    def _print_programs(
+        self, text: bytes, expected: answers.ExpectedAnswer, *, output: IO[bytes]
+    ) -> None:
         """Prints all programs of an input into a file; Refused, with the hint, if it is wrong."""
-        workers = min(self.means.workers, _MOST_WORKERS)
-        expected = answers.ExpectedAnswer(text)
         limits = Limits(expected.most_of_programs, self.means.program_seconds)
-        arguments = ["compile", f"--workers={workers}"]
+        arguments = ["compile", f"--workers={self.means.workers}"]
         try:
             ask(self.means.program, arguments, text, limits=limits, output=output)
         except Refused as refused:
@@ -66,14 +63,12 @@ class Compiler:
                 raise
             raise Refused(f"{refused}; {self.hint}") from None
 
-    def _leave_programs(self, printed: IO[bytes]) -> list[str]:
+    def _leave_programs(self, printed: IO[bytes], expected: answers.ExpectedAnswer) -> list[str]:
         """Leaves each program that isn't there yet; the lines of their groups."""
-        groups: list[str] = []
-        for is_head, lines in groupby(printed, lambda line: line.startswith(_HEAD)):
-            if is_head:
-                groups += [line.split()[3].decode("ascii") for line in lines]
-                continue
-            name = name_file("program", len(groups))
+        lines: list[str] = []
+        for names, program in answers.split_programs(printed, expected):
+            lines.append(join_names(names))
+            name = name_file("program", len(lines))
             if not self.contents.store.has(name):
-                self.contents.store.leave(name, b"".join(lines))
-        return groups
+                self.contents.store.leave(name, program)
+        return lines

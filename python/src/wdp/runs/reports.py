@@ -27,7 +27,7 @@ _MOST_OF_PAGE = 100_000  # bytes of page.json
 _WRONG = 3  # the status if an answer can't be the best one
 
 
-@dataclass
+@dataclass(frozen=True)
 class Page:
     """What the page says at its head: a title, and the unit of all amounts; None is what it was, or
     the usual one.
@@ -36,18 +36,22 @@ class Page:
     title: str | None = None
     currency: str | None = None
 
-    def keep(self, folder: Folder) -> None:
-        """Keeps title and currency in a folder, or takes from it what nothing is said of."""
+    def keep(self, folder: Folder) -> "Page":
+        """Keeps title and currency in a folder, and takes from it what nothing is said of; the page
+        with both.
+        """
         path = str(folder.path(_PAGE))
         kept: object = None
         with suppress(OSError, ValueError, RecursionError):
             kept = json.loads(files.read(path, _MOST_OF_PAGE, regular=True))
         fields = kept if isinstance(kept, dict) else {}
-        self.title = self.title or _choose_line(fields, "title")
-        self.currency = self.currency or _choose_line(fields, "currency")
-        wanted = {"title": self.title, "currency": self.currency}
-        if wanted != kept:
-            files.write_all({path: (json.dumps(wanted) + "\n").encode()})
+        page = Page(
+            title=self.title or _choose_line(fields, "title"),
+            currency=self.currency or _choose_line(fields, "currency"),
+        )
+        if vars(page) != kept:
+            files.write_all({path: (json.dumps(vars(page)) + "\n").encode()})
+        return page
 
 
 def _choose_line(fields: dict[str, object], name: str) -> str | None:
@@ -57,34 +61,52 @@ def _choose_line(fields: dict[str, object], name: str) -> str | None:
     return text if isinstance(text, str) and is_line(text, longest) else None
 
 
+def make_sources(program: str, *, data: bytes, solutions: bytes, audit: bytes | None) -> Sources:
+    """What results are made of, of an input, the parts with its solutions, and if these are
+    certified the audit: the program prints the report.
+
+    NotSolved if there is no audit, and the report shows by itself that an answer isn't the best
+    one.
+    """
+    judgement = judge(program, "report", solutions + data)
+    if audit is None and (fault := find_contradiction(judgement.report)):
+        raise NotSolved(fault, _WRONG)
+    return Sources(
+        input=Source(data, name="the input"),
+        report=Source(judgement.printed, name="the report"),
+        audit=None if audit is None else AuditSource(audit, name="the audit"),
+    )
+
+
 @dataclass(frozen=True)
 class Publisher:
-    """Makes the report of what a folder has, with certificates the audit of which `wdp verify`
-    prints it, and the results if a page is wanted.
+    """Makes the report of what a folder has, and with certificates the audit of which `wdp verify`
+    prints it. If it `writes_results`, the tables and the page are files of the folder, else the
+    tables are only shown.
     """
 
     folder: Folder
     contents: Contents
     means: Means
-    page: Page | None
+    page: Page
+    writes_results: bool
 
     def publish(self) -> None:
         """Leaves the report and the audit, and the page with its tables; NotSolved if the report
         shows by itself that an answer isn't the best one.
         """
-        data = self.folder.read(INPUT)
         is_certified = self.contents.goals.is_certified
-        text = self.contents.format_solutions() + data
-        judgement = judge(self.means.program, "report", text)
-        if not is_certified and (fault := find_contradiction(judgement.report)):
-            raise NotSolved(fault, _WRONG)
-        report = judgement.printed
-        audit = self.contents.format_audit() if is_certified else None
-        self._write_results(data, report, audit)
-        if audit is None:
-            self._leave({UNCERTIFIED: report})
+        sources = make_sources(
+            self.means.program,
+            data=self.folder.read(INPUT),
+            solutions=self.contents.format_solutions(),
+            audit=self.contents.format_audit() if is_certified else None,
+        )
+        self._write_results(sources)
+        if sources.audit is None:
+            self._leave({UNCERTIFIED: sources.report.text})
         else:
-            self._leave({AUDIT: audit, REPORT: report})
+            self._leave({AUDIT: sources.audit.text, REPORT: sources.report.text})
 
     def _leave(self, texts: dict[str, bytes]) -> None:
         """Leaves these files in the place of all of an earlier run, if they aren't the same."""
@@ -96,23 +118,17 @@ class Publisher:
         for name, text in texts.items():
             folder.leave(name, text)
 
-    def _write_results(self, data: bytes, report: bytes, audit: bytes | None) -> None:
-        """Has the program judge what was found, and makes the tables and the page."""
-        page = self.page or Page()
+    def _write_results(self, sources: Sources) -> None:
+        """Makes the tables and the page."""
         names = self.folder.path(_NAMES)
-        sources = Sources(
-            input=Source(data, name="the input"),
-            report=Source(report, name="the report"),
-            audit=None if audit is None else AuditSource(audit, name="the audit"),
-        )
         options = PageOptions(
-            title=page.title or TITLE,
-            currency=page.currency,
+            title=self.page.title or TITLE,
+            currency=self.page.currency,
             names_path=str(names) if names.exists() else None,
             regular_names=True,
         )
         results = make_results(self.means.program, sources, options)
-        if self.page is not None:
+        if self.writes_results:
             results.write_files(str(self.folder.path(_RESULTS)))
         self._tell_prices(results.figures)
         self._tell_awards(results.figures)

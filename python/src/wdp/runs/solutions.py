@@ -9,7 +9,7 @@ from typing import TYPE_CHECKING
 from wdp import certify, groups, solve, steps
 from wdp.certify.limits import LimitReached
 from wdp.office.faults import format_count
-from wdp.runs.contents import ROWS, TIES, Contents, name_file
+from wdp.runs.contents import FIRST_GROUP, ROWS, TIES, Contents, name_file
 from wdp.runs.means import Means
 from wdp.texts import certificates
 from wdp.texts.refusals import NotSolved, Refused
@@ -37,8 +37,8 @@ def name_step(group: int) -> str:
 @dataclass
 class Settler:
     """Settles groups whose programs are there. The solver only has to give good answers: the search
-    for a certificate goes on from them to the best one. `first` is the problem of group 1, once it
-    is read.
+    for a certificate goes on from them to the best one. Without a solver it begins at the answer
+    that is there, or from nothing. `first` is the problem of group 1, once it is read.
     """
 
     contents: Contents
@@ -52,7 +52,7 @@ class Settler:
         with steps.hold_signals():
             import wdp.certify.settling  # noqa: F401
         with suppress(Refused):
-            self.first = self.first or certify.read_problem(self._read("program", 1))
+            self.first = self.first or certify.read_problem(self._read("program", FIRST_GROUP))
 
     def settle(self, group: int) -> None:
         """Leaves a solution of a group's program and its certificate, and of group 1 what ties, as
@@ -68,11 +68,12 @@ class Settler:
         certificate = name_file("certificate", group)
         if not store.has(certificate) or not store.has(solution):
             settled = self._take_over(group) or self._certify(group, program)
-            if group == 1:
+            if group == FIRST_GROUP:
                 store.leave(ROWS, settled.rows.encode("ascii"))
-            store.leave(solution, settled.solution)
-            store.leave(certificate, settled.certificate)
-        if group == 1 and goals.finds_ties and not store.has(TIES):
+            self.contents.leave_group(
+                group, solution=settled.solution, certificate=settled.certificate
+            )
+        if group == FIRST_GROUP and goals.finds_ties and not store.has(TIES):
             self._find_ties(program)
 
     def _read(self, kind: str, group: int) -> bytes:
@@ -85,7 +86,7 @@ class Settler:
         if not store.has(kept):
             answer = solve.find_point(
                 program,
-                self.means.solver,
+                solve.find_solver(self.means.solver),
                 seconds=self.means.seconds,
                 log=store.make_log(str(name)),
             )
@@ -108,6 +109,8 @@ class Settler:
         no other is better here, and the same lines show that.
         """
         store = self.contents.store
+        if self.means.solver is None and store.has(name_file("answer", group)):
+            return None  # (the caller gave this group's solution)
         names = self.contents.read_names()
         for number in groups.find_smaller(names, group):
             solution = name_file("solution", number)
@@ -130,25 +133,38 @@ class Settler:
             problem = certify.read_problem(program)
         elif left_out := self.contents.read_names()[group]:
             problem = problem.leave_out(self.contents.number_bidders(left_out))
-        problem.known_rows = self.contents.read_rows() if group != 1 else ""
+        problem.known_rows = self.contents.read_rows() if group != FIRST_GROUP else ""
         return problem
 
     def _certify(self, group: int, program: bytes) -> certify.Optimum:
-        """What a solver and the search for a certificate come to; it goes on where an earlier run
-        gave up.
+        """What a solver, if there is one, and the search for a certificate come to; it goes on
+        where an earlier run gave up.
         """
         with self.means.at_once():
             problem = self._make_problem(group, program)
         try:
-            settled = self._search(group, program, problem)
+            if self.means.solver is None:
+                settled = self._search_alone(group, problem)
+            else:
+                settled = self._search(group, program, problem)
         except LimitReached as reached:
             self._leave_unfinished(group, reached)
             part = format_percent(reached.part_missing)
             near = f"within {part} of the greatest total, not proved"
             limit = f"the search ended at its limit of {self.means.format_limit()}"
             raise NotSolved(f"{near}; {limit}", GIVEN_UP) from None
-        self._tell_better(group, problem, settled)
+        if self.means.solver is not None:
+            self._tell_better(group, problem, settled)
         return settled
+
+    def _search_alone(self, group: int, problem: Problem) -> certify.Optimum:
+        """What the search comes to without a solver; LimitReached at its limit."""
+        answer = name_file("answer", group)
+        if self.contents.store.has(answer):
+            begin = self.contents.store.read(answer)
+        else:
+            begin = problem.make_empty_solution()
+        return problem.find_optimum(begin, seconds=self.means.seconds)
 
     def _search(self, group: int, program: bytes, problem: Problem) -> certify.Optimum:
         """What the search comes to; LimitReached at its limit."""
@@ -202,12 +218,12 @@ class Settler:
 
         contents = self.contents
         with self.means.at_once():
-            problem = self._make_problem(1, program)
+            problem = self._make_problem(FIRST_GROUP, program)
             problem.known_rows = contents.read_rows()
         try:
             tied = find_ties(
                 problem,
-                self._read("solution", 1),
+                self._read("solution", FIRST_GROUP),
                 seconds=self.means.seconds,
                 keep=contents.keep_ties,
                 at_once=self.means.at_once,

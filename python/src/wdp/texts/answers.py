@@ -3,13 +3,13 @@ refused.
 """
 import math
 import re
-from collections.abc import Sequence
+from collections.abc import Iterable, Iterator, Sequence
 from contextlib import suppress
 from fractions import Fraction
 from functools import cached_property
-from itertools import islice
+from itertools import groupby, islice
 
-from wdp.results import Allocation, Counts, Group, Prices, Program, Report, Winner
+from wdp.results import Allocation, Counts, Group, Prices, Report, Winner
 from wdp.texts.accepted import Bid, parse_form
 from wdp.texts.parts import list_groups, list_names, parse_parts
 from wdp.texts.refusals import Unclear, escape
@@ -20,7 +20,8 @@ _TOTAL = "(0|[1-9][0-9]{0,29})\n"
 _WINNERS = rf"(?:{_NAME} [1-9][0-9]{{0,3}} [1-9][0-9]{{0,12}}\n)*"
 WON = rf"({_WINNERS})total {_TOTAL}"  # the winners and the total of a group or an allocation
 _SIZE = "(0|[1-9][0-9]{0,17})"
-_PROGRAM = re.compile(rf"^\* program {_HEAD}", re.MULTILINE)
+_BEGIN_OF_PROGRAM = b"* program "
+_PROGRAM = re.compile(rf"\* program {_HEAD}")
 _ALLOCATION = re.compile(WON)
 _GROUP = re.compile(rf"group {_HEAD}{WON}cost (0|-?[1-9][0-9]{{0,29}})\n")
 _WHOLE = "(?:0|[1-9][0-9]{0,29})"
@@ -128,21 +129,45 @@ def _parse_head(
     return left_out
 
 
-def read_programs(output: bytes, expected: ExpectedAnswer) -> list[Program]:
-    """The program of each group, as `wdp compile` prints them; Unclear if one isn't there."""
-    before, *pieces = _PROGRAM.split(output.decode("ascii", "replace"))
-    heads = zip(pieces[::3], pieces[1::3], pieces[2::3], strict=True)
-    count = len(pieces) // 3
-    if count != len(expected.groups) or before:
+def split_programs(
+    lines: Iterable[bytes], expected: ExpectedAnswer
+) -> Iterator[tuple[tuple[str, ...], bytes]]:
+    """The names that each group leaves out and its program, in the lines that `wdp compile` prints.
+
+    Raises Unclear at the first one that isn't there, or isn't complete.
+    """
+    count = 0
+    left_out: tuple[str, ...] | None = None
+    for is_head, piece in groupby(lines, lambda line: line.startswith(_BEGIN_OF_PROGRAM)):
+        if is_head:
+            left_out = _parse_program_head(list(piece), group=count + 1, expected=expected)
+        elif left_out is None:
+            raise _make_unclear("it doesn't begin with a program")
+        else:
+            count += 1
+            yield left_out, _check_program(b"".join(piece), group=count)
+    if count != len(expected.groups):
         raise _make_unclear(f"it has {count} programs, for {len(expected.groups)} groups")
-    programs = []
-    for group, (number, names, text) in enumerate(heads, 1):
-        left_out = _parse_head(number, names, group=group, expected=expected)
-        is_complete = text.startswith("NAME wdp\nROWS\n") and text.endswith("\nENDATA\n")
-        if not is_complete or not text.isascii():
-            raise _make_unclear(f"program {group} isn't complete")
-        programs.append(Program(group=group, names=left_out, text=text))
-    return programs
+
+
+def _parse_program_head(
+    lines: Sequence[bytes], *, group: int, expected: ExpectedAnswer
+) -> tuple[str, ...]:
+    """The names in the line before a group's program, of which there has to be one."""
+    if group > len(expected.groups):
+        raise _make_unclear(f"it has more programs than groups, {len(expected.groups)}")
+    head = _PROGRAM.fullmatch(lines[0].decode("ascii", "replace"))
+    if head is None or len(lines) > 1:
+        raise _make_unclear(f"program {group} isn't complete")
+    return _parse_head(head[1], head[2], group=group, expected=expected)
+
+
+def _check_program(text: bytes, *, group: int) -> bytes:
+    """The text of a group's program; Unclear if it isn't complete."""
+    is_complete = text.startswith(b"NAME wdp\nROWS\n") and text.endswith(b"\nENDATA\n")
+    if not is_complete or not text.isascii():
+        raise _make_unclear(f"program {group} isn't complete")
+    return text
 
 
 def read_map(output: bytes, expected: ExpectedAnswer) -> Allocation:
