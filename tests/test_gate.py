@@ -312,11 +312,12 @@ steps.run_from([(str(n), ['sh', '-c', 'sleep 61.37 & wait']) for n in range(3)],
 
 @pytest.fixture
 def pages(tmp_path):
-    """A tree whose tools and pages may be changed, and a call of its tools/pages, by a toolchain without libraries."""
-    for name in ("tools", "docs"):
+    """A tree whose tools, pages and refused texts may be changed, and a call of its tools/pages, by a toolchain without libraries."""
+    copied = ("tools", "docs", "fixtures")
+    for name in copied:
         shutil.copytree(ROOT / name, tmp_path / name)
     for path in ROOT.iterdir():
-        if path.name not in ("tools", "docs", ".git"):
+        if path.name not in (*copied, ".git"):
             (tmp_path / path.name).symlink_to(path)
     kit = tmp_path / "kit"
     for folder in (kit / "bin", kit / "rattle"):
@@ -327,8 +328,8 @@ def pages(tmp_path):
         text = (tmp_path / path).read_text()
         assert old in text
         (tmp_path / path).write_text(text.replace(old, new, 1))
-        env = {"PATH": f"{kit}/bin"}
-        return seen("/usr/bin/python3", [f"{tmp_path}/tools/pages"], b"", cwd=tmp_path, env=env)
+        how = {"cwd": tmp_path, "env": {"PATH": f"{kit}/bin"}, "timeout": 300}
+        return seen("/usr/bin/python3", [f"{tmp_path}/tools/pages"], b"", **how)
 
     return call
 
@@ -388,3 +389,32 @@ def test_what_pages_name_and_is_not_there(pages, path, old, new, line):
     status, output, errors = pages(path, old, new)
     last = output.decode().splitlines()[-2:]
     assert (status, last, errors) == (1, [f"tools/pages: {line}", "0 passed, 1 failed"], b"")
+
+
+# a file, what is changed in it, and what is said of the change
+WITHOUT_WORDS = {
+    "row": (
+        "fixtures/faults.txt",
+        "no line for `K`: ",
+        "",
+        "fixtures/faults.txt: no words say what is wrong at wdp: solution 1: 7 BoundBroken at column K",
+    ),
+    "script": (
+        "tools/counts",
+        '"""Counts what',
+        'import re\n"""Counts what',
+        "tools/counts doesn't begin with a sentence on what it is for",
+    ),
+    "list": (
+        "docs/CONTRIBUTING.md",
+        "- `prices`: ",
+        "- `prices` ",
+        "CONTRIBUTING.md: 'map' is stale: tools/pages --write writes it anew",
+    ),
+}
+
+
+@pytest.mark.parametrize("path, old, new, line", WITHOUT_WORDS.values(), ids=WITHOUT_WORDS)
+def test_what_does_not_say_what_it_is(pages, path, old, new, line):
+    status, output, _ = pages(path, old, new)
+    assert status == 1 and f"failed: {line}" in output.decode().splitlines()
