@@ -7,6 +7,7 @@ adviser's day, and `wdp.example` has an auction. The command wdp-office has an a
 round it.
 """
 from wdp.api import Auction
+from wdp.lost.bids import Fate, LostBid, LostBids
 from wdp.office.judge import Explained, Finding
 from wdp.outcome import Outcome
 from wdp.results import (
@@ -30,10 +31,13 @@ __all__ = [
     "Auction",
     "Counts",
     "Explained",
+    "Fate",
     "Finding",
     "Forms",
     "Group",
     "Groups",
+    "LostBid",
+    "LostBids",
     "Matrix",
     "Missing",
     "NotFound",

@@ -127,8 +127,8 @@ class Folder:
         """
         scratch = self.path(".running").absolute()
         files.remove(scratch)
-        # (a file is written in the folder, in one in it, or in one of `sums`)
-        for depth in ("", "*/", "*/*/"):
+        # (a file is written in the folder, in one or two below it, or in one of `sums`)
+        for depth in ("", "*/", "*/*/", "*/*/*/"):
             for path in self.where.glob(f"{depth}{files.WRITING}*"):
                 files.remove(path)
         scratch.mkdir(exist_ok=True)

@@ -28,6 +28,7 @@ class Tabular:
         - of a report the groups, with group, left_out (names joined by `+`, or `-`), total and cost
         - of prices the winners, with bidder, exact (a `fractions.Fraction` of pounds) and paid
         - of solutions the columns that they name, with group, column and value
+        - of lost bids the bids, with bidder, bid, amount, needed, lacked, fate and reason
         - of what `explain` finds the findings, with part, number, kind, record, field and cause;
           or, if there are none, the bids in no program, with bidder and why
 

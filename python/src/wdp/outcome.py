@@ -4,12 +4,16 @@ from __future__ import annotations
 import os
 from dataclasses import dataclass, field
 
+from wdp.certify import check_libraries
+from wdp.checks import check_seconds, check_solver
+from wdp.lost.bids import LostBids
 from wdp.program import StrPath
 from wdp.publish.making import make_results
 from wdp.publish.names import LONGEST, TITLE, PageOptions, is_line
 from wdp.results import Report, Solutions
 from wdp.runs.contents import format_parts
 from wdp.runs.reports import make_sources
+from wdp.runs.means import Means
 from wdp.texts.parts import list_groups
 from wdp.texts.refusals import WrongArgument
 
@@ -36,6 +40,41 @@ class Outcome:
     input: bytes = field(repr=False)
     program: str = field(repr=False, compare=False)
     limit: str | None = None
+
+    def lost(
+        self,
+        bidder: str | None = None,
+        bid: int | None = None,
+        *,
+        solver: str | None = None,
+        time_limit: float | None = None,
+    ) -> LostBids:
+        """What each bid lacked that isn't in the award: the lowest amount at which it would have
+        tied or won, all other bids as they are, with an audit that shows it. It takes a solve for
+        each of them. With `bidder`, of this bidder's bids alone, and with `bid`, of those of this
+        number.
+
+        `solver` and `time_limit` are as in `Auction.prices`. Raises WrongArgument if there is no
+        such bid, NotSolved if a solver fails, Refused if a limit is reached, and Missing without
+        numpy, scipy and swiglpk.
+        """
+        check_libraries()
+        from wdp.lost.award import ProvedAward
+        from wdp.lost.search import LostBidSearch
+
+        means = Means(
+            program=self.program,
+            solver=check_solver(solver),
+            seconds=check_seconds(time_limit),
+        )
+        award = ProvedAward.read(
+            self.input,
+            solution=self.solutions.texts[0].encode(),
+            certificate=self.certificates[0].encode(),
+            means=means,
+        )
+        search = LostBidSearch(award, means)
+        return LostBids(tuple(search.find(key) for key in award.list_lost(bidder, bid)))
 
     def write_page(
         self,

@@ -73,10 +73,14 @@ class Progress:
     """Prints how far a run is, one line that is renewed at a terminal, few lines elsewhere; and
     counts the time of each step.
 
-    Of `count` groups `left` are to be done. `say` prints a line elsewhere.
+    Of `count` groups, or other things of this name, `left` are to be done. `say` prints a line
+    elsewhere.
     """
 
-    def __init__(self, count: int, *, left: int, times: Times, say: Say) -> None:
+    def __init__(
+        self, count: int, *, left: int, times: Times, say: Say, thing: str = "group"
+    ) -> None:
+        self.thing = thing
         self.count = count
         self.left = left
         self.times = times
@@ -85,8 +89,8 @@ class Progress:
         self.begins: dict[str, float] = {}
 
     def __call__(self, ended: int, at_work: list[str]) -> None:
-        """Takes how many of the groups that were left have ended, and the names of those that are
-        at work.
+        """Takes how many of those that were left have ended, and the names of those that are at
+        work.
         """
         now = time.monotonic()
         for name in self.begins.keys() - at_work:
@@ -97,7 +101,7 @@ class Progress:
         if now - self.last_print < _PRINT_EVERY[is_terminal]:
             return
         self.last_print = now
-        text = f"{self.count - self.left + ended} of {format_count(self.count, 'group')} done"
+        text = f"{self.count - self.left + ended} of {format_count(self.count, self.thing)} done"
         if at_work:
             text += f"; at work: {', '.join(at_work[:8])}"
         if is_terminal:

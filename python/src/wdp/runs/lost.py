@@ -1,0 +1,192 @@
+"""The steps that find what the bids lacked that an award doesn't have, in the award's folder."""
+from __future__ import annotations
+
+from collections.abc import Collection, Sequence
+from dataclasses import dataclass
+from functools import partial
+from pathlib import Path
+from typing import TYPE_CHECKING
+
+from wdp import files, memory, steps
+from wdp.folder import INPUT, Folder
+from wdp.lost.bids import BidKey, LostBid
+from wdp.lost.records import format_bids, format_record, parse_record
+from wdp.office.faults import format_count
+from wdp.progress import Progress
+from wdp.publish.names import read_names
+from wdp.runs.contents import Contents, Goals
+from wdp.runs.means import Means
+from wdp.runs.processes import Processes
+from wdp.runs.reports import AUDIT, Page
+from wdp.texts.accepted import AcceptedRules
+from wdp.texts.parts import parse_parts
+from wdp.texts.refusals import Refused, WrongArgument
+from wdp.texts.tables import compute_digest
+
+if TYPE_CHECKING:
+    from wdp.lost.award import ProvedAward
+
+LOST = "lost"  # the folder of what was found
+MOST_SOLVES = 100  # that are made if nothing says of which bids
+_AWARD = f"{LOST}/of_award.txt"  # which award that is of (no bidder has such a name)
+_MISSING_SHOWN = 10  # bids that a message names
+
+
+def name_record(key: BidKey) -> str:
+    """The file of what is kept of a lost bid."""
+    return f"{LOST}/{key.bidder}/{key.number}.json"
+
+
+def name_audit(key: BidKey, *, is_below: bool = False) -> str:
+    """The file of the audit that shows what a lost bid lacked, or of the one a step below.
+
+    >>> name_audit(BidKey("Alpha", 3)), name_audit(BidKey("Alpha", 3), is_below=True)
+    ('lost/Alpha/3.txt', 'lost/Alpha/3.below.txt')
+    """
+    return f"{LOST}/{key.bidder}/{key.number}{'.below' if is_below else ''}.txt"
+
+
+def _name_step(key: BidKey) -> str:
+    return f"bid {key.number} of {key.bidder}"
+
+
+@dataclass(frozen=True)
+class LostRun:
+    """Finds what lost bids lacked, so many at a time, and keeps what was found."""
+
+    folder: Folder
+    means: Means
+    jobs: int = 1
+
+    def run(self, bidder: str | None = None, number: int | None = None) -> int:
+        """Finds what isn't found yet, of all lost bids, of this bidder's, or of those of this
+        number. Gives the status.
+        """
+        folder = self.folder
+        if not folder.where.is_dir():
+            raise Refused(f"{folder.where} is no folder of an auction")
+        if not folder.has(AUDIT):
+            raise Refused(f"{folder.path(AUDIT)} isn't there; wdp-office auction makes it")
+        with folder.lock(alone=True), folder.scratch():
+            with steps.hold_signals():
+                import wdp.lost.search  # noqa: F401
+            award = self._read_award()
+            keys = award.list_lost(bidder, number)
+            self._take_folder(award)
+            left = [key for key in keys if not folder.has(name_record(key))]
+            is_chosen = bidder is not None or number is not None
+            self._tell_begin(award, keys, left=left, is_chosen=is_chosen)
+            self._find_all(award, left)
+            for name in dict.fromkeys(key.bidder for key in keys):
+                self._write_for(name, award)
+            return self._tell_end(keys)
+
+    def _read_award(self) -> ProvedAward:
+        """The award of the folder."""
+        from wdp.lost.award import ProvedAward
+
+        parts = list(parse_parts(self.folder.read(AUDIT)))
+        return ProvedAward.read(
+            self.folder.read(INPUT),
+            solution=next(part.text for part in parts if part.kind == "solution"),
+            certificate=next(part.text for part in parts if part.kind == "certificate"),
+            means=self.means,
+            known_rows=Contents(self.folder, Goals()).read_rows(),
+        )
+
+    def _take_folder(self, award: ProvedAward) -> None:
+        """Takes away what was found of another award."""
+        digests = [compute_digest(text) for text in (award.data, award.certificate)]
+        mark = "".join(f"{word}\n" for word in [*digests, *award.columns]).encode()
+        if self.folder.has(_AWARD) and self.folder.read(_AWARD) == mark:
+            return
+        for path in (self.folder.path(LOST), self.folder.path(f"sums/{LOST}")):
+            files.remove(path)
+        self.folder.leave(_AWARD, mark)
+
+    def _tell_begin(
+        self,
+        award: ProvedAward,
+        keys: Sequence[BidKey],
+        *,
+        left: Collection[BidKey],
+        is_chosen: bool,
+    ) -> None:
+        """Says how many solves there are; WrongArgument if they are many, and nobody chose them."""
+        solves = sum(award.fits(key) for key in left)
+        unfit = sum(not award.fits(key) for key in keys)
+        count = f"{format_count(solves, 'solve')} for {format_count(len(keys), 'lost bid')}"
+        if unfit:
+            count += f", of which {unfit} can't fit"
+        if solves > MOST_SOLVES and not is_chosen:
+            hint = f"for more than {MOST_SOLVES} say --bidder NAME or --bid J"
+            raise WrongArgument(f"{count}; {hint}")
+        self.means.reporter.say(count)
+
+    def _find_all(self, award: ProvedAward, left: Sequence[BidKey]) -> None:
+        """Finds what these bids lacked, each in a process of its own."""
+        columns = len(award.problem.program.columns)
+        reporter = self.means.reporter
+        progress = Progress(
+            len(left), left=len(left), times=reporter.times, say=reporter.say, thing="bid"
+        )
+        Processes(reporter).run(
+            {_name_step(key): partial(self._find, award, key) for key in left},
+            jobs=memory.limit_jobs(self.jobs, columns, memory.measure_free()),
+            watch=None if reporter.is_quiet else progress,
+        )
+
+    def _find(self, award: ProvedAward, key: BidKey) -> None:
+        """Leaves what a bid lacked, and the audits that show it; the record is there once all is."""
+        from wdp.lost.search import LostBidSearch
+
+        found = LostBidSearch(award, self.means).find(key)
+        if found.audit is not None:
+            self.folder.leave(name_audit(key), found.audit)
+        if found.audit_below is not None:
+            self.folder.leave(name_audit(key, is_below=True), found.audit_below)
+        self.folder.leave(name_record(key), format_record(found))
+
+    def _write_for(self, name: str, award: ProvedAward) -> None:
+        """Leaves what the bids of a bidder lacked of which that is known, and shows it."""
+        keys = [key for key in award.list_lost(name) if self.folder.has(name_record(key))]
+        if not keys:
+            return
+        bids = [read_record(self.folder, key) for key in keys]
+        page = Page()
+        page.keep(self.folder)
+        text = format_bids(
+            bids,
+            step=award.auction.rules.step,
+            names=read_names_of_folder(self.folder, award.auction.rules),
+            currency=page.currency,
+        )
+        self.folder.leave(f"{LOST}/{name}.txt", text.encode())
+        for line in text.splitlines():
+            self.means.reporter.show(line)
+
+    def _tell_end(self, keys: Sequence[BidKey]) -> int:
+        """Says which bids are missing; the status."""
+        missing = [key for key in keys if not self.folder.has(name_record(key))]
+        where = self.folder.path(LOST)
+        if not missing:
+            self.means.reporter.say(f"what they lacked is in {where}, with an audit for each")
+            return 0
+        listed = ", ".join(map(_name_step, missing[:_MISSING_SHOWN]))
+        more = len(missing) - _MISSING_SHOWN
+        rest = f" and {more} more" if more > 0 else ""
+        count = f"{len(missing)} of {format_count(len(keys), 'bid')} are missing"
+        self.means.reporter.say(f"{count}: {listed}{rest}")
+        return 1
+
+
+def read_record(folder: Folder, key: BidKey) -> LostBid:
+    """What was found of a lost bid, without its audits."""
+    name = name_record(key)
+    return parse_record(folder.read(name), str(folder.path(name)))
+
+
+def read_names_of_folder(folder: Folder, rules: AcceptedRules) -> dict[str, str]:
+    """What the office calls bidders and categories, by `names.csv` of a folder, if it is there."""
+    path: Path = folder.path("names.csv")
+    return read_names(str(path), rules, regular=True) if path.exists() else {}
