@@ -27,6 +27,7 @@ COMMANDS = {
     "auction": ("commands.auction", "goes from the input to winners, opportunity costs and a page"),
     "prices": ("commands.prices", "finds what the winners of an award pay"),
     "lost": ("commands.lost", "finds what each bid lacked that lost in an award"),
+    "letters": ("commands.letters", "writes a letter to each bidder, or a receipt of its form"),
     "results": ("commands.results", "makes tables and a page of a report"),
 }
 _LONGEST_COMMAND = 40  # characters of an unknown command that are looked at

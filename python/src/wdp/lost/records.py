@@ -1,11 +1,17 @@
 """What is kept of a lost bid beside its audits, as JSON, and what its bidder gets to read."""
 import json
+import re
 from collections.abc import Mapping, Sequence
 
 from wdp.lost.bids import MOST_OF_AMOUNT, Fate, LostBid
+from wdp.lost.inputs import keep_first_group
 from wdp.office.faults import CellValue, align_rows, format_lines
+from wdp.texts.parts import parse_parts
 from wdp.texts.refusals import Refused
+from wdp.texts.tables import compute_digest
 
+# why a bid is in no program, up to the name of a category
+_ASKED_FOR = re.compile(r"^(asks for [0-9]+ of )(\w+)")
 _FIELDS = ("bidder", "bid", "amount", "lots", "needed", "reason", "shown")
 
 
@@ -29,15 +35,29 @@ def parse_record(text: bytes, name: str) -> LostBid:
         ) from None
 
 
-def describe_fate(bid: LostBid) -> str:
-    """What would have become of a bid, in words, and why it is in no program if it isn't."""
+def format_mark(data: bytes, audit: bytes) -> bytes:
+    """What says of which award something was found: the SHA-256 of its input with the empty group
+    alone, and of its solution and certificate.
+    """
+    parts = list(parse_parts(audit))
+    texts = [keep_first_group(data)]
+    for kind in ("solution", "certificate"):
+        texts.append(next(part.text for part in parts if part.kind == kind))
+    return "".join(f"{compute_digest(text)}\n" for text in texts).encode()
+
+
+def describe_fate(bid: LostBid, names: Mapping[str, str]) -> str:
+    """What would have become of a bid, in words, and why it is in no program if it isn't, by what
+    the office calls categories.
+    """
     fate = bid.fate.value
     if bid.fate is Fate.BEYOND:
         fate += f" of {MOST_OF_AMOUNT:,}"
     if bid.reason is None:
         return fate
     with_amount = "" if bid.fate is Fate.UNFIT else "with its amount "
-    return f"{fate}; {with_amount}it {bid.reason}"
+    reason = _ASKED_FOR.sub(lambda match: match[1] + names.get(match[2], match[2]), bid.reason)
+    return f"{fate}; {with_amount}it {reason}"
 
 
 def format_lots(lots: Mapping[str, int], names: Mapping[str, str]) -> str:
@@ -57,7 +77,7 @@ def format_bids(
     ]
     for bid in bids:
         lots = format_lots(bid.lots, names)
-        fate = describe_fate(bid)
+        fate = describe_fate(bid, names)
         rows.append([bid.bid, lots, bid.amount, bid.needed, bid.lacked, fate])
     steps = f"{step:,} {currency or ''}".rstrip()
     meaning = (

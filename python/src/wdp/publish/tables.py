@@ -142,12 +142,12 @@ def make_prices_table(figures: Figures) -> DisplayTable:
             _make_summed(f"Exact price{unit}", [each.exact_price for each in winners]),
             _make_summed(f"Price{unit}", [each.price for each in winners]),
             _make_summed(f"Amount{unit}", [each.amount for each in winners]),
-            _Column("Bound by", [_list_bounds(each.name, figures, prices) for each in winners]),
+            _Column("Bound by", [list_bounds(each.name, figures, prices) for each in winners]),
         ],
     )
 
 
-def _list_bounds(name: str, figures: Figures, prices: PricesFigures) -> str:
+def list_bounds(name: str, figures: Figures, prices: PricesFigures) -> str:
     """What binds a winner's exact price: the groups that pay just their cost, and the reserve."""
     groups = [figures.groups[number - 1].left_out for number in prices.groups]
     bounds = [_join_group(names, figures) for names in groups if name in names]

@@ -10,7 +10,7 @@ from typing import TYPE_CHECKING
 from wdp import files, memory, steps
 from wdp.folder import INPUT, Folder
 from wdp.lost.bids import BidKey, LostBid
-from wdp.lost.records import format_bids, format_record, parse_record
+from wdp.lost.records import format_bids, format_mark, format_record, parse_record
 from wdp.office.faults import format_count
 from wdp.progress import Progress
 from wdp.publish.names import read_names
@@ -21,7 +21,6 @@ from wdp.runs.reports import AUDIT, Page
 from wdp.texts.accepted import AcceptedRules
 from wdp.texts.parts import parse_parts
 from wdp.texts.refusals import Refused, WrongArgument
-from wdp.texts.tables import compute_digest
 
 if TYPE_CHECKING:
     from wdp.lost.award import ProvedAward
@@ -72,7 +71,7 @@ class LostRun:
                 import wdp.lost.search  # noqa: F401
             award = self._read_award()
             keys = award.list_lost(bidder, number)
-            self._take_folder(award)
+            self._take_folder()
             left = [key for key in keys if not folder.has(name_record(key))]
             is_chosen = bidder is not None or number is not None
             self._tell_begin(award, keys, left=left, is_chosen=is_chosen)
@@ -94,11 +93,10 @@ class LostRun:
             known_rows=Contents(self.folder, Goals()).read_rows(),
         )
 
-    def _take_folder(self, award: ProvedAward) -> None:
+    def _take_folder(self) -> None:
         """Takes away what was found of another award."""
-        digests = [compute_digest(text) for text in (award.data, award.certificate)]
-        mark = "".join(f"{word}\n" for word in [*digests, *award.columns]).encode()
-        if self.folder.has(_AWARD) and self.folder.read(_AWARD) == mark:
+        mark = format_mark(self.folder.read(INPUT), self.folder.read(AUDIT))
+        if is_of_award(self.folder, mark):
             return
         for path in (self.folder.path(LOST), self.folder.path(f"sums/{LOST}")):
             files.remove(path)
@@ -178,6 +176,11 @@ class LostRun:
         count = f"{len(missing)} of {format_count(len(keys), 'bid')} are missing"
         self.means.reporter.say(f"{count}: {listed}{rest}")
         return 1
+
+
+def is_of_award(folder: Folder, mark: bytes) -> bool:
+    """Whether what a folder keeps of lost bids is of the award with this mark."""
+    return folder.has(_AWARD) and folder.read(_AWARD) == mark
 
 
 def read_record(folder: Folder, key: BidKey) -> LostBid:

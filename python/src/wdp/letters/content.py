@@ -1,0 +1,237 @@
+"""What a letter says, in sections of sentences, facts and tables; of other bidders it has no bid."""
+from collections.abc import Mapping, Sequence
+from dataclasses import dataclass, field
+
+from wdp.lost.bids import LostBid
+from wdp.lost.records import describe_fate
+from wdp.office.faults import CellValue, format_count, format_number
+from wdp.publish.figures import BidderFigures, Figures
+from wdp.publish.tables import list_bounds
+from wdp.texts.accepted import AcceptedRules, Bid
+
+_UNPRICED = "not found yet"
+_ABOUT_PRICES = (
+    "You pay the exact price, rounded up to whole pounds. The cost alone is how much more the "
+    "others, and the values of unsold lots, would bring without you. Bound by names the groups of "
+    "winners that by exact prices pay just what they cost together, and says reserve if your exact "
+    "price is the reserve."
+)
+_ABOUT_COMMANDS = (
+    "These commands print your part of what is proved, in the folder of the award. They need the "
+    "program wdp, and the audit, which has every bid: ask the office whether you may see it."
+)
+
+
+@dataclass(frozen=True)
+class Check:
+    """A command by which a reader checks a part of a letter, and what it prints."""
+
+    command: str
+    output: str
+
+
+@dataclass(frozen=True)
+class Section:
+    """A part of a letter: a heading, sentences, facts with their names, notes on these, a table
+    whose first row has its headings, and checks.
+    """
+
+    heading: str
+    sentences: Sequence[str] = ()
+    facts: Mapping[str, str] = field(default_factory=dict)
+    notes: Sequence[str] = ()
+    rows: Sequence[Sequence[CellValue]] = ()
+    checks: Sequence[Check] = ()
+
+
+@dataclass(frozen=True)
+class Letter:
+    """A letter: what the auction and the bidder are called, and its sections."""
+
+    title: str
+    name: str
+    sections: Sequence[Section]
+
+
+@dataclass(frozen=True)
+class Naming:
+    """What an office calls an auction, its bidders and categories, and the unit of amounts."""
+
+    title: str
+    names: Mapping[str, str]
+    currency: str | None = None
+
+    def format_bidder(self, code: str) -> str:
+        """A bidder by its name, followed by its code: `Alpha plc (Alpha)`."""
+        return f"{self.names[code]} ({code})" if code in self.names else code
+
+    def add_unit(self, heading: str) -> str:
+        """The heading of a column of amounts."""
+        return f"{heading}, {self.currency}" if self.currency else heading
+
+    def format_amount(self, amount: int) -> str:
+        """An amount with its unit: `1,000 GBP`."""
+        return f"{format_number(amount)} {self.currency or ''}".rstrip()
+
+    def format_lots(self, lots: Sequence[int], rules: AcceptedRules) -> str:
+        """Lots in words: `2 of 800 MHz, 1 of B`."""
+        pairs = zip(lots, rules.categories, strict=True)
+        return ", ".join(
+            f"{count:,} of {self.names.get(category.name, category.name)}"
+            for count, category in pairs
+            if count
+        )
+
+
+@dataclass(frozen=True)
+class CountedForm:
+    """The form of a bidder that counts: its bids, and the line that `wdp forms` prints of it, whose
+    last field is its SHA-256, or `-` if there is no form.
+    """
+
+    bidder: str
+    bids: Sequence[Bid]
+    line: str
+
+    @property
+    def digest(self) -> str | None:
+        """The SHA-256 of the form; None if there is no form."""
+        last = self.line.split()[-1]
+        return None if last == "-" else last
+
+
+def make_receipt(form: CountedForm, rules: AcceptedRules, naming: Naming) -> Letter:
+    """The receipt of a form, which its bidder confirms before the award."""
+    confirm = "Please confirm that this is your form, and that no bid is missing or wrong."
+    ask = "This command prints the same of the auction's input, which has every form."
+    checks = [Check(f"wdp forms input.txt | grep '^%form {form.bidder} '", form.line)]
+    return Letter(
+        title=naming.title,
+        name=naming.format_bidder(form.bidder),
+        sections=[
+            Section("Receipt of your form", sentences=[confirm]),
+            _make_form_section("The form that counts", form, rules, naming=naming),
+            Section("How to check it", sentences=[*_describe_digest(form), ask], checks=checks),
+        ],
+    )
+
+
+def make_letter(
+    form: CountedForm,
+    rules: AcceptedRules,
+    naming: Naming,
+    *,
+    figures: Figures,
+    lost: Sequence[LostBid],
+    checks: Sequence[Check],
+) -> Letter:
+    """The letter to a bidder after the award. `lost` are its lost bids of which it is known what
+    they lacked.
+    """
+    bidder = next(each for each in figures.bidders if each.name == form.bidder)
+    sections = [
+        _make_won_section(bidder, figures),
+        _make_form_section("The form that counted", form, rules, naming=naming, winning=bidder.bid),
+    ]
+    if lost:
+        count = len(form.bids) - bidder.is_winner
+        sections.append(_make_lost_section(lost, rules, naming, count=count))
+    about = [*_describe_digest(form), _ABOUT_COMMANDS]
+    sections.append(Section("How to check it", sentences=about, checks=checks))
+    return Letter(naming.title, naming.format_bidder(form.bidder), sections)
+
+
+def _describe_digest(form: CountedForm) -> list[str]:
+    """How a bidder checks the form without anybody's files."""
+    if form.digest is None:
+        return []
+    return [
+        "The SHA-256 is that of the form as it counts. sha256sum prints the same of your own file, "
+        "unless something in it had to be written in another way."
+    ]
+
+
+def _make_form_section(
+    heading: str,
+    form: CountedForm,
+    rules: AcceptedRules,
+    *,
+    naming: Naming,
+    winning: int | None = None,
+) -> Section:
+    """The form that counts, and if an award is known which bid won."""
+    if form.digest is None:
+        return Section(heading, sentences=["There is no form of yours, and so no bid."])
+    facts = {"Bids": f"{len(form.bids):,}", "SHA-256 of the form": form.digest}
+    rows: list[Sequence[CellValue]] = [["Bid", naming.add_unit("Amount"), "Lots"]]
+    for number, bid in enumerate(form.bids, 1):
+        lots = naming.format_lots(bid.lots, rules)
+        rows.append([number, bid.amount, f"{lots} (won)" if number == winning else lots])
+    return Section(heading, facts=facts, rows=rows if form.bids else ())
+
+
+def _make_won_section(bidder: BidderFigures, figures: Figures) -> Section:
+    """What a bidder won and pays."""
+    heading = "What you won"
+    sentences = [] if figures.certified else ["Not certified: this is a solver's word."]
+    if len(figures.awards) > 1:
+        sentences.append(_describe_choice(figures))
+    if bidder.bid is None:
+        sentences.append("None of your bids won. You pay nothing.")
+        return Section(heading, sentences=sentences)
+    amount = figures.format_amount(bidder.amount)
+    facts = {
+        "Lots": figures.format_lots(bidder.lots),
+        "Winning bid": f"{bidder.bid:,}, of {amount}",
+    }
+    return Section(
+        heading,
+        sentences=sentences,
+        facts={**facts, **_list_payment(bidder, figures)},
+        notes=[_ABOUT_PRICES] if figures.prices else (),
+    )
+
+
+def _list_payment(bidder: BidderFigures, figures: Figures) -> dict[str, str]:
+    """What a winner pays, and why."""
+    if figures.prices is None or bidder.price is None or bidder.exact_price is None:
+        return {"You pay": _UNPRICED}
+    facts = {
+        "You pay": figures.format_amount(bidder.price),
+        "Exact price": figures.format_amount(bidder.exact_price),
+    }
+    if bidder.cost is not None:
+        facts["Cost alone"] = figures.format_amount(bidder.cost)
+    facts["Reserve of these lots"] = figures.format_amount(bidder.reserve)
+    facts["Bound by"] = list_bounds(bidder.name, figures, figures.prices) or "nothing listed"
+    return facts
+
+
+def _describe_choice(figures: Figures) -> str:
+    """Which of several awards a letter is about."""
+    count = format_count(len(figures.awards), "award")
+    least = "At least " if figures.proof == "some" else ""
+    reach = f"{least}{count} reach the same total."
+    if figures.drawn is not None:
+        return f"{reach} A draw decided between them, and award {figures.drawn} was drawn."
+    rules = "which one holds is for the auction's rules to say"
+    return f"{reach} This letter is about award {figures.award}; {rules}."
+
+
+def _make_lost_section(
+    lost: Sequence[LostBid], rules: AcceptedRules, naming: Naming, *, count: int
+) -> Section:
+    """What the lost bids of a bidder lacked, of so many in all."""
+    steps = naming.format_amount(rules.step)
+    sentences = [
+        f"Needed is the lowest amount, in steps of {steps}, at which the bid would have tied or "
+        "won, all other bids as they are."
+    ]
+    if len(lost) < count:
+        sentences.append(f"It was asked for {len(lost):,} of {format_count(count, 'lost bid')}.")
+    headings = [naming.add_unit(heading) for heading in ("Amount", "Needed", "Lacked")]
+    rows: list[Sequence[CellValue]] = [["Bid", *headings, "Outcome"]]
+    for bid in lost:
+        fate = describe_fate(bid, naming.names)
+        rows.append([bid.bid, bid.amount, bid.needed, bid.lacked, fate])
+    return Section("What your lost bids lacked", sentences=sentences, rows=rows)

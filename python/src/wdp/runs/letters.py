@@ -1,0 +1,207 @@
+"""The letters of an auction's folder: to each bidder about the award, or before it a receipt of the
+form that counts.
+"""
+from collections.abc import Mapping, Sequence
+from dataclasses import dataclass
+from functools import partial
+
+from wdp import files
+from wdp.folder import INPUT, Folder
+from wdp.letters.content import Check, CountedForm, Letter, Naming, make_letter, make_receipt
+from wdp.letters.rendering import format_page, format_text
+from wdp.lost.bids import BidKey, LostBid
+from wdp.lost.records import format_mark
+from wdp.office.faults import format_count
+from wdp.office.judge import explain
+from wdp.program import Limits, ask
+from wdp.publish.figures import Figures
+from wdp.publish.judging import AuditSource, Source, Sources, judge
+from wdp.publish.making import make_results
+from wdp.publish.names import PageOptions
+from wdp.reporter import Reporter
+from wdp.runs.lost import is_of_award, name_audit, name_record, read_names_of_folder, read_record
+from wdp.runs.places import AWARDS
+from wdp.runs.reports import AUDIT, REPORT, Page
+from wdp.texts import accepted
+from wdp.texts.accepted import Accepted
+from wdp.texts.refusals import Refused
+from wdp.texts.tables import compute_digest
+
+LETTERS = "letters"
+RECEIPTS = "receipts"
+_TITLES = {LETTERS: "Award of the auction", RECEIPTS: "Forms of the auction"}
+_MOST_OF_FORMS = 1_000_000  # bytes of what `wdp forms` prints, a line for each bidder
+
+
+@dataclass(frozen=True)
+class _PlacedAward:
+    """The award that letters are about: its folder, the path of that in the auction's folder, which
+    is empty or ends with `/`, and the audit.
+    """
+
+    folder: Folder
+    path: str
+    audit: bytes
+
+    def list_lost(self, form: CountedForm, mark: bytes) -> list[LostBid]:
+        """The lost bids of a form of which it is known what they lacked in this award."""
+        if not is_of_award(self.folder, mark):
+            return []
+        keys = [BidKey(form.bidder, number) for number in range(1, len(form.bids) + 1)]
+        known = [key for key in keys if self.folder.has(name_record(key))]
+        return [read_record(self.folder, key) for key in known]
+
+    def list_checks(self, form: CountedForm, figures: Figures, lines: Sequence[str]) -> list[Check]:
+        """The commands that print a bidder's part of the audit, of which `wdp verify` prints these
+        lines.
+        """
+        path = f"{self.path}{AUDIT}"
+        checks = [
+            Check(f"sha256sum {path}", f"{compute_digest(self.audit)}  {path}"),
+            Check(f"wdp forms {path} | grep '^%form {form.bidder} '", form.line),
+        ]
+        names = [winner.name for winner in figures.winners]
+        if form.bidder in names:
+            places = [1 + names.index(form.bidder)]
+            if figures.prices is not None:
+                places.append(lines.index("prices") + places[0])
+            for place in places:
+                command = f"wdp verify {path} | sed -n {place + 1}p"
+                checks.append(Check(command, lines[place]))
+        return checks
+
+    def list_checks_of_lost(self, lost: Sequence[LostBid]) -> list[Check]:
+        """The commands that print of audits of lost bids that these tie or win."""
+        checks = []
+        for bid in lost:
+            if bid.needed is not None:
+                path = f"{self.path}{name_audit(BidKey(bid.bidder, bid.bid))}"
+                line = f"{bid.bidder} {bid.bid} {bid.shown}"
+                checks.append(Check(f"wdp verify {path} | grep '^{line}$'", line))
+        return checks
+
+
+@dataclass(frozen=True)
+class LetterRun:
+    """Writes letters into an auction's folder, in the place of older ones. `page` has their title
+    and the unit of amounts.
+    """
+
+    folder: Folder
+    program: str
+    reporter: Reporter
+    page: Page
+
+    def write_receipts(self, data: bytes | None = None) -> None:
+        """Writes a receipt for each bidder, of an input, or of the one that is there."""
+        if data is not None:
+            self._check_input(data)
+            self.folder.where.mkdir(parents=True, exist_ok=True)
+        self._check_folder()
+        with self.folder.lock(alone=True):
+            self.folder.take_input(data)
+            text = self.folder.read(INPUT)
+            self._check_input(text)
+            auction = accepted.read(text, str(self.folder.path(INPUT)))
+            naming = self._read_naming(auction, _TITLES[RECEIPTS])
+            letters = {
+                form.bidder: make_receipt(form, auction.rules, naming)
+                for form in self._list_forms(text, auction)
+            }
+            self._write(RECEIPTS, letters)
+
+    def write_letters(self, drawn: int | None = None) -> None:
+        """Writes a letter about the award to each bidder; about another award than the first if
+        that was drawn.
+        """
+        self._check_folder()
+        with self.folder.lock(alone=True):
+            award = self._open_award(drawn)
+            data = self.folder.read(INPUT)
+            auction = accepted.read(data, str(self.folder.path(INPUT)))
+            naming = self._read_naming(auction, _TITLES[LETTERS])
+            figures = self._make_figures(data, award, drawn=drawn, naming=naming)
+            printed = judge(self.program, "verify", award.audit).printed
+            lines = printed.decode("ascii").splitlines()
+            mark = format_mark(data, award.audit)
+            make = partial(make_letter, rules=auction.rules, naming=naming, figures=figures)
+            letters = {}
+            has_lost = False
+            for form in self._list_forms(data, auction):
+                lost = award.list_lost(form, mark)
+                has_lost = has_lost or bool(lost)
+                checks = award.list_checks(form, figures, lines)
+                checks += award.list_checks_of_lost(lost)
+                letters[form.bidder] = make(form, lost=lost, checks=checks)
+            self._write(LETTERS, letters)
+            if not has_lost:
+                hint = f"wdp-office lost {award.folder.where} finds that"
+                self.reporter.say(f"what lost bids lacked isn't in them; {hint}")
+
+    def _check_folder(self) -> None:
+        if not self.folder.where.is_dir():
+            raise Refused(f"{self.folder.where} is no folder of an auction")
+
+    def _check_input(self, data: bytes) -> None:
+        """Raises Refused if an input has a fault."""
+        if findings := explain(self.program, data).findings:
+            hint = "wdp-office explain says where"
+            raise Refused(f"the input: {findings[0].refused.text}; {hint}")
+
+    def _read_naming(self, auction: Accepted, title: str) -> Naming:
+        """What the office calls the auction, its bidders and categories."""
+        self.page.keep(self.folder)
+        return Naming(
+            title=self.page.title or title,
+            names=read_names_of_folder(self.folder, auction.rules),
+            currency=self.page.currency,
+        )
+
+    def _list_forms(self, data: bytes, auction: Accepted) -> list[CountedForm]:
+        """The form of each bidder that counts, in the order of the rules."""
+        limits = Limits(_MOST_OF_FORMS)
+        printed = ask(self.program, ["forms"], data, limits=limits).decode("ascii")
+        lines = {line.split()[1]: line for line in printed.splitlines()[1:]}
+        return [
+            CountedForm(bidder=name, bids=auction.bids.get(name, ()), line=lines[name])
+            for name in auction.rules.bidders
+        ]
+
+    def _open_award(self, drawn: int | None) -> _PlacedAward:
+        """The award that letters are about; Refused if it isn't there."""
+        path = "" if drawn in (None, 1) else f"{AWARDS}/{drawn}/"
+        folder = Folder(self.folder.path(path))
+        if not folder.has(AUDIT):
+            option = f" --award {drawn}" if path else ""
+            hint = f"wdp-office auction {self.folder.where}{option} makes it"
+            raise Refused(f"{folder.path(AUDIT)} isn't there; {hint}")
+        return _PlacedAward(folder, path=path, audit=folder.read(AUDIT))
+
+    def _make_figures(
+        self, data: bytes, award: _PlacedAward, *, drawn: int | None, naming: Naming
+    ) -> Figures:
+        """The figures of the award, once the program judged its audit."""
+        names = self.folder.path("names.csv")
+        sources = Sources(
+            input=Source(data, name="the input"),
+            report=Source(self.folder.read(REPORT), name="the report"),
+            audit=AuditSource(award.audit, name="the audit", drawn=drawn),
+        )
+        options = PageOptions(
+            title=naming.title,
+            currency=naming.currency,
+            names_path=str(names) if names.exists() else None,
+            regular_names=True,
+        )
+        return make_results(self.program, sources, options).figures
+
+    def _write(self, kind: str, letters: Mapping[str, Letter]) -> None:
+        """Writes letters by the names of their bidders, as pages and as texts."""
+        texts = {}
+        for name, letter in letters.items():
+            texts[f"{name}.html"] = format_page(letter)
+            texts[f"{name}.txt"] = format_text(letter)
+        path = self.folder.path(kind)
+        files.write_folder(str(path), texts)
+        thing = kind.removesuffix("s")
+        self.reporter.say(f"{format_count(len(letters), thing)} in {path}")
