@@ -5,10 +5,10 @@ import os
 from collections.abc import Iterable, Iterator, Sequence
 from contextlib import contextmanager
 from itertools import chain
-from numbers import Real
 from typing import TypeVar
 
-from wdp import audits, files, solve
+from wdp import audits, files
+from wdp.checks import check_seconds, check_solver
 from wdp.folder import INPUT
 from wdp.office.faults import format_count
 from wdp.office.judge import Explained, explain
@@ -103,7 +103,7 @@ class Auction:
         self._awaits_winners = is_rule and groups == _WINNERS
         self._outcome: Outcome | None = None
         self._program = find_program(program)
-        self._time_limit = _check_seconds(time_limit)
+        self._time_limit = check_seconds(time_limit)
         if is_rule and groups == _EACH:
             self._add_groups(self.bidders)
 
@@ -270,7 +270,7 @@ class Auction:
         rounded up. Raises NotFound if the solver isn't there, NotSolved if it gives no point, and
         WrongArgument if it isn't known.
         """
-        name = _check_solver(solver)
+        name = check_solver(solver)
         flow = self._begin(_ANSWERS, solver=name, time_limit=time_limit, workers=workers)
         self._find_outcome(flow)
         texts = [text.decode() for text in flow.contents.read_all("answer")]
@@ -317,7 +317,7 @@ class Auction:
         else what `solve` and `certify` do.
         """
         outcome = self._check_certified(certified)
-        name = _check_solver(solver)
+        name = check_solver(solver)
         flow = self._begin(Goals(), solver=name, time_limit=time_limit)
         _leave_outcome(flow.contents, outcome)
         self._find_outcome(flow)
@@ -451,7 +451,7 @@ class Auction:
         means = Means(
             program=self._program,
             solver=solver,
-            seconds=_check_seconds(time_limit),
+            seconds=check_seconds(time_limit),
             workers=int(records.format_whole(workers, "workers")),
             program_seconds=self._time_limit,
         )
@@ -566,13 +566,6 @@ def _leave_outcome(contents: Contents, outcome: Outcome) -> None:
         contents.leave_ties([text.encode() for text in outcome.ties], unique)
 
 
-def _check_solver(solver: str | None) -> str:
-    """A solver's name or command; WrongArgument if it is neither."""
-    if solver is not None and not (isinstance(solver, str) and solver and solver.isprintable()):
-        raise WrongArgument("a solver is cbc, highs, or a command with {mps} in it, on one line")
-    return solve.find_solver(solver)
-
-
 def _format_solutions(solutions: Iterable[Solution]) -> list[Text]:
     """Solutions as texts, those that are dicts written."""
     numbered = enumerate(_check_list(solutions, "solutions"), 1)
@@ -586,16 +579,6 @@ def _check_list(values: Iterable[_Value], name: str) -> list[_Value]:
     if not records.is_list(values):
         raise WrongArgument(f"{name}: a list is asked for")
     return list(values)
-
-
-def _check_seconds(time_limit: float | None) -> float | None:
-    """A time limit in seconds, or None; WrongArgument if it is no number above 0."""
-    if time_limit is None:
-        return None
-    if isinstance(time_limit, bool) or not isinstance(time_limit, Real) or not 0 < time_limit < 1e8:
-        shown = records.show_value(time_limit)
-        raise WrongArgument(f"time_limit: {shown} is no number of seconds above 0")
-    return float(time_limit)
 
 
 def _read_audit(path: StrPath) -> bytes:

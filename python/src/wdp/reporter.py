@@ -52,6 +52,15 @@ class ConsoleReporter(Reporter):
         self.note(line)
 
 
+@dataclass
+class TableReporter(ConsoleReporter):
+    """Prints messages in the same way, and tables on standard output."""
+
+    def show(self, line: str) -> None:
+        """Prints a line of a table."""
+        files.put(f"{line}\n".encode())
+
+
 def run_reporting(say: Callable[[str], None], label: str, step: Step) -> int:
     """Does a step, and says why it failed, after the label if there is one; its status."""
     try:

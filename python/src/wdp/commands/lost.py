@@ -9,13 +9,11 @@ Exit status: 0 everything is there; 1 something is refused or missing, and the n
 there; 2 the options are wrong.
 """
 import argparse
-from dataclasses import dataclass
 from pathlib import Path
 
-from wdp import files
 from wdp.commands.arguments import make_type
 from wdp.commands.auction import add_shared_arguments, make_run
-from wdp.reporter import ConsoleReporter
+from wdp.reporter import TableReporter
 from wdp.runs.contents import Goals
 from wdp.runs.lost import MOST_SOLVES, LostRun
 
@@ -43,22 +41,13 @@ def add_arguments(parser: argparse.ArgumentParser) -> None:
     add_shared_arguments(parser)
 
 
-@dataclass
-class _TableReporter(ConsoleReporter):
-    """Prints tables on standard output."""
-
-    def show(self, line: str) -> None:
-        files.put(f"{line}\n".encode())
-
-
 def run(options: argparse.Namespace) -> int:
     """Finds what lost bids lacked; the status."""
     whole = make_run(
         options,
         Goals(),
         folder=options.folder,
-        page=None,
-        reporter=_TableReporter(command="lost", is_quiet=options.quiet),
+        reporter=TableReporter(command="lost", is_quiet=options.quiet),
     )
     finder = LostRun(whole.folder, whole.means, jobs=whole.jobs)
     return finder.run(options.bidder, options.bid)

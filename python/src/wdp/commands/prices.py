@@ -10,14 +10,13 @@ shows that it has none, and the prices cover every group. `wdp verify` is the ju
 it.
 """
 import argparse
-from dataclasses import dataclass
 from functools import partial
 from pathlib import Path
 
 from wdp import files
 from wdp.audits import MOST_OF_AUDIT
 from wdp.commands.auction import add_shared_arguments, make_run
-from wdp.reporter import ConsoleReporter
+from wdp.reporter import TableReporter
 from wdp.runs.contents import Goals
 from wdp.runs.places import run_in_folder, run_without_folder, take_audit
 from wdp.runs.reports import AUDIT
@@ -38,14 +37,6 @@ def add_arguments(parser: argparse.ArgumentParser) -> None:
     add_shared_arguments(parser)
 
 
-@dataclass
-class _TableReporter(ConsoleReporter):
-    """Prints tables on standard output."""
-
-    def show(self, line: str) -> None:
-        files.put(f"{line}\n".encode())
-
-
 def run(options: argparse.Namespace) -> int:
     """Finds the prices of an award that is there; the status."""
     is_folder = options.award.is_dir()
@@ -53,7 +44,7 @@ def run(options: argparse.Namespace) -> int:
         options,
         Goals(),
         folder=options.award if is_folder else None,
-        reporter=_TableReporter(command="prices", is_quiet=options.quiet),
+        reporter=TableReporter(command="prices", is_quiet=options.quiet),
     )
     if is_folder:
         if options.output:

@@ -8,14 +8,17 @@ from functools import cached_property
 
 from wdp import certify
 from wdp.certify.problem import Problem
+from wdp.folder import INPUT
 from wdp.lost.bids import BidKey
 from wdp.lost.inputs import keep_first_group
 from wdp.lost.lowering import fits_alone
 from wdp.office.faults import suggest_name
 from wdp.office.judge import explain
-from wdp.program import Limits, ask
+from wdp.runs.contents import FIRST_GROUP, Contents, Goals, name_file
 from wdp.runs.means import Means
-from wdp.texts import accepted, answers
+from wdp.runs.programs import Compiler
+from wdp.runs.stores import MemoryStore
+from wdp.texts import accepted
 from wdp.texts.accepted import Accepted, Bid
 from wdp.texts.refusals import WrongArgument
 
@@ -130,10 +133,9 @@ def _describe_none(wanted: list[BidKey], bidder: str | None, number: int | None)
 
 def compile_first(data: bytes, means: Means) -> bytes:
     """The program of an input's first group."""
-    expected = answers.ExpectedAnswer(data)
-    limits = Limits(expected.most_of_programs, means.program_seconds)
-    output = ask(means.program, ["compile"], data, limits=limits)
-    return answers.read_programs(output, expected)[0].text.encode()
+    contents = Contents(MemoryStore({INPUT: data}), Goals())
+    Compiler(contents, means).compile()
+    return contents.store.read(name_file("program", FIRST_GROUP))
 
 
 def _list_reasons(left_out: Iterable[tuple[str, str]]) -> dict[BidKey, str]:

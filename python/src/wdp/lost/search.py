@@ -104,6 +104,8 @@ class LostBidSearch:
 
         def ask(turn: int, text: bytes | None) -> bytes | None:
             program = problem.format() if text is None else text
+            if self.means.solver is None:
+                return None
             try:
                 return solve.find_point(program, self.means.solver, seconds=self.means.seconds)
             except NotSolved as failed:

@@ -150,11 +150,11 @@ class LetterRun:
 
     def _read_naming(self, auction: Accepted, title: str) -> Naming:
         """What the office calls the auction, its bidders and categories."""
-        self.page.keep(self.folder)
+        page = self.page.keep(self.folder)
         return Naming(
-            title=self.page.title or title,
+            title=page.title or title,
             names=read_names_of_folder(self.folder, auction.rules),
-            currency=self.page.currency,
+            currency=page.currency,
         )
 
     def _list_forms(self, data: bytes, auction: Accepted) -> list[CountedForm]:

@@ -151,8 +151,7 @@ class LostRun:
         if not keys:
             return
         bids = [read_record(self.folder, key) for key in keys]
-        page = Page()
-        page.keep(self.folder)
+        page = Page().keep(self.folder)
         text = format_bids(
             bids,
             step=award.auction.rules.step,
