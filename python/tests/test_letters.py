@@ -353,6 +353,19 @@ def test_the_award_that_was_drawn(tmp_path: Path, wdp: str) -> None:
     assert "\n$ sha256sum awards/2/audit.txt\n" in text
 
 
+def test_what_lost_bids_lacked_in_the_award_that_was_drawn(tmp_path: Path, wdp: str) -> None:
+    folder = AuctionFolder(tmp_path / "tied", wdp, TIED)
+    folder.read_messages("--quiet", "--award", 2)
+    folder.put("names.csv", b"Alpha,Alpha plc\nBeta,Beta plc\n")
+    seen = run("lost", folder.where / "awards/2", env=folder.make_environment())
+    assert re.match("Lost bids of (Alpha|Beta) plc ", seen.out), seen
+    name = seen.out.split("(")[1].split(")")[0]
+    assert "what lost bids lacked isn't in them" not in write_letters(folder, "--drawn", 2).err
+    text = read_letter(folder, f"letters/{name}.txt")
+    assert "  it tied; the draw decided\n" in text
+    assert f"\n$ wdp verify awards/2/lost/{name}/1.txt | grep " in text
+
+
 # options, and why nothing is written
 REFUSED = """
 --drawn 3                    |1 |/awards/3/audit.txt isn't there; wdp-office auction * --award 3 makes it

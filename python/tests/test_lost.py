@@ -477,17 +477,17 @@ def test_the_input_keeps_all_but_its_other_groups() -> None:
 ALPHA = """\
 Lost bids of Alpha
 
-Bid  Lots            Amount  Needed  Lacked  Outcome
-  2  2 of A, 1 of B      50      62      12  would have tied
-  3  1 of A, 1 of B      28      42      14  would have tied; with its amount it is dominated by bid 1
+Bid  Amount  Needed  Lacked  Outcome                                                    Lots
+  2      50      62      12  would have tied                                            2 of A, 1 of B
+  3      28      42      14  would have tied; with its amount it is dominated by bid 1  1 of A, 1 of B
 
 Needed is the lowest amount, in steps of 1, at which the bid would have tied or won, all other bids as they are.
 """
 BETA = """\
 Lost bids of Beta
 
-Bid  Lots    Amount  Needed  Lacked  Outcome
-  2  3 of A      45                  doesn't fit: no amount would do; it asks for 3 of A, of which there are 2
+Bid  Amount  Needed  Lacked  Outcome                                                                    Lots
+  2      45                  doesn't fit: no amount would do; it asks for 3 of A, of which there are 2  3 of A
 
 Needed is the lowest amount, in steps of 1, at which the bid would have tied or won, all other bids as they are.
 """

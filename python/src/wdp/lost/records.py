@@ -73,12 +73,12 @@ def format_bids(
     name = f"{names[code]} ({code})" if code in names else code
     unit = f", {currency}" if currency else ""
     rows: list[Sequence[CellValue]] = [
-        ["Bid", "Lots", f"Amount{unit}", f"Needed{unit}", f"Lacked{unit}", "Outcome"]
+        ["Bid", f"Amount{unit}", f"Needed{unit}", f"Lacked{unit}", "Outcome", "Lots"]
     ]
     for bid in bids:
         lots = format_lots(bid.lots, names)
         fate = describe_fate(bid, names)
-        rows.append([bid.bid, lots, bid.amount, bid.needed, bid.lacked, fate])
+        rows.append([bid.bid, bid.amount, bid.needed, bid.lacked, fate, lots])
     steps = f"{step:,} {currency or ''}".rstrip()
     meaning = (
         f"Needed is the lowest amount, in steps of {steps}, at which the bid would have tied or "

@@ -16,6 +16,7 @@ from wdp.progress import Progress
 from wdp.publish.names import read_names
 from wdp.runs.contents import Contents, Goals
 from wdp.runs.means import Means
+from wdp.runs.places import AWARDS
 from wdp.runs.processes import Processes
 from wdp.runs.reports import AUDIT, Page
 from wdp.texts.accepted import AcceptedRules
@@ -151,11 +152,12 @@ class LostRun:
         if not keys:
             return
         bids = [read_record(self.folder, key) for key in keys]
-        page = Page().keep(self.folder)
+        named = _find_named(self.folder)
+        page = Page().keep(named)
         text = format_bids(
             bids,
             step=award.auction.rules.step,
-            names=read_names_of_folder(self.folder, award.auction.rules),
+            names=read_names_of_folder(named, award.auction.rules),
             currency=page.currency,
         )
         self.folder.leave(f"{LOST}/{name}.txt", text.encode())
@@ -175,6 +177,14 @@ class LostRun:
         count = f"{len(missing)} of {format_count(len(keys), 'bid')} are missing"
         self.means.reporter.say(f"{count}: {listed}{rest}")
         return 1
+
+
+def _find_named(folder: Folder) -> Folder:
+    """The folder that has the office's names: of an award that was made the first that of its
+    auction.
+    """
+    parent = folder.where.absolute().parent
+    return Folder(parent.parent) if parent.name == AWARDS else folder
 
 
 def is_of_award(folder: Folder, mark: bytes) -> bool:
