@@ -70,6 +70,12 @@ def read_page(folder: AuctionFolder, name: str) -> list[str]:
     return page.texts
 
 
+NOTE = (
+    "You pay the exact price, rounded up to whole pounds. The cost alone is how much more the "
+    "others, and the values of unsold lots, would bring without you. Bound by names the groups of "
+    "winners that by exact prices pay just what they cost together, and says reserve if your exact "
+    "price is the reserve."
+)
 # of Beta in the worked example: its costs and prices are those of docs/OFFICE.md
 BETA = """\
 Award of two bands
@@ -86,7 +92,7 @@ Cost alone: 8 GBP
 Reserve of these lots: 10 GBP
 Bound by: Beta plc + Gamma
 
-You pay the exact price, rounded up to whole pounds. The cost alone is how much more the others, and the values of unsold lots, would bring without you. Bound by names the groups of winners that by exact prices pay just what they cost together, and says reserve if your exact price is the reserve.
+NOTE
 
 The form that counted
 ---------------------
@@ -126,7 +132,7 @@ def test_a_letter_by_hand(award: AuctionFolder) -> None:
     find_lost(award)
     path = award.where / "letters"
     assert write_letters(award) == (0, "", f"letters: 3 letters in {path}\n")
-    assert read_letter(award, "letters/Beta.txt").startswith(BETA)
+    assert read_letter(award, "letters/Beta.txt").startswith(BETA.replace("NOTE", NOTE))
     ends = ("html", "txt")
     names = {f"{name}.{end}" for name in ("Alpha", "Beta", "Gamma") for end in ends}
     assert list_files(path) == names
