@@ -7,11 +7,13 @@ use Rattle.std.proofs.lemmas.Bool.{and_parts, cases_Bool, ltb-true}
 use Rattle.std.proofs.lemmas.List.{append-nil, length-map}
 use Rattle.std.proofs.lemmas.List.FromFn.{length-map-range_with_len}
 use Rattle.auction_terms.specs.Entries.{terms_of}
+use Rattle.auction_terms.proofs.AcceptedRulesFacts.{kind-holds}
+use Rattle.auction_terms.specs.AllFaults.{all_faults}
 use Rattle.auction_terms.specs.FirstFault.{first_failed, first_fault}
 use Rattle.auction_terms.specs.Limits.{IsBid, IsBook}
 use Rattle.auction_terms.specs.Packages.{Lots}
 use Rattle.auction_terms.specs.Records.{Record}
-use Rattle.auction_terms.specs.RulesText.{entries_of, entry_fault, of_kind, record_kind}
+use Rattle.auction_terms.specs.RulesText.{entries_of, fault_of_entry, of_kind, record_kind}
 use Rattle.auction_terms.specs.inside.RulesText.{bidder_of}
 use Rattle.auction_terms.specs.Terms.{Terms, lots_in}
 use Rattle.auction_terms.specs.declared.bids.Bid.{Bid}
@@ -28,24 +30,22 @@ use Rattle.auction_terms.specs.Stages.{each_in_turn}
 use Rattle.auction_input.specs.Submissions.{forms_of}
 use Rattle.auction_input.specs.ParsedTexts.{parsed_form, parsed_terms}
 use Rattle.auction_input.proofs.AnswerFacts.{ok-after, ok-is, ok-refused_as, unless-ok}
-use Rattle.auction_input.proofs.RecordFacts.{few-of-kind, kind-checks-hold, neither, none-failed, rules-parsed}
+use Rattle.auction_input.proofs.RecordFacts.{few-of-kind, neither, none-failed, rules-parsed}
 
 -- ---- rules
 
 -- after records of bidders there is room for the one that has no fault
-bidder-room : (v : Version) (before : List Record) (r : Record) → record_kind v r ≡ Some kind.Bidder → entry_fault v before r ≡ None
-    → length (of_kind v kind.Bidder before) < MOST_BIDDERS
-bidder-room v before r is free =
-    let checks = kind-checks-hold v kind.Bidder before r is free in
-    let room : nat_lt (length (map bidder_of (of_kind v kind.Bidder before))) MOST_BIDDERS ≡ true = checks.1.1.1.1.1.0 in
-    let below = ltb-true _ _ room in
+bidder-room : (v : Version) (place : ℕ) (before : List Record) (r : Record) → record_kind v r ≡ Some kind.Bidder
+    → fault_of_entry v place before r ≡ [] → length (of_kind v kind.Bidder before) < MOST_BIDDERS
+bidder-room v place before r is free =
+    let (name, numbers, (new, room)) = kind-holds v place before r kind.Bidder is free in
     let count = length-map (of_kind v kind.Bidder before) bidder_of in
     omega arith
 
-few-bidders : (v : Version) (more : List Record) → first_fault (entry_fault v) [] more ≡ None → (step : ℕ)
+few-bidders : (v : Version) (more : List Record) → all_faults (fault_of_entry v) 2 [] more ≡ [] → (step : ℕ)
     → length (terms_of step (entries_of v more)).bidders ≤ MOST_BIDDERS
 few-bidders v more none step =
-    let within = few-of-kind v kind.Bidder MOST_BIDDERS (bidder-room v) [] more none (omega arith) in
+    let within = few-of-kind v kind.Bidder MOST_BIDDERS (bidder-room v) 2 [] more none (omega arith) in
     let number = length-map (of_kind v kind.Bidder more) bidder_of in
     omega arith
 

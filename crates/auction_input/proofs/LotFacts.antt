@@ -1,15 +1,16 @@
 -- The lots that an input describes are within the limits.
-use Rattle.std.proofs.Common.{◌≡◌, ◌≤◌, ◌<◌, ◌∷◌, [], ℕ, Bool, true, List, None, Some, Ok, arith, leb-true, length, map, find, nat_le, nat_lt, inl, inr}
-use Rattle.std.specs.List.{AllByRecursion, list_all}
+use Rattle.std.proofs.Common.{◌≡◌, ◌≤◌, ◌<◌, ◌∷◌, [], ℕ, Bool, true, List, Some, Ok, arith, length, map, find, inl, inr}
+use Rattle.std.specs.List.{AllByRecursion}
 use Rattle.std.specs.Option.{option_map_or}
-use Rattle.std.proofs.lemmas.Bool.{and_parts, cases_Bool, ltb-true}
+use Rattle.std.proofs.lemmas.Bool.{cases_Bool}
 use Rattle.std.proofs.lemmas.List.{length-map}
 use Rattle.auction_terms.specs.Entries.{is_member_of, pool_with, terms_of}
-use Rattle.auction_terms.specs.FirstFault.{first_fault}
+use Rattle.auction_terms.proofs.AcceptedRulesFacts.{kind-holds}
+use Rattle.auction_terms.specs.AllFaults.{all_faults}
 use Rattle.auction_terms.specs.Limits.{IsLots, IsWeightedCap}
 use Rattle.auction_terms.specs.Records.{Record}
-use Rattle.auction_terms.specs.RulesText.{category_of, entries_of, entry_fault, field_number, is_between, parsed_numeral}
-use Rattle.auction_terms.specs.RulesText.{entry_numbers, of_kind, record_kind, value_text}
+use Rattle.auction_terms.specs.RulesText.{category_of, entries_of, fault_of_entry, field_number, parsed_numeral}
+use Rattle.auction_terms.specs.RulesText.{of_kind, record_kind, value_text}
 use Rattle.auction_terms.specs.inside.RulesText.{member_of, pool_of}
 use Rattle.auction_terms.specs.Terms.{Terms, lots_in}
 use Rattle.auction_terms.specs.inside.Terms.{cap_of}
@@ -22,48 +23,35 @@ use Rattle.auction_terms.specs.declared.rules_text.RulesFault.TheVariants as rul
 use Rattle.auction_input.specs.ParsedTexts.{parsed_terms}
 use Rattle.auction_input.proofs.AnswerFacts.{ok-refused_as}
 use Rattle.auction_input.proofs.LimitFacts.{unless-large}
-use Rattle.auction_input.proofs.RecordFacts.{each-of-kind, few-of-kind, kind-checks-hold, rules-parsed}
+use Rattle.auction_input.proofs.RecordFacts.{each-of-kind, few-of-kind, rules-parsed}
 
 -- ---- a record without a fault
-
-in-range : (numbers : List (List ℕ × ℕ × ℕ)) → list_all (λ (n : List ℕ × ℕ × ℕ). is_between n.1 n.2 (parsed_numeral n.0)) numbers ≡ true
-    → AllByRecursion (λ n. parsed_numeral n.0 ≤ n.2) numbers
-in-range [] are = tt
-in-range (n ∷ numbers) are =
-    let parts = and_parts (is_between n.1 n.2 (parsed_numeral n.0)) (list_all (λ (n : List ℕ × ℕ × ℕ). is_between n.1 n.2 (parsed_numeral n.0)) numbers) are in
-    let here = and_parts (nat_le n.1 (parsed_numeral n.0)) (nat_le (parsed_numeral n.0) n.2) parts.0 in
-    (leb-true (parsed_numeral n.0) n.2 here.1, in-range numbers parts.1)
 
 record IsCategoryRecord (v : Version) (r : Record) : Type 0 where
   supply : field_number 3 r ≤ GREATEST_QUANTITY
   value : parsed_numeral (value_text v r) ≤ GREATEST_VALUE
 
-category-checks : (v : Version) (before : List Record) (r : Record) → record_kind v r ≡ Some kind.Category → entry_fault v before r ≡ None
-    → IsCategoryRecord v r × (length (of_kind v kind.Category before) < MOST_CATEGORIES)
-category-checks v before r is free =
-    let checks = kind-checks-hold v kind.Category before r is free in
-    let ranges = in-range (entry_numbers v r kind.Category) checks.1.1.1.0 in
-    let room : nat_lt (length (map (category_of v) (of_kind v kind.Category before))) MOST_CATEGORIES ≡ true = checks.1.1.1.1.1.0 in
-    let below = ltb-true _ _ room in
+category-checks : (v : Version) (place : ℕ) (before : List Record) (r : Record) → record_kind v r ≡ Some kind.Category
+    → fault_of_entry v place before r ≡ [] → IsCategoryRecord v r × (length (of_kind v kind.Category before) < MOST_CATEGORIES)
+category-checks v place before r is free =
+    let (name, (supply, (reserve, (points, (value, end)))), (new, room)) = kind-holds v place before r kind.Category is free in
     let count = length-map (of_kind v kind.Category before) (category_of v) in (
-      record { supply = ranges.0; value = ranges.1.1.1.0 },
+      record { supply = supply.2; value = value.2 },
       omega arith,
     )
 
-pool-checks : (v : Version) (before : List Record) (r : Record) → record_kind v r ≡ Some kind.Pool → entry_fault v before r ≡ None
-    → (field_number 3 r ≤ GREATEST_AMOUNT) × (length (of_kind v kind.Pool before) < MOST_POOLS)
-pool-checks v before r is free =
-    let checks = kind-checks-hold v kind.Pool before r is free in
-    let ranges = in-range (entry_numbers v r kind.Pool) checks.1.1.1.0 in
-    let room : nat_lt (length (map pool_of (of_kind v kind.Pool before))) MOST_POOLS ≡ true = checks.1.1.1.1.1.0 in
-    let below = ltb-true _ _ room in
+pool-checks : (v : Version) (place : ℕ) (before : List Record) (r : Record) → record_kind v r ≡ Some kind.Pool
+    → fault_of_entry v place before r ≡ [] → (field_number 3 r ≤ GREATEST_AMOUNT) × (length (of_kind v kind.Pool before) < MOST_POOLS)
+pool-checks v place before r is free =
+    let (name, (cap, end), (new, room)) = kind-holds v place before r kind.Pool is free in
     let count = length-map (of_kind v kind.Pool before) pool_of in
-    (ranges.0, omega arith)
+    (cap.2, omega arith)
 
-member-checks : (v : Version) (before : List Record) (r : Record) → record_kind v r ≡ Some kind.Member → entry_fault v before r ≡ None
-    → field_number 4 r ≤ GREATEST_WEIGHT
-member-checks v before r is free =
-    (in-range (entry_numbers v r kind.Member) (kind-checks-hold v kind.Member before r is free).1.1.1.0).0
+member-checks : (v : Version) (place : ℕ) (before : List Record) (r : Record) → record_kind v r ≡ Some kind.Member
+    → fault_of_entry v place before r ≡ [] → field_number 4 r ≤ GREATEST_WEIGHT
+member-checks v place before r is free =
+    let (names, (weight, end), goes) = kind-holds v place before r kind.Member is free in
+    weight.2
 
 -- ---- what records without a fault make
 
@@ -99,16 +87,16 @@ small-pools categories members small (r ∷ records) h = (
   small-pools categories members small records h.1,
 )
 
-made-lots : (v : Version) (more : List Record) → first_fault (entry_fault v) [] more ≡ None → (step : ℕ) → IsLots (lots_in (terms_of step (entries_of v more)))
+made-lots : (v : Version) (more : List Record) → all_faults (fault_of_entry v) 2 [] more ≡ [] → (step : ℕ) → IsLots (lots_in (terms_of step (entries_of v more)))
 made-lots v more none step =
     let categories = of_kind v kind.Category more in
     let pools = of_kind v kind.Pool more in
-    let few = few-of-kind v kind.Category MOST_CATEGORIES (λ before r is free. (category-checks v before r is free).1) [] more none (omega arith) in
-    let few_pools = few-of-kind v kind.Pool MOST_POOLS (λ before r is free. (pool-checks v before r is free).1) [] more none (omega arith) in
-    let each = each-of-kind v kind.Category (IsCategoryRecord v) (λ before r is free. (category-checks v before r is free).0) [] more none in
-    let caps = each-of-kind v kind.Pool (λ r. field_number 3 r ≤ GREATEST_AMOUNT) (λ before r is free. (pool-checks v before r is free).0) [] more none in
+    let few = few-of-kind v kind.Category MOST_CATEGORIES (λ place before r is free. (category-checks v place before r is free).1) 2 [] more none (omega arith) in
+    let few_pools = few-of-kind v kind.Pool MOST_POOLS (λ place before r is free. (pool-checks v place before r is free).1) 2 [] more none (omega arith) in
+    let each = each-of-kind v kind.Category (IsCategoryRecord v) (λ place before r is free. (category-checks v place before r is free).0) 2 [] more none in
+    let caps = each-of-kind v kind.Pool (λ r. field_number 3 r ≤ GREATEST_AMOUNT) (λ place before r is free. (pool-checks v place before r is free).0) 2 [] more none in
     let weights = each-made _ (λ (member : Member). member.weight ≤ GREATEST_WEIGHT) member_of (λ r h. h) _
-    (each-of-kind v kind.Member (λ r. field_number 4 r ≤ GREATEST_WEIGHT) (member-checks v) [] more none) in
+    (each-of-kind v kind.Member (λ r. field_number 4 r ≤ GREATEST_WEIGHT) (member-checks v) 2 [] more none) in
     let parsed = length-map categories (category_of v) in
     let count = length-map (map (category_of v) categories) (λ (category : Category). category.supply) in
     let parsed_pools = length-map pools pool_of in

@@ -2,7 +2,7 @@
 use Rattle.std.proofs.Common.{◌≡◌, ◌≤◌, ◌<◌, ◌+◌, ◌-◌, ◌∷◌, ◌++◌, ◌∙◌, ℕ, List, [], Option, Some, None, refl, sym, ap}
 use Rattle.std.proofs.Common.{arith, append_assoc, append-nil, take, length, length-append, length-take, take_all}
 use Rattle.std.proofs.lemmas.List.{take-append-le}
-use Rattle.std.specs.Prelude.{◌^◌, min, Bool, true, false, if◌then◌else◌, option_map, option_to_list, Ok, Result}
+use Rattle.std.specs.Prelude.{◌^◌, min, Bool, true, false, if◌then◌else◌, option_map, option_to_list, Ok}
 use Rattle.std.specs.Option.{option_or}
 use Rattle.auction_terms.specs.AllFaults.{AreFaultsOf, Keeps, KeepsMore, accepted_with, all_failed, all_faults, found, one_failed, or_else}
 use Rattle.auction_terms.specs.FirstFault.{first_failed, first_fault}
@@ -147,21 +147,3 @@ none-kept held (fault ∷ more) keeps none =
     let n = ap length keeps.kept in
     let m = length-take MOST_FAULTS (fault ∷ more) in
     absurd (omega arith)
-
--- faults of which some are kept, so that what rests on their absence isn't looked at
-pub kept-some : {F : Type 0} (held : Faults F) (faults others : List (Found F)) → Keeps held faults → (length held.kept.items ≡ 0 → ⊥)
-    → Keeps held (or_else faults others)
-kept-some held [] others keeps some = absurd (some (let n = ap length keeps.kept in omega arith))
-kept-some held (fault ∷ more) others keeps some = keeps
-
--- and of which none is kept, so that what rests on it comes after
-pub kept-none : {F : Type 0} (held new : Faults F) (faults others : List (Found F)) → Keeps held faults → length held.kept.items ≡ 0
-    → KeepsMore held new others → Keeps new (or_else faults others)
-kept-none held new faults others keeps none more =
-    let empty = none-kept held faults keeps none in
-    rw empty (more [] (rw empty at keeps))
-
--- stages one after the other end with the first fault of all
-pub unless-or : {A F : Type 0} (first second : Option F) (next : Result A F) → unless (option_or first second) next ≡ unless first (unless second next)
-unless-or None second next = refl
-unless-or (Some fault) second next = refl

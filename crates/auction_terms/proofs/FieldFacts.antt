@@ -1,6 +1,6 @@
 -- How bytes read: a field, the fields of a record, and the records.
 use Rattle.std.proofs.Common.{◌≡◌, ◌≢◌, ◌≤◌, ◌<◌, ◌+◌, ◌∷◌, ◌++◌, ◌⊎◌, inl, inr, ⊎_elim, true, false, ℕ, zero, suc, List}
-use Rattle.std.proofs.Common.{[], length, Option, Some, None, refl, sym, ap, ◌∙◌, arith, add-one, take, drop, subst, ne_eqb}
+use Rattle.std.proofs.Common.{[], length, Option, Some, None, refl, sym, ap, ◌∙◌, arith, add-one, take, drop, ne_eqb}
 use Rattle.std.proofs.Common.{eq-eqb, slice_index}
 use Rattle.std.specs.List.{AllByRecursion}
 use Rattle.std.proofs.lemmas.Bool.{both_ways, cases_eq, eqb-true}

@@ -1,10 +1,12 @@
 -- What is told a judge, one fault after the other; and what the judges keep.
-use Rattle.std.proofs.Common.{◌≡◌, ◌≤◌, ◌<◌, ◌+◌, ◌-◌, ◌∷◌, ◌++◌, ◌∙◌, ℕ, List, [], refl, sym, ap, arith, append_assoc, append-nil}
+use Rattle.std.proofs.Common.{◌≡◌, ◌≢◌, ◌≤◌, ◌<◌, ◌+◌, ◌-◌, ◌∷◌, ◌++◌, ◌∙◌, ℕ, List, [], refl, sym, ap, arith, append_assoc, append-nil}
 use Rattle.std.proofs.Common.{slice_index_or, length, length-append, length-take, map, take}
 use Rattle.std.proofs.lemmas.List.{length-map, map-append, take-append-le}
 use Rattle.std.specs.Prelude.{◌^◌, min, Bool, Option, Some, None, Err, option_to_list}
 use Rattle.auction_terms.proofs.AllFaultsFacts.{take-more}
+use Rattle.auction_terms.specs.AllFaults.{or_else}
 use Rattle.auction_terms.specs.FirstFault.{first_failed}
+use Rattle.auction_terms.specs.inside.FirstFault.{Gives}
 use Rattle.auction_terms.specs.Judged.{Fault, Holds, HoldsMore, fault_of, first_or, kept_fault}
 use Rattle.auction_terms.specs.declared.judge.All.{All}
 use Rattle.auction_terms.specs.declared.judge.FaultAt.{FaultAt}
@@ -35,6 +37,31 @@ first-held {A} {F} held faults value none holds some = by held.kept.items faults
     by [] faults is some = absurd (omega arith)
     by (at ∷ rest) [] is some = cc is
     by (at ∷ rest) (fault ∷ more) is some = let same : kept_fault at ≡ fault = cc is in rw (← same) refl
+
+-- where some were found, some are kept
+pub some-held : {F : Type 0} (most : ℕ) (held : All F) (faults : List (Fault F)) → 1 ≤ most → Holds most held faults → faults ≢ [] → 1 ≤ length held.kept.items
+some-held {F} most held [] room holds some = absurd (some refl)
+some-held {F} most held (fault ∷ more) room holds some =
+    let size = length-map held.kept.items (kept_fault {F = F}) in
+    let n = ap length holds.kept in
+    let m = length-take most (fault ∷ more) in
+    omega arith
+
+-- faults of which some are kept, so that what rests on their absence isn't looked at
+pub held-some : {F : Type 0} (most : ℕ) (held : All F) (faults others : List (Fault F)) → Holds most held faults → (length held.kept.items ≡ 0 → ⊥)
+    → Holds most held (or_else faults others) × (or_else faults others ≢ [])
+held-some {F} most held [] others holds some =
+    let faults : List (Fault F) = [] in
+    let size = length-map held.kept.items (kept_fault {F = F}) in
+    let n = ap length holds.kept in
+    absurd (some (let m = length-take most faults in omega arith))
+held-some most held (fault ∷ more) others holds some = (holds, λ e. cc e)
+
+-- a value that is given where there are no faults is given where there are no others
+pub gives-same : {T F : Type 0} (some others : List (Fault F)) (result : Option T) (value : T) → Gives some result value → some ≡ [] → others ≡ []
+    → Gives others result value
+gives-same some others None value gives none empty = absurd (gives none)
+gives-same some others (Some x) value gives none empty = (empty, gives.1)
 
 -- ---------- of all faults ----------
 

@@ -12,14 +12,14 @@ pub mod RecordFacts
 pub mod FieldFacts
 pub mod TermsFacts
 pub mod RulesTextFacts
-pub mod AllRulesFaultsFacts
-mod AcceptedRulesFacts
+mod FaultsOfRulesFacts
 pub mod LineFacts
 pub mod LineCountFacts
 pub mod NameCountFacts
 pub mod GroupsTextFacts
 mod AcceptedGroupsFacts
 mod NoFaultFacts
+pub mod AcceptedRulesFacts
 pub mod WeighedFacts
 pub mod PackageFacts
 pub mod AllocationFacts

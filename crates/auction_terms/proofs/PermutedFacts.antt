@@ -1,6 +1,6 @@
 -- Laws of allocations in whatever order.
 use Rattle.std.proofs.Common.{◌≡◌, ℕ, ◌+◌, Bool, true, ◌==◌, cond, List, [], ◌∷◌, length, refl, ap, ap₂, ◌∙◌, arith, map}
-use Rattle.std.specs.Prelude.{sum_by, All, IsPermutation}
+use Rattle.std.specs.Prelude.{sum_by, IsPermutation}
 use Rattle.std.specs.List.{range_with_len}
 use Rattle.std.proofs.lemmas.List.Sorted.{All-permutation, sum_by-IsPermutation}
 use Rattle.auction_terms.specs.declared.choices.Choice.{Choice}

@@ -3,7 +3,7 @@ use Rattle.std.proofs.Common.{◌≡◌, arith, refl}
 use Rattle.std.specs.Prelude.{[], ◌∷◌, Ok, Err, codes}
 use Rattle.csv.specs.Records.{field_at}
 use Rattle.csv.proofs.OnLiterals.{csv_on_literals}
-use Rattle.auction_terms.specs.FirstFault.{first_fault}
+use Rattle.auction_terms.specs.AllFaults.{all_faults}
 use Rattle.auction_terms.specs.Lines.{lines_of}
 use Rattle.auction_terms.specs.Records.{records_of}
 use Rattle.auction_terms.specs.RulesText.{rules_of_records}
@@ -19,7 +19,7 @@ record TextsOfTheFirstVersion : Type 0 where
   kind : rules_of_records (records_of (codes "rules,1,5,,\nlot,A,2,10,1\n")) ≡ Err (fault.Kind 2)
 
 texts_of_the_first_version : TextsOfTheFirstVersion
-unfolding csv_on_literals first_fault field_at
+unfolding all_faults csv_on_literals field_at
 texts_of_the_first_version = grind arith
 
 record TextsOfLaterVersions : Type 0 where
@@ -50,5 +50,5 @@ record TextsOfLaterVersions : Type 0 where
   pool_in_version_2 : rules_of_records (records_of (codes "rules,2,1,,,\ncategory,A,2,10,1,0\ncategory,B,1,5,1,0\npool,Low,2,,,\n")) ≡ Err (fault.Kind 4)
 
 texts_of_later_versions : TextsOfLaterVersions
-unfolding csv_on_literals first_fault field_at
+unfolding all_faults csv_on_literals field_at
 texts_of_later_versions = grind arith

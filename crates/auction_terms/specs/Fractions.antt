@@ -1,6 +1,5 @@
 -- Exact amounts in pounds: `N` is a whole number, `N/D` is N divided by D.
 use Rattle.std.specs.Prelude.{◌+◌, ◌*◌, ◌/◌, ◌%◌, ◌==◌, ◌&&◌, ◌++◌, ◌∷◌, ℕ, zero, suc, Bool, List, [], Option, None, Some, decimal, drop, position, take, if◌then◌else◌}
-use Rattle.std.specs.Option.{option_map}
 use Rattle.auction_terms.specs.Numbers.{number_of}
 use Rattle.auction_terms.specs.declared.fractions.Fraction.{Fraction}
 

@@ -4,6 +4,7 @@ pub mod Tokens
 pub mod FirstFault
 pub mod AllFaults
 pub mod Judged
+pub mod Causes
 pub mod Accepted
 pub mod Stages
 pub mod Records
@@ -12,9 +13,7 @@ pub mod Numbers
 pub mod Fractions
 pub mod Terms
 pub mod RulesText
-pub mod RulesFields
-pub mod AllRulesFaults
-pub mod AcceptedRules
+pub mod FaultsOfRules
 pub mod Entries
 pub mod Lines
 pub mod Packages
@@ -28,6 +27,7 @@ pub mod Groups
 pub mod GroupNames
 pub mod GroupsText
 pub mod AcceptedGroups
+pub mod AcceptedRules
 pub mod RulesFaultText
 pub mod GroupFaultText
 pub mod FaultPlaces

@@ -1,6 +1,6 @@
 -- The fields of a line.
-use Rattle.std.specs.Prelude.{ℕ, Bool, not, ◌||◌, ◌&&◌, nat_le, List, [], length, drop, ◌==◌, if◌then◌else◌, slice_index, slice_get, unwrap_or}
-use Rattle.std.specs.List.{slice_split, filter, list_all}
+use Rattle.std.specs.Prelude.{ℕ, Bool, not, ◌||◌, List, [], length, ◌==◌, slice_index, slice_get, unwrap_or}
+use Rattle.std.specs.List.{slice_split, filter}
 
 -- whether a byte is white space, which separates the fields of a line: a space or a tab
 abbrev pub is_space : ℕ → Bool

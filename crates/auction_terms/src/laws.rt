@@ -2,36 +2,23 @@
 
 ghost use Rattle.std.specs.Prelude.{◌≡◌, ◌↔◌, ℕ, List, [], Some};
 ghost use Rattle.auction_terms.specs.Accepted.{AreOfItems, StaysFaultless};
-ghost use Rattle.auction_terms.specs.AcceptedRules.{RulesFaultsAreOfRecords};
-ghost use Rattle.auction_terms.specs.FirstFault.{TellsTheFirst};
-ghost use Rattle.auction_terms.specs.AllFaults.{AreFaultsOf};
+ghost use Rattle.auction_terms.specs.FaultsOfRules.{RulesFaultsAreOfRecords};
 ghost use Rattle.auction_terms.specs.GroupsText.{group_faults, line_faults, name_faults};
 ghost use Rattle.auction_terms.specs.AcceptedGroups.{AreGroupLines};
+ghost use Rattle.auction_terms.specs.AcceptedRules.{AreRulesRecords};
 ghost use Rattle.auction_terms.specs.Packages.{SmallerFits, SmallerLoadsNoMore};
 ghost use Rattle.auction_terms.specs.Allocations.{LoadsAddUp, TotalsAreNets};
 ghost use Rattle.auction_terms.specs.Domination.{SmallerSizesSuffice};
 ghost use Rattle.auction_terms.specs.Keeping.{KeepsTheBest, KeptAreEnough};
 ghost use Rattle.auction_terms.specs.Limits.{KeptAreOffers};
-ghost use Rattle.auction_terms.specs.AllRulesFaults.{all_rules_faults, fault_of_entry};
 ghost use Rattle.auction_terms.specs.Records.{Record};
-ghost use Rattle.auction_terms.specs.RulesText.{entry_fault, rules_of_records, version_of};
+ghost use Rattle.auction_terms.specs.RulesText.{fault_of_entry, rules_faults, version_of};
 ghost use Rattle.auction_terms.specs.declared.record_kinds.Version.{Version};
 ghost use Rattle.auction_terms.specs.declared.rules.Bidder.{Bidder};
 ghost use Rattle.auction_terms.specs.declared.limits.TheConstants.{GREATEST_AMOUNT, GREATEST_POINTS, GREATEST_QUANTITY};
 ghost use Rattle.auction_terms.specs.declared.limits.TheConstants.{GREATEST_VALUE, GREATEST_WEIGHT, MOST_BIDDERS, MOST_BIDS};
 ghost use Rattle.auction_terms.specs.declared.limits.TheConstants.{FRONT_LEN, MOST_CATEGORIES, MOST_FAULTS, MOST_GROUPS, MOST_PARTS, MOST_POOLS, MOST_TIES};
 ghost use Rattle.auction_terms.specs.declared.limits.TheConstants.{MOST_SESSIONS, MOST_WORKERS, TEXT_LIMIT};
-
-/// The records after the header of rules have the fault of the first of them with a fault.
-pub fn records_of_rules_tell_their_first_fault()
-    ensures { (version : Version) → TellsTheFirst (entry_fault version) }
-{}
-
-/// All faults of a text of rules begin with the first one, and where there is none there is no first one.
-pub fn all_faults_of_rules_begin_with_the_first()
-    ensures { (records : List Record) → AreFaultsOf (all_rules_faults records)
-        (rules_of_records records) }
-{}
 
 /// Each fault that is reported of a list, whatever its items are checked for, is one that an item has by the accepted ones before it; these have none.
 pub fn faults_of_a_list_are_of_its_items<R, F>()
@@ -44,6 +31,11 @@ pub fn faults_of_rules_are_of_their_records()
     ensures rules { (version : Version) (header : Record) (entries : List Record)
         → version_of header ≡ Some version → RulesFaultsAreOfRecords version header entries }
     ensures records { (version : Version) → AreOfItems (fault_of_entry version) }
+{}
+
+/// A text of rules has no fault exactly if its records may be those of rules.
+pub fn accepted_rules_are_these()
+    ensures { (records : List Record) → rules_faults records ≡ [] ↔ AreRulesRecords records }
 {}
 
 /// A text of groups has no fault exactly if each of its lines may be one of them.

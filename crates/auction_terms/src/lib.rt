@@ -10,22 +10,12 @@ macro_rules! refuse {
     };
 }
 
-/// The number that a text gives. Returns a fault if it gives none.
-macro_rules! number {
-    ($text:expr, $fault:expr) => {
-        match $crate::numbers::number($text) {
-            Some(value) => value,
-            None => return Err($fault),
-        }
-    };
-}
-
 mod bids;
+mod causes;
 mod choices;
 mod decimals;
 mod draft;
 mod faults;
-mod faulty_rules;
 mod fractions;
 mod front;
 mod group_list;
@@ -44,7 +34,6 @@ mod record_fields;
 mod record_kinds;
 mod records;
 mod rules;
-mod rules_fields;
 mod rules_records;
 mod rules_text;
 mod token;
@@ -53,10 +42,10 @@ mod wording;
 mod worth;
 
 pub use bids::{Bid, Kept, KeptBid};
+pub use causes::{count_cause, limits_cause, most_cause};
 pub use choices::Choice;
 pub use decimals::{NumberFault, read_number, scaled};
 pub use faults::{Faults, Found};
-pub use faulty_rules::rules_faults;
 pub use fractions::{Fraction, gcd, in_parts, lcm, read_fraction};
 pub use front::Front;
 pub use group_list::Groups;
@@ -74,11 +63,10 @@ pub use lines::LineReader;
 pub use names::Name;
 pub use numbers::{digits_after, number};
 pub use packages::{Package, Quantities};
-pub use record_kinds::{RecordKind, Version, field, kind_of, version_of};
+pub use record_kinds::field;
 pub use records::RecordReader;
 pub use rules::{Bidder, Category, Pool, Rules};
-pub use rules_fields::{NumberLimits, limits_outside};
-pub use rules_text::{RulesFault, read_rules};
+pub use rules_text::{RulesFault, read_rules, rules_faults};
 pub use token::{TokenFault, TokenParts, after, are_all_digits, read_token};
 pub use weights::Weights;
 pub use wording::Wording;

@@ -5,12 +5,11 @@ use Rattle.auction_terms.specs.Records.{Record, records_of}
 use Rattle.auction_terms.specs.Terms.{Terms}
 use Rattle.auction_terms.specs.Judged.{Fault as Judged}
 use Rattle.auction_terms.specs.declared.groups_text.GroupFault.{GroupFault}
-use Rattle.auction_terms.specs.declared.rules_text.RulesFault.{RulesFault}
 use Rattle.bid_forms.specs.RowNumbers.{parsed_eligibility, form_place}
 use Rattle.bid_forms.specs.declared.form_text.FormFault.{FormFault}
 use Rattle.input_faults.specs.Details.{form_fault_message}
 use Rattle.input_faults.specs.FaultLines.{fault_line}
-use Rattle.input_faults.specs.TextDetails.{detail_in_rules_at, detail_under_at, numbered, within_limit}
+use Rattle.input_faults.specs.TextDetails.{detail_under_at, numbered, within_limit}
 use Rattle.input_faults.specs.declared.fault.Fault.{Fault}
 use Rattle.input_faults.specs.declared.fault.Fault.TheVariants as fault
 
@@ -25,13 +24,7 @@ pub form-known : (t : Terms) (forms : List (List ℕ)) (at : Judged Fault) (numb
     → form_fault_message t most row at.field f ≡ detail_under_at t forms at reported
 form-known t forms at number other place reported f most row is same known stands held = rw (is, known, held, stands, same) refl
 
--- where the rules are refused nothing is reported of other faults
-pub of-no-rules : (records : List Record) (n : ℕ) (reported : Fault) → ((f : RulesFault) → reported ≡ fault.Rules f → ⊥)
-    → [] ≡ detail_in_rules_at records n reported
-of-no-rules records n (fault.Rules f) not = absurd (not f refl)
-of-no-rules records n reported not = refl
-
--- and where they are read, of faults of neither forms nor groups, nor of what a command wants
+-- where the rules are read, nothing is reported of faults of neither forms nor groups, nor of what a command wants
 pub of-neither : (t : Terms) (forms : List (List ℕ)) (at : Judged Fault) (reported : Fault)
     → ((number : ℕ) (f : FormFault) → reported ≡ fault.Form number f → ⊥) → ((f : GroupFault) → reported ≡ fault.Groups f → ⊥)
     → ((u : Unmet) → reported ≡ fault.Unmet u → ⊥) → [] ≡ detail_under_at t forms at reported

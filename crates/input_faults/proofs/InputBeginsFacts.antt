@@ -17,20 +17,20 @@ use Rattle.auction_input.specs.Plan.{miscounted}
 use Rattle.auction_input.specs.declared.part_kind.PartKind.{PartKind}
 use Rattle.auction_input.specs.declared.refusal.Refusal.{Refusal}
 use Rattle.auction_input.specs.declared.refusal.Refusal.TheVariants as refusal
-use Rattle.auction_terms.proofs.AllRulesFaultsFacts.{begin-rules}
+use Rattle.auction_terms.proofs.RulesTextFacts.{version-refused}
 use Rattle.auction_terms.specs.AllFaults.{AreFaultsOf, all_failed, or_else}
-use Rattle.auction_terms.specs.AllRulesFaults.{all_rules_faults}
 use Rattle.auction_terms.specs.FirstFault.{first_failed, first_fault}
 use Rattle.auction_terms.specs.GroupsText.{group_faults, groups_of}
 use Rattle.auction_terms.specs.Judged.{fault_of_whole, first_or, reported_as}
 use Rattle.auction_terms.specs.Judged.{Fault as Judged}
 use Rattle.auction_terms.specs.declared.limits.TheConstants.{TEXT_LIMIT}
-use Rattle.auction_terms.specs.Records.{records_of}
-use Rattle.auction_terms.specs.RulesText.{rules_of_records}
+use Rattle.auction_terms.specs.Records.{Record, records_of}
+use Rattle.auction_terms.specs.RulesText.{faults_of_version, whole_header, rules_faults, rules_of_records, terms_of_version, version_fault, version_of}
+use Rattle.auction_terms.specs.declared.record_kinds.Version.{Version}
+use Rattle.std.specs.Option.{option_map_or}
 use Rattle.auction_terms.specs.Stages.{and_then, each_in_turn, refused_as, unless}
 use Rattle.auction_terms.specs.Terms.{Terms}
 use Rattle.auction_terms.specs.declared.faults.Found.{Found}
-use Rattle.auction_terms.specs.declared.groups_text.GroupFault.{GroupFault}
 use Rattle.auction_terms.specs.declared.groups_text.GroupFault.TheVariants as groups
 use Rattle.auction_terms.specs.declared.rules_text.RulesFault.TheVariants as rules
 use Rattle.bid_forms.proofs.AllFormFaultsFacts.{begin-form}
@@ -39,7 +39,7 @@ use Rattle.bid_forms.specs.FormText.{form_of_records}
 use Rattle.bid_forms.specs.Offers.{Offers}
 use Rattle.bid_forms.specs.declared.form_text.FormFault.TheVariants as form
 use Rattle.input_faults.proofs.BeginFacts.{begin-each, begin-fault, begin-next, begin-sized}
-use Rattle.input_faults.specs.FaultsAs.{BeginWith, fault_as, faults_as, judged_as, unseen}
+use Rattle.input_faults.specs.FaultsAs.{BeginWith, fault_as, faults_as, judged_as, judged_of_sized, unseen}
 use Rattle.input_faults.specs.InputFaults.{call_fault, faults_in_parts, faults_of_form, faults_of_forms, faults_of_groups}
 use Rattle.input_faults.specs.InputFaults.{faults_of_rules, faults_of_texts, faults_under, input_faults, refusal_of}
 use Rattle.input_faults.specs.InputFaults.{text_fault, unmet_faults, unmet_under, where_read}
@@ -56,9 +56,40 @@ by-fault part faults (Ok x) are = ap (λ fs. judged_as refusal_of (faults_as par
 by-fault part faults (Err f) (field, more, are) =
     (unseen field (refusal_of (part f)), judged_as refusal_of (faults_as part more), ap (λ fs. judged_as refusal_of (faults_as part fs)) are, refl)
 
+-- of a text and its size
+by-judged : {A F : Type 0} (part : F → Fault) (too_large : F) (text : List ℕ) (faults : List (Judged F)) (reported : Result A F) → BeginWith faults reported
+    → BeginWith (judged_as refusal_of (judged_as part (judged_of_sized too_large text faults)))
+    (refused_as (λ f. refusal_of (part f)) (if nat_lt TEXT_LIMIT (length text) then Err too_large else reported))
+by-judged {A} {F} part too_large text faults reported are = by (nat_lt TEXT_LIMIT (length text)) reported are
+  where
+    by : (b : Bool) (reported : Result A F) → BeginWith faults reported
+        → BeginWith (judged_as refusal_of (judged_as part (if b then fault_of_whole too_large None ∷ [] else faults)))
+        (refused_as (λ f. refusal_of (part f)) (if b then Err too_large else reported))
+    by true reported are = (fault_of_whole (refusal_of (part too_large)) None, [], refl, refl)
+    by false (Ok x) are = ap (λ fs. judged_as refusal_of (judged_as part fs)) are
+    by false (Err f) (first, more, are, is) = (
+      reported_as (refusal_of (part first.fault)) first,
+      judged_as refusal_of (judged_as part more),
+      ap (λ fs. judged_as refusal_of (judged_as part fs)) are,
+      ap (λ g. refusal_of (part g)) is,
+    )
+
+-- the first of the listed faults is reported
+begin-first : {A F : Type 0} (faults : List (Judged F)) (value : A) → BeginWith faults (first_or faults value)
+begin-first [] value = refl
+begin-first (f ∷ more) value = (f, more, refl, refl)
+
+begin-rules : (records : List Record) → BeginWith (rules_faults records) (rules_of_records records)
+begin-rules [] = (whole_header (codes "there is no record"), [], refl, refl)
+begin-rules (header ∷ more) = by (version_of header)
+  where
+    by : (o : Option Version) → BeginWith (option_map_or (faults_of_version header more) o (version_fault header ∷ []))
+        (option_map_or (λ v. first_or (faults_of_version header more v) (terms_of_version header more v)) o (Err (rules.Header 1)))
+    by None = (version_fault header, [], refl, version-refused header)
+    by (Some v) = begin-first (faults_of_version header more v) (terms_of_version header more v)
+
 pub begin-terms : (text : List ℕ) → BeginWith (judged_as refusal_of (faults_of_rules text)) (parsed_terms text)
-begin-terms text = by-fault fault.Rules _ _ (begin-sized rules.TooLarge text (all_rules_faults (records_of text))
-    (rules_of_records (records_of text)) (begin-rules (records_of text)))
+begin-terms text = by-judged fault.Rules rules.TooLarge text (rules_faults (records_of text)) (rules_of_records (records_of text)) (begin-rules (records_of text))
 
 pub begin-one-form : (t : Terms) (number : ℕ) (text : List ℕ) → BeginWith (judged_as refusal_of (faults_of_form t number text)) (parsed_form t number text)
 begin-one-form t number text =
@@ -66,14 +97,8 @@ begin-one-form t number text =
     (form_of_records t (records_of text)) (begin-form t (records_of text)))
 
 begin-group-text : (t : Terms) (text : List ℕ) → BeginWith (judged_as refusal_of (faults_of_groups t text)) (parsed_groups t text)
-begin-group-text t text = by _ (nat_lt TEXT_LIMIT (length text)) (group_faults t.bidders text)
-  where
-    by : {A : Type 0} (value : A) (b : Bool) (faults : List (Judged GroupFault))
-        → BeginWith (judged_as refusal_of (judged_as fault.Groups (if b then fault_of_whole groups.TooLarge None ∷ [] else faults)))
-        (refused_as refusal.Groups (if b then Err groups.TooLarge else first_or faults value))
-    by value true faults = (fault_of_whole (refusal.Groups groups.TooLarge) None, [], refl, refl)
-    by value false [] = refl
-    by value false (f ∷ more) = (reported_as (refusal.Groups f.fault) f, judged_as refusal_of (judged_as fault.Groups more), refl, refl)
+begin-group-text t text = by-judged fault.Groups groups.TooLarge text (group_faults t.bidders text) (groups_of t.bidders text)
+    (begin-first (group_faults t.bidders text) _)
 
 -- what forms and groups describe under the rules
 module _ (last_wins : Bool) (numbers : List ℕ) where

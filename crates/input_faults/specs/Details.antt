@@ -1,5 +1,5 @@
 -- What is reported of a fault after its refusal: at which field or name it is, what is there, and what was wanted.
-use Rattle.std.specs.Prelude.{◌+◌, ◌++◌, ◌==◌, not, ℕ, List, [], ◌∷◌, Option, None, Some, codes, decimal, if◌then◌else◌, length}
+use Rattle.std.specs.Prelude.{◌+◌, ◌++◌, ◌==◌, ℕ, List, [], ◌∷◌, Option, None, Some, codes, decimal, if◌then◌else◌, length}
 use Rattle.std.specs.Option.{option_map_or}
 use Rattle.std.specs.Str.{bytes_eq}
 use Rattle.auction_input.specs.declared.part_kind.PartKind.{PartKind}
@@ -8,18 +8,10 @@ use Rattle.auction_input.specs.declared.wanted.Unmet.{Unmet}
 use Rattle.auction_input.specs.declared.wanted.Unmet.TheVariants as unmet
 use Rattle.auction_terms.specs.Judged.{Fault as Judged}
 use Rattle.auction_terms.specs.Records.{Record}
-use Rattle.auction_terms.specs.RulesFields.{limits_outside}
-use Rattle.auction_terms.specs.RulesText.{field_count, is_kind, record_field, record_kind}
+use Rattle.auction_terms.specs.RulesText.{record_field}
 use Rattle.auction_terms.specs.Terms.{Terms}
-use Rattle.auction_terms.specs.declared.limits.TheConstants.{GREATEST_AMOUNT, GREATEST_QUANTITY, MOST_BIDDERS, MOST_BIDS}
-use Rattle.auction_terms.specs.declared.limits.TheConstants.{MOST_CATEGORIES, MOST_POOLS}
-use Rattle.auction_terms.specs.declared.record_kinds.RecordKind.{RecordKind}
-use Rattle.auction_terms.specs.declared.record_kinds.RecordKind.TheVariants as kind
-use Rattle.auction_terms.specs.declared.record_kinds.Version.{Version}
+use Rattle.auction_terms.specs.declared.limits.TheConstants.{GREATEST_AMOUNT, GREATEST_QUANTITY, MOST_BIDS}
 use Rattle.auction_terms.specs.declared.rules.Category.{Category}
-use Rattle.auction_terms.specs.declared.rules_fields.NumberLimits.{NumberLimits}
-use Rattle.auction_terms.specs.declared.rules_text.RulesFault.{RulesFault}
-use Rattle.auction_terms.specs.declared.rules_text.RulesFault.TheVariants as rules
 use Rattle.bid_forms.specs.RowNumbers.{parsed_points, parsed_reserve}
 use Rattle.bid_forms.specs.declared.form_text.FormFault.{FormFault}
 use Rattle.bid_forms.specs.declared.form_text.FormFault.TheVariants as form
@@ -96,46 +88,6 @@ unmet_message (unmet.Number part.Cover count by) = pair_message (codes " covers,
 unmet_message (unmet.Number part.Rule count by) =
     pair_message (codes " price rules, and ") count by ++ (codes " prices want " ++ (decimal by ++ codes " at most"))
 unmet_message (unmet.Number kind count by) = []
-
--- ---------- rules ----------
-
--- a header without a version
-abbrev pub header_message : Record → List ℕ
-header_message r =
-    if length r == 0 then codes ": there is no record"
-    else (if not (bytes_eq (record_field 1 r) (codes "rules")) then field_message 1 r (codes " isn't rules")
-    else (if length r == 1 then codes ": 1 fields, without a version" else field_message 2 r (codes " isn't a version, 1, 2 or 3")))
-
--- the limits of the number that is outside its own; a record of no kind is the header, with its step
-abbrev pub limits_of : Version → Record → Option NumberLimits
-limits_of v r = option_map_or (limits_outside v r) (record_kind v r) (Some (record { field = 3; least = 1; greatest = GREATEST_AMOUNT }))
-
--- a record more than there may be of its kind
-abbrev pub too_many_message : RecordKind → List ℕ
-too_many_message kind.Category = codes ": more than " ++ (decimal MOST_CATEGORIES ++ codes " categories")
-too_many_message kind.Bidder = codes ": more than " ++ (decimal MOST_BIDDERS ++ codes " bidders")
-too_many_message kind.Pool = codes ": more than " ++ (decimal MOST_POOLS ++ codes " pools")
-too_many_message kind.Member = []
-
--- a record of this version
-abbrev pub entry_message : Record → ℕ → RulesFault → Version → List ℕ
-entry_message r n (rules.FieldCount place) v = count_message (length r) (field_count v)
-entry_message r n (rules.Kind place) v = field_message n r (codes " is no kind of record")
-entry_message r n (rules.NameText place) v = field_message n r (codes " isn't a letter and then letters or digits, at most 16")
-entry_message r n (rules.NumberText place) v = field_message n r (codes " isn't 1 to 18 digits")
-entry_message r n (rules.NumberRange place) v = option_map_or (λ limits. field_message n r (limits_message limits.least limits.greatest)) (limits_of v r) []
-entry_message r n (rules.NameRepeated place) v =
-    field_message n r (if is_kind kind.Member (record_kind v r) then codes " is in that pool already" else codes
-    " is the name of an earlier record of its kind")
-entry_message r n (rules.TooMany place) v = option_map_or too_many_message (record_kind v r) []
-entry_message r n (rules.NameUnknown place) v =
-    field_message n r (if n == 2 then codes " is the name of no earlier pool" else codes " is the name of no earlier category")
-entry_message r n f v = []
-
--- a fault at a field of a record of the rules, whose version is known where the header gives one
-abbrev pub rules_message : Option Version → Record → ℕ → RulesFault → List ℕ
-rules_message version r n (rules.Header place) = header_message r
-rules_message version r n f = option_map_or (entry_message r n f) version []
 
 -- ---------- forms ----------
 

@@ -14,11 +14,11 @@ use Rattle.auction_input.specs.declared.form_texts.AnotherForm.{AnotherForm}
 use Rattle.auction_input.specs.declared.refusal.Refusal.{Refusal}
 use Rattle.auction_input.specs.declared.refusal.Refusal.TheVariants as refusal
 use Rattle.auction_terms.specs.AllFaults.{all_failed, all_faults, or_else}
-use Rattle.auction_terms.specs.AllRulesFaults.{all_rules_faults}
 use Rattle.auction_terms.specs.FirstFault.{first_fault}
 use Rattle.auction_terms.specs.GroupsText.{group_faults}
 use Rattle.auction_terms.specs.Judged.{Fault as Judged}
 use Rattle.auction_terms.specs.Records.{records_of}
+use Rattle.auction_terms.specs.RulesText.{rules_faults}
 use Rattle.auction_terms.specs.Stages.{each_in_turn}
 use Rattle.auction_terms.specs.Terms.{Terms}
 use Rattle.auction_terms.specs.declared.groups_text.GroupFault.TheVariants as groups
@@ -50,7 +50,7 @@ faults_of_parts asked input = or_else (fault_as fault.Parts (input_fault asked i
 
 -- the faults of the rules
 abbrev pub faults_of_rules : List ℕ → List (Judged Fault)
-faults_of_rules text = faults_as fault.Rules (faults_of_sized rules.TooLarge text (all_rules_faults (records_of text)))
+faults_of_rules text = judged_as fault.Rules (judged_of_sized rules.TooLarge text (rules_faults (records_of text)))
 
 -- the faults of the form of this number
 abbrev pub faults_of_form : Terms → ℕ → List ℕ → List (Judged Fault)

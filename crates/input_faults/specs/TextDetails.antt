@@ -12,17 +12,14 @@ use Rattle.auction_input.specs.declared.places.Spot.{Spot}
 use Rattle.auction_input.specs.declared.refusal.Refusal.TheVariants as refusal
 use Rattle.auction_input.specs.declared.parts.PartFault.{PartFault}
 use Rattle.auction_input.specs.declared.refusal.Refusal.{Refusal}
-use Rattle.auction_terms.specs.FaultPlaces.{rules_place}
 use Rattle.auction_terms.specs.Judged.{Fault as Judged}
 use Rattle.auction_terms.specs.Lines.{lines_of}
 use Rattle.auction_terms.specs.Records.{Record, records_of}
-use Rattle.auction_terms.specs.RulesText.{version_of}
 use Rattle.auction_terms.specs.Terms.{Terms}
 use Rattle.auction_terms.specs.declared.limits.TheConstants.{TEXT_LIMIT}
-use Rattle.auction_terms.specs.declared.rules_text.RulesFault.{RulesFault}
 use Rattle.bid_forms.specs.RowNumbers.{parsed_eligibility, form_place}
 use Rattle.bid_forms.specs.declared.form_text.FormFault.{FormFault}
-use Rattle.input_faults.specs.Details.{beginning_message, fault_message, form_fault_message, parts_count_message, rules_message, unmet_message}
+use Rattle.input_faults.specs.Details.{beginning_message, fault_message, form_fault_message, parts_count_message, unmet_message}
 use Rattle.input_faults.specs.declared.fault.Fault.{Fault}
 use Rattle.input_faults.specs.declared.fault.Fault.TheVariants as fault
 use Rattle.auction_input.specs.declared.request.Request.{Request}
@@ -35,22 +32,24 @@ numbered n items = slice_index_or ([] ∷ items) n []
 abbrev pub within_limit : List ℕ → List ℕ
 within_limit text = if nat_lt TEXT_LIMIT (length text) then [] else text
 
--- a fault of the records of the rules
-abbrev pub detail_of_rules : List Record → ℕ → RulesFault → List ℕ
-detail_of_rules records n f = rules_message (version_of (numbered 1 records)) (numbered (rules_place f) records) n f
-
 -- a fault of the records of a form
 abbrev pub detail_of_form : Terms → List Record → ℕ → FormFault → List ℕ
 detail_of_form t records n f = form_fault_message t (parsed_eligibility t (numbered 1 records)) (numbered (form_place f) records) n f
 
--- a fault, at this field, where the rules are refused
-abbrev pub detail_in_rules_at : List Record → ℕ → Fault → List ℕ
-detail_in_rules_at records n (fault.Rules f) = detail_of_rules records n f
-detail_in_rules_at records n f = []
+-- the detail of this fault, of an input whose rules are refused
+abbrev pub detail_in_rules_at : Judged Fault → Fault → List ℕ
+detail_in_rules_at at (fault.Rules f) = fault_message (codes ", field ") at
+detail_in_rules_at at (fault.Parts f) = []
+detail_in_rules_at at (fault.PartCount kind) = []
+detail_in_rules_at at (fault.Form number f) = []
+detail_in_rules_at at (fault.AnotherForm f) = []
+detail_in_rules_at at (fault.Groups f) = []
+detail_in_rules_at at (fault.CallLimit number) = []
+detail_in_rules_at at (fault.Unmet u) = []
 
 -- the detail of a fault of an input whose rules are refused
-abbrev pub detail_in_rules : List Record → Judged Fault → List ℕ
-detail_in_rules records at = detail_in_rules_at records at.field at.fault
+abbrev pub detail_in_rules : Judged Fault → List ℕ
+detail_in_rules at = detail_in_rules_at at at.fault
 
 -- the detail of this fault, of an input whose rules are accepted
 abbrev pub detail_under_at : Terms → List (List ℕ) → Judged Fault → Fault → List ℕ
@@ -64,15 +63,14 @@ abbrev pub detail_under : Terms → List (List ℕ) → Judged Fault → List �
 detail_under t forms at = detail_under_at t forms at at.fault
 
 -- a fault of these texts
-abbrev pub detail_in_texts : Result Terms Refusal → List ℕ → List (List ℕ) → Judged Fault → List ℕ
-detail_in_texts (Ok t) rules forms at = detail_under t forms at
-detail_in_texts (Err r) rules forms at = detail_in_rules (records_of (within_limit rules)) at
+abbrev pub detail_in_texts : Result Terms Refusal → List (List ℕ) → Judged Fault → List ℕ
+detail_in_texts (Ok t) forms at = detail_under t forms at
+detail_in_texts (Err r) forms at = detail_in_rules at
 
 -- a fault of the texts in parts
 abbrev pub detail_in_parts : List Part → Judged Fault → List ℕ
 detail_in_parts parts at =
-    let rules = only_text (parts_named (codes "%rules") parts) in
-    detail_in_texts (parsed_terms rules) rules (parts_named (codes "%form") parts) at
+    detail_in_texts (parsed_terms (only_text (parts_named (codes "%rules") parts))) (parts_named (codes "%form") parts) at
 
 -- the bytes of the text at a place, from 0
 abbrev pub bytes_at : List Given → ℕ → List ℕ

@@ -3,17 +3,24 @@
 ghost use Rattle.std.specs.Prelude.{◌≡◌, [], codes, decimal, ◌++◌};
 ghost use Rattle.std.specs.Option.{option_map_or};
 ghost use Rattle.csv.specs.Records.{fields_of};
+ghost use Rattle.auction_terms.specs.Wording.{wording_text};
 ghost use Rattle.bid_forms.specs.RowNumbers.{parsed_points, parsed_reserve};
-ghost use Rattle.input_faults.specs.Details.{column_message, columns_message, field_message, form_fault_message, points_above};
+ghost use Rattle.input_faults.specs.Details.{column_message, columns_message, count_message, field_message, form_fault_message, points_above};
 ghost use Rattle.input_faults.specs.inside.DetailText.{detail_text};
 
 use crate::detail::{Detail, of_field};
-use crate::rules_details::count_wording;
 use auction_terms::{
     Category, GREATEST_AMOUNT, GREATEST_QUANTITY, MOST_BIDS, Rules, Wording, field,
 };
 use bid_forms::{FormFault, parsed_points, parsed_reserve};
 use csv::ByteRecord;
+
+// Another number of fields than are wanted.
+fn count_wording(count: usize, wanted: usize) -> Wording
+    ensures { wording_text result ≡ count_message count wanted }
+{
+    Wording::Numbers(": ", count as u64, " fields in place of ", wanted as u64)
+}
 
 // The first field that isn't the name of its category.
 fn column_detail<'d>(categories: &'d [Category], row: &'d ByteRecord) -> Detail<'d>

@@ -19,8 +19,8 @@ pub struct FormReading<'t> {
     pub eligibility: Option<u64>,
 }
 
-/// A text, or nothing where it is above the limit and isn't read.
-pub fn within_limit(text: &[u8]) -> &[u8]
+// A text, or nothing where it is above the limit and isn't read.
+fn within_limit(text: &[u8]) -> &[u8]
     ensures { result.now ≡ within_limit text.now }
 {
     if text.len() > TEXT_LIMIT {

@@ -14,7 +14,6 @@ mod part_details;
 mod placed;
 mod reading;
 mod record_cursor;
-mod rules_details;
 mod shown;
 mod wording;
 

@@ -6,11 +6,10 @@ ghost use Rattle.auction_input.specs.Parts.{parts_held};
 ghost use Rattle.auction_input.specs.Plan.{miscounted};
 ghost use Rattle.auction_input.specs.ParsedTexts.{parsed_terms};
 ghost use Rattle.auction_terms.specs.Lines.{bytes_of};
-ghost use Rattle.auction_terms.specs.Records.{records_of};
-ghost use Rattle.auction_terms.specs.RulesText.{version_of};
+ghost use Rattle.auction_terms.specs.Judged.{kept_fault};
 ghost use Rattle.input_faults.specs.FaultLines.{more_line, message_of};
-ghost use Rattle.input_faults.specs.TextDetails.{detail, detail_in_rules, detail_in_texts, detail_of_counted, detail_under, numbered, within_limit};
-ghost use Rattle.input_faults.specs.inside.Cursors.{ReadsForm, StandsAt};
+ghost use Rattle.input_faults.specs.TextDetails.{detail, detail_in_rules, detail_in_texts, detail_of_counted, detail_under};
+ghost use Rattle.input_faults.specs.inside.Cursors.{ReadsForm};
 ghost use Rattle.input_faults.specs.inside.DetailText.{detail_text};
 ghost use Rattle.input_faults.specs.inside.HeldLines.{held_lines, kept_line};
 ghost use Rattle.byte_sinks.specs.Adds.{Adds};
@@ -20,17 +19,15 @@ use crate::detail::{Detail, add_detail, fault_detail};
 use crate::fault::Fault;
 use crate::finding::check_part_fault;
 use crate::form_details::form_detail;
-use crate::form_reading::{FormReading, within_limit};
+use crate::form_reading::FormReading;
 use crate::part_details::{count_detail, part_detail, unmet_detail};
 use crate::placed::add_message;
 use crate::reading::rules_in;
-use crate::record_cursor::RecordCursor;
-use crate::rules_details::rules_detail;
 use crate::wording::add_wording;
 use auction_input::{
     Input, Part, PartKind, Places, Request, count_of, miscounted, split_parts, text_of, texts_of,
 };
-use auction_terms::{All, FaultAt, Rules, Version, Wording, version_of};
+use auction_terms::{All, FaultAt, Rules, Wording};
 use byte_sinks::{MemorySink, Sink, WriteFault, Writer};
 use std::alloc::{AllocError, Global};
 
@@ -50,55 +47,34 @@ fn add_line<S: Sink>(
     writer.add(b"\n");
 }
 
-// Adds the line of a fault where the rules are refused.
-fn add_line_of_rules<S: Sink>(
-    alloc: Global,
-    writer: &mut Writer<'_, S>,
-    places: &Places<'_>,
-    cursor: &mut RecordCursor<'_>,
-    version: Option<Version>,
-    at: &FaultAt<Fault>,
-) -> Result<(), AllocError>
-    ensures added { (text : List ℕ) → StandsAt cursor.old text
-        → version ≡ version_of (numbered 1 (records_of text))
-        → OnOk result (Adds S.taken S.failures writer.old writer.new
-        (kept_line (message_of places.now) (detail_in_rules (records_of text)) at.now)) }
-    ensures stands { (text : List ℕ) → StandsAt cursor.old text
-        → OnOk result (StandsAt cursor.new text) }
+// The detail of a fault where the rules are refused.
+fn detail_in_rules(at: &FaultAt<Fault>) -> Detail<'_>
+    ensures { detail_text result ≡ detail_in_rules (kept_fault at.now) }
 {
     match at.fault {
-        Fault::Rules(fault) => {
-            cursor.go_to(alloc, fault.place())?;
-            let detail = rules_detail(version, &cursor.row, at.field, fault);
-            add_line(writer, places, at.fault, &detail);
-            Ok(())
-        }
-        _ => {
-            add_line(writer, places, at.fault, &Detail::Nothing);
-            Ok(())
-        }
+        Fault::Rules(_) => fault_detail(", field ", at),
+        Fault::Parts(_)
+        | Fault::PartCount(_)
+        | Fault::Form { .. }
+        | Fault::AnotherForm(_)
+        | Fault::Groups(_)
+        | Fault::CallLimit { .. }
+        | Fault::Unmet(_) => Detail::Nothing,
     }
 }
 
-// Adds the lines of faults where the rules are refused. The records of the rules are gone over once.
+// Adds the lines of faults where the rules are refused.
 fn add_lines_of_rules<S: Sink>(
-    alloc: Global,
     writer: &mut Writer<'_, S>,
     places: &Places<'_>,
-    text: &[u8],
     faults: &[FaultAt<Fault>],
-) -> Result<(), AllocError>
-    ensures { OnOk result (Adds S.taken S.failures writer.old writer.new
-        (flat_map (kept_line (message_of places.now) (detail_in_rules (records_of text.now)))
-        faults.now)) }
+)
+    ensures { Adds S.taken S.failures writer.old writer.new
+        (flat_map (kept_line (message_of places.now) detail_in_rules) faults.now) }
 {
-    let mut cursor = RecordCursor::new(alloc, text);
-    cursor.go_to(alloc, 1)?;
-    let version = version_of(&cursor.row);
     for at in faults {
-        add_line_of_rules(alloc, writer, places, &mut cursor, version, at)?;
+        add_line(writer, places, at.fault, &detail_in_rules(at));
     }
-    Ok(())
 }
 
 // Adds the line of a fault where the rules are read.
@@ -188,12 +164,15 @@ fn add_lines_in<S: Sink>(
     faults: &[FaultAt<Fault>],
 ) -> Result<(), AllocError>
     ensures { OnOk result (Adds S.taken S.failures writer.old writer.new
-        (flat_map (kept_line (message_of places.now) (detail_in_texts (parsed_terms rules.now) rules.now
+        (flat_map (kept_line (message_of places.now) (detail_in_texts (parsed_terms rules.now)
         (bytes_of forms.now))) faults.now)) }
 {
     match rules_in(alloc, rules)? {
         Some(rules) => add_lines_under(alloc, writer, places, &rules, forms, faults),
-        None => add_lines_of_rules(alloc, writer, places, within_limit(rules), faults),
+        None => {
+            add_lines_of_rules(writer, places, faults);
+            Ok(())
+        }
     }
 }
 

@@ -31,14 +31,16 @@ fn unseen(field: usize, fault: Fault) -> FaultAt<Fault>
 }
 
 /// Adds the faults of rules.
-pub fn add_rules(faults: &mut All<Fault>, found: &Faults<RulesFault>) -> Result<(), AllocError>
-    ensures { OnOk result ((reported : List (Found RulesFault)) → Keeps found.now reported
-        → FindsMore faults.old faults.new (faults_as fault.Rules reported)) }
+pub fn add_rules(faults: &mut All<Fault>, found: All<RulesFault>) -> Result<(), AllocError>
+    ensures { OnOk result ((reported : List (Judged RulesFault)) → Holds MOST_FAULTS found reported
+        → FindsMore faults.old faults.new (judged_as fault.Rules reported)) }
 {
-    for at in &found.kept {
-        faults.add(unseen(at.field, Fault::Rules(at.fault)))?;
+    let All { kept, more, .. } = found;
+    for at in kept {
+        let fault = Fault::Rules(at.fault);
+        faults.add(at.reported_as(fault))?;
     }
-    faults.more = faults.more.saturating_add(found.more);
+    faults.more = faults.more.saturating_add(more);
     Ok(())
 }
 

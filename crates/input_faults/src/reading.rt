@@ -94,7 +94,7 @@ pub fn take_rules(
         Err(fault) => {
             check_rules_fault(fault)?;
             let found = rules_faults(alloc, text)?;
-            add_rules(faults, &found)?;
+            add_rules(faults, found)?;
             Ok(None)
         }
     }

@@ -1,19 +1,32 @@
--- What single records of rules describe, the first one, and what comes after it.
-use Rattle.std.specs.Prelude.{◌+◌, Bool, ℕ, List, [], ◌∷◌, Result, Ok, Err, length, ok_or}
-use Rattle.auction_terms.specs.Entries.{Entries, terms_of}
-use Rattle.auction_terms.specs.FirstFault.{first_failed, first_fault}
+-- What single records of rules describe, and their numbers.
+use Rattle.std.specs.Prelude.{◌≡◌, ◌≢◌, Bool, ℕ, List, [], Option, None, Some, Ok}
+use Rattle.auction_terms.specs.Entries.{Entries}
+use Rattle.auction_terms.specs.Judged.{Fault}
 use Rattle.auction_terms.specs.Records.{Record}
-use Rattle.auction_terms.specs.RulesText.{end_checks, entries_of, entry_fault, field_number, header_checks, kind_checks, record_field, version_of}
-use Rattle.auction_terms.specs.Stages.{and_then, unless}
+use Rattle.auction_terms.specs.RulesText.{field_number, kind_checks, parsed_numeral, record_field, rules_faults, rules_of_records, value_text}
 use Rattle.auction_terms.specs.Terms.{Terms}
 use Rattle.auction_terms.specs.declared.draft.Member.{Member}
 use Rattle.auction_terms.specs.declared.draft.NamedCap.{NamedCap}
 use Rattle.auction_terms.specs.declared.record_kinds.RecordKind.{RecordKind}
+use Rattle.auction_terms.specs.declared.record_kinds.Version.{Version}
 use Rattle.auction_terms.specs.declared.record_kinds.Version.TheVariants as version
 use Rattle.auction_terms.specs.declared.rules.Bidder.{Bidder}
-use Rattle.auction_terms.specs.declared.rules_text.Header.{Header}
+use Rattle.auction_terms.specs.declared.rules_records.BidderNumbers.{BidderNumbers}
+use Rattle.auction_terms.specs.declared.rules_records.CategoryNumbers.{CategoryNumbers}
 use Rattle.auction_terms.specs.declared.rules_text.RulesFault.{RulesFault}
-use Rattle.auction_terms.specs.declared.rules_text.RulesFault.TheVariants as fault
+
+-- the numbers of the category that a record describes
+abbrev pub category_numbers : Version → Record → CategoryNumbers
+category_numbers v r = record {
+  supply = field_number 3 r;
+  reserve = field_number 4 r;
+  points = field_number 5 r;
+  value = parsed_numeral (value_text v r);
+}
+
+-- the numbers of the bidder that a record describes
+abbrev pub bidder_numbers : Record → BidderNumbers
+bidder_numbers r = record { eligibility = field_number 3 r; sessions = field_number 4 r }
 
 -- the bidder that a record describes: its name, its eligibility and how many sessions it has
 abbrev pub bidder_of : Record → Bidder
@@ -28,18 +41,10 @@ abbrev pub member_of : Record → Member
 member_of r = record { pool = record_field 2 r; category = record_field 3 r; weight = field_number 4 r }
 
 -- the checks of a bidder, a pool or a member: those of the last version, which no other has otherwise, so that an entry of any version has them
-abbrev pub checks_in_every_version : ℕ → Entries → Record → RecordKind → List (Bool × RulesFault)
+abbrev pub checks_in_every_version : ℕ → Entries → Record → RecordKind → List (Bool × Fault RulesFault)
 checks_in_every_version place before r k = kind_checks version.Three place before r k
 
--- the version and the step that the first record gives
-abbrev pub parsed_first_record : List Record → Result Header RulesFault
-parsed_first_record [] = Err (fault.Header 1)
-parsed_first_record (header ∷ more) = and_then (ok_or (version_of header) (fault.Header 1)) (λ v.
-    unless (first_failed (header_checks v header)) (Ok (record { version = v; step = field_number 3 header })))
-
--- the rules, by what comes after a first record that gives this
-abbrev pub rules_after : Header → List Record → Result Terms RulesFault
-rules_after header records =
-    unless (first_fault (entry_fault header.version) [] records)
-    (unless (first_failed (end_checks (length records + 1) (entries_of header.version records)))
-    (Ok (terms_of header.step (entries_of header.version records))))
+-- rules are given just where the records of a text have no fault, and then these are what the records describe
+abbrev pub GivesRules : List Record → Option Terms → Type 0
+GivesRules records None = rules_faults records ≢ []
+GivesRules records (Some t) = Ok t ≡ rules_of_records records

@@ -1,4 +1,4 @@
-use Rattle.std.proofs.Common.{◌≡◌, ◌∙◌, ◌++◌, false, true, sym, arith}
+use Rattle.std.proofs.Common.{◌≡◌, ◌∙◌, false, true, sym, arith}
 use Rattle.auction_terms.specs.inside.RecordFields.{begins_with, quote}
 use Rattle.auction_terms.proofs.FieldFacts.{closed, doubled, gives_after, never_closed}
 use Rattle.auction_terms.proofs.record_fields.unquote.Goals as goal

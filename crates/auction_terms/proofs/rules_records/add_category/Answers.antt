@@ -1,4 +1,5 @@
+use Rattle.std.proofs.Common.{sym}
 use Rattle.auction_terms.proofs.rules_records.add_category.Goals as goal
 
-pub add_category-requires-clause-new_name : goal.add_category-requires-clause-new_name
-add_category-requires-clause-new_name c = rw c.categories.ensures at c.in_ok-category.ensures.new_name
+pub returns-in-Err-clause-fault : goal.returns-in-Err-clause-fault
+returns-in-Err-clause-fault c = sym (rw c.categories.ensures at c.in-Err.ensures.answer)

@@ -6,4 +6,4 @@ returns-in-Some g c = (let reported = rw c.in-Some.is at c.in_ok-rules.ensures i
 pub returns-in-None : goal.returns-in-None
 returns-in-None g c =
     let (r, reported) = rw c.in-None.is at c.in_ok-rules.ensures in
-    rw reported (rw c.within_limit.ensures at c.add_lines_of_rules.ensures)
+    rw reported c.add_lines_of_rules.ensures

@@ -1,7 +1,6 @@
 use Rattle.std.proofs.Common.{arith, refl}
 use Rattle.input_faults.proofs.MergeFacts.{holds-others, merged-all, merged-more}
 use Rattle.input_faults.specs.declared.fault.Fault.TheVariants as fault
-use Rattle.auction_terms.specs.declared.limits.TheConstants.{MOST_FAULTS}
 use Rattle.input_faults.proofs.merging.add_groups.Goals as goal
 
 pub loop-at-preserved : goal.loop-at-preserved

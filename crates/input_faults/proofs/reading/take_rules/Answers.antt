@@ -1,5 +1,5 @@
 use Rattle.input_faults.proofs.InputBeginsFacts.{begin-terms}
-use Rattle.input_faults.proofs.TextFacts.{keeps-sized, nothing-more, rules-read, rules-refused}
+use Rattle.input_faults.proofs.TextFacts.{holds-sized, nothing-more, rules-read, rules-refused}
 use Rattle.auction_input.specs.declared.refusal.Refusal.TheVariants as refusal
 use Rattle.auction_terms.specs.declared.rules_text.RulesFault.TheVariants as rules
 use Rattle.input_faults.proofs.reading.take_rules.Goals as goal
@@ -15,7 +15,7 @@ returns-in_ok-add_rules-in-Err c =
     let text = c.args.text.now in
     let found = c.in_ok-found-in-Err in
     record {
-      faults = c.in_ok-add_rules-in-Err.ensures _ (keeps-sized found.found rules.TooLarge text _ found.ensures.too_large found.ensures.all);
+      faults = c.in_ok-add_rules-in-Err.ensures _ (holds-sized found.found rules.TooLarge text _ found.ensures.too_large found.ensures.all);
       rules = (
         refusal.Rules c.in-Err.fault,
         rules-refused text c.in-Err.fault c.in_ok-check_rules_fault-in-Err.ensures

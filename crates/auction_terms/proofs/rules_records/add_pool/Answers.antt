@@ -1,0 +1,5 @@
+use Rattle.std.proofs.Common.{sym}
+use Rattle.auction_terms.proofs.rules_records.add_pool.Goals as goal
+
+pub returns-in-Err-clause-fault : goal.returns-in-Err-clause-fault
+returns-in-Err-clause-fault c = sym (rw c.pools.ensures at c.in-Err.ensures.answer)
