@@ -269,8 +269,8 @@ class Case(NamedTuple):
     bid: BidKey
     needed: int | None
     fate: Fate
-    shown: int
-    printed: str
+    shown: int | None
+    printed: str | None
     below: str | None = None
 
 
@@ -360,7 +360,7 @@ CASES = {
         shown=9 * 10**11,
         printed="Alpha 1 900000000000, Beta 1 900000000000, total 1800000000000",
     ),
-    # one step above there is no amount in which it would win alone
+    # with one step more it would win, but there is no such amount
     "a tie with a smaller bid at the limit": Case(
         step=1,
         supply=2,
@@ -369,8 +369,8 @@ CASES = {
         bid=BidKey("Alpha", 2),
         needed=MOST,
         fate=Fate.TIES,
-        shown=MOST,
-        printed=f"Alpha 1 {MOST}, total {MOST}",
+        shown=None,
+        printed=None,
     ),
 }
 
@@ -394,8 +394,7 @@ def test_a_bid_by_hand(name: str, wdp: str) -> None:
     case = CASES[name]
     bid = list_lost(format_case(case), wdp)[case.bid]
     assert (bid.needed, bid.fate, bid.shown) == (case.needed, case.fate, case.shown)
-    assert bid.audit is not None
-    assert read_printed(bid.audit, wdp) == case.printed
+    assert (bid.audit and read_printed(bid.audit, wdp)) == case.printed
     below = bid.audit_below
     assert (below and read_printed(below, wdp)) == case.below
 
@@ -624,3 +623,29 @@ def test_many_solves_and_those_that_fail(tmp_path: Path, wdp: str) -> None:
     assert "lost: 61 of 102 bids are missing: bid 1 of Beta, " in seen.err
     assert ", bid 10 of Beta and 51 more\n" in seen.err
     assert json.loads(folder.read("lost/Beta/102.json"))["needed"] == 1000 + 100 * 102
+
+
+def test_lost_bids_as_a_data_frame(wdp: str) -> None:
+    pytest.importorskip("pandas", reason="pandas isn't there")
+    frame = certify(WORKED, wdp).lost("Alpha").to_frame()
+    assert list(frame) == ["bidder", "bid", "amount", "needed", "lacked", "fate", "reason"]
+    assert frame["needed"].tolist() == [62, 42]
+    assert frame["reason"].tolist() == [None, "is dominated by bid 1"]
+
+
+# what is asked for in Python, and what is wrong with it
+WRONG_CALLS = {
+    "there is no bidder Alpa; the nearest name is Alpha": {"bidder": "Alpa"},
+    "bid 1 of Alpha won": {"bidder": "Alpha", "bid": 1},
+    "there is no bid 9": {"bid": 9},
+    "time_limit: -1 is no number of seconds above 0": {"time_limit": -1},
+    "a solver is cbc, highs, or a command with {mps} in it, on one line": {"solver": ""},
+}
+
+
+def test_wrong_arguments_of_lost(wdp: str) -> None:
+    outcome = certify(WORKED, wdp)
+    for message, arguments in WRONG_CALLS.items():
+        with pytest.raises(package.WrongArgument) as caught:
+            outcome.lost(**arguments)  # type: ignore[arg-type]
+        assert str(caught.value) == message

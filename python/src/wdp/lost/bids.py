@@ -39,7 +39,9 @@ class LostBid:
     `audit` is an input that `wdp verify` accepts: that of the award with one other amount, `shown`,
     in place of the bid's, and with the empty group alone. There the bid ties, or it wins; then
     `audit_below` is the same with an amount that is one step lower, and the award's total. If no
-    amount up to the limit is enough, `shown` is the greatest one, and the total the award's.
+    amount up to the limit is enough, `shown` is the greatest one, and the total the award's. Both
+    are None if the bid doesn't fit, or if it would be in no program with the amount that it needs,
+    and one step more is above the limit.
     """
 
     bidder: str

@@ -81,7 +81,7 @@ class LostBidSearch:
         # (a smaller bid of the form brings as much; one step above that the bid wins)
         if needed + step <= MOST_OF_AMOUNT:
             return _show_win(shower, fate, needed=needed, shown=needed + step, step=step)
-        return _Shown(fate, needed=needed, shown=needed, audit=shower.show_loss(trial))
+        return _Shown(fate, needed=needed)
 
     def _find_others(self, key: BidKey) -> Others:
         """What the others reach if the bid wins."""

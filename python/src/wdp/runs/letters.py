@@ -74,7 +74,7 @@ class _PlacedAward:
         """The commands that print of audits of lost bids that these tie or win."""
         checks = []
         for bid in lost:
-            if bid.needed is not None:
+            if bid.needed is not None and bid.shown is not None:
                 path = f"{self.path}{name_audit(BidKey(bid.bidder, bid.bid))}"
                 line = f"{bid.bidder} {bid.bid} {bid.shown}"
                 checks.append(Check(f"wdp verify {path} | grep '^{line}$'", line))
