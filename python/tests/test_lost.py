@@ -633,6 +633,20 @@ def test_lost_bids_as_a_data_frame(wdp: str) -> None:
     assert frame["reason"].tolist() == [None, "is dominated by bid 1"]
 
 
+def test_a_certificate_with_comments(tmp_path: Path, wdp: str) -> None:
+    """Numbers as programs have them, names that come twice, and a comment beyond ASCII."""
+    outcome = certify(WORKED, wdp)
+    certificate = outcome.certificates[0]
+    assert certificate.startswith("bound 1 ")
+    rewritten = certificate.replace("bound 1 ", "# caf\xe9 split 0\n\nbound 1.0 C1 0e1 ", 1)
+    audit = tmp_path / "audit.txt"
+    audit.write_bytes(outcome.audit.replace(certificate.encode(), rewritten.encode(), 1))
+    again = package.Auction.from_audit(audit, program=wdp).outcome
+    assert again is not None
+    assert again.certificates[0] == rewritten
+    assert [bid.needed for bid in again.lost("Alpha")] == [62, 42]
+
+
 # what is asked for in Python, and what is wrong with it
 WRONG_CALLS = {
     "there is no bidder Alpa; the nearest name is Alpha": {"bidder": "Alpa"},

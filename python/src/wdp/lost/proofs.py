@@ -84,7 +84,7 @@ def _parse_terms(fields: Sequence[str]) -> Counter[str]:
 def _list_nodes(certificate: bytes) -> Iterator[_Node]:
     """The nodes of a certificate that `wdp verify` accepts."""
     path: list[_Split] = []
-    for line in split_lines(certificate.decode("ascii")):
+    for line in split_lines(certificate.decode("latin-1")):
         kind, *fields = line.split() or ["#"]
         if kind == "split":
             split = _Split(_parse_number(fields[0]), _parse_terms(fields[1:]))
