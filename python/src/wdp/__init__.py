@@ -7,6 +7,7 @@ adviser's day, and `wdp.example` has an auction. The command wdp-office has an a
 round it.
 """
 from wdp.api import Auction
+from wdp.comparison import Change, Comparison, Standing
 from wdp.lost.bids import Fate, LostBid, LostBids
 from wdp.office.judge import Explained, Finding
 from wdp.outcome import Outcome
@@ -29,6 +30,8 @@ __version__ = VERSION
 __all__ = [
     "Allocation",
     "Auction",
+    "Change",
+    "Comparison",
     "Counts",
     "Explained",
     "Fate",
@@ -50,6 +53,7 @@ __all__ = [
     "Rules",
     "Solution",
     "Solutions",
+    "Standing",
     "Text",
     "Unclear",
     "Winner",

@@ -25,8 +25,9 @@ from wdp.runs.means import Means
 from wdp.runs.stores import MemoryStore
 from wdp.texts import answers, records
 from wdp.texts.accepted import KINDS
+from wdp.texts.forms import list_form_bidders, put_form, read_bidder, remove_forms
 from wdp.texts.parts import Part, add_groups, list_groups, list_names, parse_parts
-from wdp.texts.records import Forms, Groups, Rules, Solution, Text
+from wdp.texts.records import Forms, Groups, Rows, Rules, Solution, Text
 from wdp.texts.refusals import NotFound, Refused, WrongArgument, escape
 from wdp.texts.tables import encode
 
@@ -236,6 +237,32 @@ class Auction:
         ]
         return self._input + b"".join(parts)
 
+    def without(self, name: str) -> Auction:
+        """The auction without a bidder's form, as if the bidder had withdrawn. The rules and the
+        groups stay, so that columns keep their names.
+
+        Raises WrongArgument if the rules have no such bidder, or it has no form.
+        """
+        if name not in self.bidders:
+            raise WrongArgument(f"no bidder is called {records.show_value(name)}")
+        if name not in list_form_bidders(self._input):
+            raise WrongArgument(f"{name} has no form")
+        return self._copy(remove_forms(self._input, [name]))
+
+    def with_form(self, form: Text | tuple[str, Rows], *, missing_as_zero: bool = False) -> Auction:
+        """The auction with this form of a bidder in the place of its earlier one, if it has one: a
+        text, or a pair of a name and bids, as Auction(..) takes forms.
+
+        Raises WrongArgument if this is no form, or the rules have no such bidder.
+        """
+        rules = next((part.text for part in parse_parts(self._input) if part.kind == "rules"), b"")
+        (made,) = records.make_forms([form], rules, missing_as_zero)
+        data = records.make_part("form", made.text)
+        name = next(map(read_bidder, parse_parts(data)))
+        if name not in self.bidders:
+            raise WrongArgument(f"form: no bidder is called {records.show_value(name)}")
+        return self._copy(put_form(self._input, str(name), data.partition(b"\n")[2]))
+
     def explain(self, bids: bool = False) -> Explained:
         """Everything that is wrong with the input: each finding has the refusal, the field and the
         cause. With `bids`, if nothing is wrong, the bids that are in no program, each with the
@@ -385,6 +412,12 @@ class Auction:
         text = mps_text.text if isinstance(mps_text, Program) else mps_text
         output = self._ask(["check"], records.encode_text(text, "program"))
         return answers.read_counts(output)
+
+    def _copy(self, data: bytes) -> Auction:
+        """An auction of another input, with the same program and limit."""
+        copy = Auction.from_text(data, program=self._program, time_limit=self._time_limit)
+        copy._awaits_winners = self._awaits_winners
+        return copy
 
     def _list_names(self, kind: str) -> tuple[str, ...]:
         """The names in the rules' records of a kind."""

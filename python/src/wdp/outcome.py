@@ -6,15 +6,16 @@ from dataclasses import dataclass, field
 
 from wdp.certify import check_libraries
 from wdp.checks import check_seconds, check_solver
+from wdp.comparison import Comparison, compare_reports
 from wdp.lost.bids import LostBids
 from wdp.program import StrPath
 from wdp.publish.making import make_results
 from wdp.publish.names import LONGEST, TITLE, PageOptions, is_line
 from wdp.results import Report, Solutions
 from wdp.runs.contents import format_parts
-from wdp.runs.reports import make_sources
 from wdp.runs.means import Means
-from wdp.texts.parts import list_groups
+from wdp.runs.reports import make_sources
+from wdp.texts.parts import list_groups, list_names, parse_parts
 from wdp.texts.refusals import WrongArgument
 
 
@@ -108,6 +109,14 @@ class Outcome:
             names_path=None if names is None else os.fsdecode(names),
         )
         make_results(self.program, sources, options).write_files(os.fsdecode(folder))
+
+    def compare(self, now: Outcome) -> Comparison:
+        """This outcome, as that of before, beside another one of an auction with the same bidders:
+        who wins, what each winner costs alone, and what it pays.
+        """
+        parts = parse_parts(self.input)
+        rules = next(part.rows() for part in parts if part.kind == "rules")
+        return compare_reports(self.report, now.report, list_names(rules, "bidder"))
 
 
 def _check_line(name: str, text: str | None) -> None:

@@ -6,6 +6,7 @@ finds a better one.
 """
 import argparse
 import os
+from dataclasses import replace
 from functools import partial
 from pathlib import Path
 
@@ -15,21 +16,28 @@ from wdp.commands.arguments import (
     make_line_type,
     make_type,
     parse_award_number,
+    parse_path,
 )
-from wdp.folder import Folder
+from wdp.folder import INPUT, Folder
+from wdp.office.new_forms import check_new_forms, read_new_forms
 from wdp.program import find_program
+from wdp.publish.changes import make_changes_table
+from wdp.publish.judging import judge
 from wdp.reporter import ConsoleReporter
 from wdp.runs.contents import Goals
 from wdp.runs.means import Means
+from wdp.runs.origin import Origin
 from wdp.runs.places import (
     AWARDS,
     name_temporary_folder,
+    run_from_origin,
     run_in_folder,
     run_step_in_folder,
     run_without_folder,
 )
-from wdp.runs.reports import REPORT, UNCERTIFIED, Page
+from wdp.runs.reports import AUDIT, REPORT, UNCERTIFIED, Page
 from wdp.runs.run import Run
+from wdp.texts import accepted
 from wdp.texts.parts import MOST_OF_INPUT
 from wdp.texts.refusals import WrongArgument
 
@@ -73,6 +81,7 @@ def add_arguments(parser: argparse.ArgumentParser) -> None:
         metavar="FILE",
         help="the input, which is copied to DIR/input.txt; `-` is standard input",
     )
+    _add_origin(parser)
     add_shared_arguments(parser)
     _add_goals(parser)
     parser.add_argument("--title", type=make_line_type("title"), help="the page's heading")
@@ -86,6 +95,41 @@ def add_arguments(parser: argparse.ArgumentParser) -> None:
         "--step",
         metavar="STEP",
         help="one step alone, as Snakemake runs them: programs, a group's number, prices or report",
+    )
+
+
+def _add_origin(parser: argparse.ArgumentParser) -> None:
+    """Adds the arguments by which a new folder begins from an earlier one."""
+    parser.add_argument(
+        "--from",
+        dest="origin",
+        type=Path,
+        metavar="OLD",
+        help="begin DIR, a new folder, from the folder of an auction with an award, and print what "
+        "changes",
+    )
+    parser.add_argument(
+        "--without",
+        dest="withdrawn",
+        action="append",
+        default=[],
+        metavar="NAME",
+        help="this bidder has no form in DIR, as if it had withdrawn",
+    )
+    parser.add_argument(
+        "--form",
+        dest="form_paths",
+        action="append",
+        default=[],
+        type=parse_path,
+        metavar="FILE",
+        help="a bidder's form in DIR is this one, a file as `gather` takes it",
+    )
+    parser.add_argument(
+        "--sheet",
+        type=parse_path,
+        metavar="NAME",
+        help="the sheet of each workbook of --form, else the first",
     )
 
 
@@ -159,6 +203,21 @@ def _check_arguments(options: argparse.Namespace) -> None:
         raise WrongArgument("--ties needs certificates, and --no-certify makes none")
     if options.award_number and (options.step or not options.folder):
         raise WrongArgument("--award goes with DIR, and not with --step")
+    if options.origin is None:
+        if options.withdrawn or options.form_paths or options.sheet:
+            raise WrongArgument("--without, --form and --sheet go with --from OLD")
+    else:
+        _check_origin(options)
+
+
+def _check_origin(options: argparse.Namespace) -> None:
+    """Raises WrongArgument if the options don't go with --from."""
+    if not options.folder:
+        raise WrongArgument("--from OLD goes with DIR, the new folder")
+    if not options.withdrawn and not options.form_paths:
+        raise WrongArgument("--from OLD needs --without NAME or --form FILE")
+    if options.input or options.step or options.award_number or not options.is_certified:
+        raise WrongArgument("--from OLD goes without --input, --step, --award and --no-certify")
 
 
 def _needs_folder(options: argparse.Namespace) -> bool:
@@ -187,6 +246,8 @@ def run(options: argparse.Namespace) -> int:
             raise WrongArgument("--input FILE, --title, --currency and --step go with DIR")
         name = REPORT if goals.is_certified else UNCERTIFIED
         return run_without_folder(whole, partial(_take_standard_input, whole), name=name)
+    if options.origin:
+        return _run_from_origin(options, whole)
     data = files.read(options.input, MOST_OF_INPUT) if options.input else None
     if data is not None:
         options.folder.mkdir(parents=True, exist_ok=True)
@@ -197,3 +258,28 @@ def run(options: argparse.Namespace) -> int:
 
 def _take_standard_input(run_of_input: Run) -> None:
     run_of_input.folder.take_input(files.read("-", MOST_OF_INPUT))
+
+
+def _run_from_origin(options: argparse.Namespace, whole: Run) -> int:
+    """Does all in a new folder that begins from an earlier one, and prints what changed; the
+    status.
+    """
+    origin = Origin.open(options.origin)
+    rules = accepted.read(origin.read_input(), str(origin.folder.path(INPUT))).rules
+    forms = read_new_forms(options.form_paths, rules, options.sheet)
+    origin = replace(
+        origin,
+        withdrawn=options.withdrawn,
+        forms={bidder: file.text for bidder, file in forms.items()},
+    )
+    data = origin.make_input()
+    program = whole.means.program
+    origin.check_new(options.folder, data)
+    check_new_forms(program, data, forms)
+    before = origin.read_report(program)
+    status = run_from_origin(whole, origin, data)
+    if whole.folder.has(AUDIT):
+        now = judge(program, "verify", whole.folder.read(AUDIT)).report
+        table = make_changes_table(origin.compare(before, now))
+        files.put(table.format_text().encode())
+    return status

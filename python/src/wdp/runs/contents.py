@@ -5,10 +5,11 @@ from collections.abc import Collection, Iterable, Iterator, Sequence
 from dataclasses import dataclass
 from itertools import count
 
-from wdp import prices
+from wdp import certify, prices
 from wdp.folder import INPUT
 from wdp.groups import Names, parse_names
 from wdp.runs.stores import Store
+from wdp.texts import certificates
 from wdp.texts.parts import add_groups, list_groups, list_names, parse_parts
 from wdp.texts.refusals import Refused
 
@@ -35,6 +36,28 @@ def name_file(kind: str, group: int | str) -> str:
 def format_parts(head: str, texts: Iterable[bytes]) -> bytes:
     """The parts of an audit with this head, one for each text."""
     return b"".join(b"%" + head.encode() + b"\n" + text for text in texts)
+
+
+def find_shown(
+    contents: "Contents", names: Names, numbers: Iterable[int]
+) -> certify.Optimum | None:
+    """What shows the group that leaves out these names, by the first of these groups that helps:
+    each leaves out no others, and if nobody of the rest wins there, no other solution is better
+    here, and the same lines show that.
+    """
+    store = contents.store
+    of_groups = contents.read_names()
+    for number in numbers:
+        solution = name_file("solution", number)
+        certificate = name_file("certificate", number)
+        if not store.has(solution) or not store.has(certificate):
+            continue
+        others = contents.number_bidders(names - of_groups[number])
+        point = store.read(solution)
+        if not certificates.has_bid(point, others):
+            text = certificates.remove_bidders(store.read(certificate), others)
+            return certify.Optimum(point, text, 0)
+    return None
 
 
 @dataclass(frozen=True)

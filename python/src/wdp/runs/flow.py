@@ -8,6 +8,7 @@ from typing import Protocol
 
 from wdp.runs import messages
 from wdp.runs.contents import FIRST_GROUP, PRICES, Contents
+from wdp.runs.earlier import Earlier
 from wdp.runs.means import Means
 from wdp.runs.payments import Pricer
 from wdp.runs.programs import Compiler
@@ -34,13 +35,15 @@ class Flow:
     """The steps of an auction, none of which does again what is there. The library's calls and the
     commands go the same way, with what is done in memory or in a folder, and by another worker.
 
-    A refusal of the input is followed by `hint`.
+    A refusal of the input is followed by `hint`. Groups are taken over from an `earlier` auction
+    where that shows them.
     """
 
     contents: Contents
     means: Means
     worker: Worker
     hint: str = ""
+    earlier: Earlier | None = None
 
     @cached_property
     def compiler(self) -> Compiler:
@@ -89,6 +92,12 @@ class Flow:
         """Has these groups solved and certified, by their numbers; whether all are."""
         kind = "groups" if FIRST_GROUP in lines else "groups for prices"
         with self.means.reporter.times.measure(kind):
+            if self.earlier is not None and self.contents.find_missing(lines):
+                step = partial(
+                    self.earlier.take_over, self.contents, lines, reporter=self.means.reporter
+                )
+                if self.worker.do(step, ""):
+                    return False
             return self.worker.settle(self.settler, lines)
 
     def find_prices(self) -> bool:

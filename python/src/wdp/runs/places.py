@@ -12,6 +12,7 @@ from wdp.folder import INPUT, Folder
 from wdp.office.judge import explain
 from wdp.publish.judging import judge
 from wdp.runs.contents import TIES, name_file
+from wdp.runs.origin import Origin
 from wdp.runs.processes import Processes
 from wdp.runs.reports import AUDIT, Page
 from wdp.runs.run import Run
@@ -47,6 +48,17 @@ def run_in_folder(run: Run, data: bytes | None = None, award: int = 1) -> int:
         if status or award == 1:
             return status
         return _run_for_award(run, award)
+
+
+def run_from_origin(run: Run, origin: Origin, data: bytes) -> int:
+    """Does all in a new folder, of an input that has other forms than the folder it begins from.
+    Gives the status.
+    """
+    origin.check_new(run.folder.where, data)
+    with files.map_errors(str(run.folder.where)):
+        run.folder.where.mkdir(parents=True, exist_ok=True)
+    origin.copy_kept(run.folder)
+    return run_in_folder(replace(run, earlier=origin.make_earlier()), data)
 
 
 def run_step_in_folder(run: Run, step: str) -> int:

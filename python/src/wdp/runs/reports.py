@@ -23,6 +23,7 @@ UNCERTIFIED = "report.uncertified.txt"
 _PAGE = "page.json"
 _RESULTS = "results"
 _NAMES = "names.csv"
+KEPT = (_PAGE, _NAMES)  # the files in which a folder keeps what the office says of its page
 _MOST_OF_PAGE = 100_000  # bytes of page.json
 _WRONG = 3  # the status if an answer can't be the best one
 

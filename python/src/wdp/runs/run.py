@@ -7,6 +7,7 @@ from pathlib import Path
 from wdp.folder import INPUT, Folder
 from wdp.runs import messages
 from wdp.runs.contents import TIES, Contents, Goals
+from wdp.runs.earlier import Earlier
 from wdp.runs.flow import Flow
 from wdp.runs.means import Means
 from wdp.runs.processes import ProcessWorker
@@ -21,7 +22,8 @@ class Run:
     again that is there. `jobs` groups are done at a time.
 
     The folder `is_named` if the user named it: then it gets a page, and messages name its files. A
-    temporary folder isn't named, and neither is one for another award.
+    temporary folder isn't named, and neither is one for another award. What an `earlier` auction
+    has is taken over where it shows a group.
     """
 
     folder: Folder
@@ -30,6 +32,7 @@ class Run:
     is_named: bool
     jobs: int = 1
     page: Page = Page()
+    earlier: Earlier | None = None
 
     @cached_property
     def contents(self) -> Contents:
@@ -45,6 +48,7 @@ class Run:
             self.means,
             worker=ProcessWorker(self.contents, self.means, jobs=self.jobs),
             hint=f"wdp-office explain {path} prints what is wrong",
+            earlier=self.earlier,
         )
 
     def run_all(self) -> int:

@@ -9,9 +9,8 @@ from typing import TYPE_CHECKING
 from wdp import certify, groups, solve, steps
 from wdp.certify.limits import LimitReached
 from wdp.office.faults import format_count
-from wdp.runs.contents import FIRST_GROUP, ROWS, TIES, Contents, name_file
+from wdp.runs.contents import FIRST_GROUP, ROWS, TIES, Contents, find_shown, name_file
 from wdp.runs.means import Means
-from wdp.texts import certificates
 from wdp.texts.refusals import NotSolved, Refused
 
 if TYPE_CHECKING:
@@ -112,17 +111,7 @@ class Settler:
         if self.means.solver is None and store.has(name_file("answer", group)):
             return None  # (the caller gave this group's solution)
         names = self.contents.read_names()
-        for number in groups.find_smaller(names, group):
-            solution = name_file("solution", number)
-            certificate = name_file("certificate", number)
-            if not store.has(solution) or not store.has(certificate):
-                continue
-            others = self.contents.number_bidders(names[group] - names[number])
-            point = store.read(solution)
-            if not certificates.has_bid(point, others):
-                text = certificates.remove_bidders(store.read(certificate), others)
-                return certify.Optimum(point, text, 0)
-        return None
+        return find_shown(self.contents, names[group], groups.find_smaller(names, group))
 
     def _make_problem(self, group: int, program: bytes) -> Problem:
         """The problem of a group, of which nothing is read if that of group 1 is there, with what
