@@ -9,3 +9,4 @@ pub mod PartsFacts
 pub mod PlaceFacts
 pub mod TextFacts
 pub mod UnmetFacts
+mod ShownFacts

@@ -1,6 +1,9 @@
-//! Laws over the definitions alone: all faults of an input begin with the one that is reported.
+//! Laws over the definitions alone: all faults of an input begin with the one that is reported, and the bytes that a fault keeps show the whole text.
 
+ghost use Rattle.std.specs.Prelude.{◌≡◌, ℕ, List, take};
 ghost use Rattle.auction_input.specs.Input.{Input};
+ghost use Rattle.auction_terms.specs.declared.limits.TheConstants.{FRONT_LEN};
+ghost use Rattle.input_faults.specs.Shown.{shown_text};
 ghost use Rattle.auction_input.specs.Wanted.{parsed_taken};
 ghost use Rattle.input_faults.specs.FaultsAs.{BeginWith, judged_as};
 ghost use Rattle.input_faults.specs.InputFaults.{input_faults, refusal_of};
@@ -10,4 +13,9 @@ ghost use Rattle.auction_input.specs.declared.request.Request.{Request};
 pub fn all_faults_begin_with_the_one_that_is_reported()
     ensures { (asked : Request) (input : Input)
         → BeginWith (judged_as refusal_of (input_faults asked input)) (parsed_taken asked input) }
+{}
+
+/// What is shown of a text is what is shown of the first bytes that a fault keeps of it.
+pub fn a_text_is_shown_by_its_first_bytes()
+    ensures { (text : List ℕ) → shown_text (take FRONT_LEN text) ≡ shown_text text }
 {}
