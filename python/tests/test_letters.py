@@ -25,7 +25,7 @@ COMMAND = re.compile(r"^\$ (.*)\n((?:[^$\n].*\n)*)", re.MULTILINE)
 
 
 def write_letters(folder: AuctionFolder, *words: object) -> CommandResult:
-    return run("letters", folder.where, *words, env=folder.make_environment())
+    return run("letters", folder.where, "--wdp", folder.wdp, *words)
 
 
 def read_letter(folder: AuctionFolder, name: str) -> str:

@@ -567,7 +567,8 @@ WRONG = """
 
 @pytest.mark.parametrize(("words", "message"), parse_rows(WRONG))
 def test_there_is_no_such_lost_bid(words: str, message: str, award: AuctionFolder) -> None:
-    assert find_lost(award, *words.split()) == (2, "", f"{message}\n")
+    seen = run("lost", award.where, "--wdp", award.wdp, *words.split())
+    assert seen == (2, "", f"{message}\n")
     assert not award.has("lost")
 
 
