@@ -529,7 +529,6 @@ def test_the_command_leaves_an_audit_for_each_bid(award: AuctionFolder, wdp: str
 def test_nothing_of_it_is_in_what_is_published(award: AuctionFolder) -> None:
     before = {name: award.read(f"results/{name}") for name in list_files(award.where / "results")}
     assert find_lost(award).status == 0
-    assert award.read_messages("--ties", "--quiet")
     after = {name: award.read(f"results/{name}") for name in list_files(award.where / "results")}
     assert after == before
 
@@ -591,10 +590,8 @@ def test_the_names_of_the_office(award: AuctionFolder) -> None:
     award.put("names.csv", b"Alpha,Alpha plc\nA,800 MHz\n")
     award.put("page.json", b'{"title": "Two bands", "currency": "GBP"}\n')
     text = find_lost(award, "--bidder", "Alpha").out
-    assert text.startswith(
-        "Lost bids of Alpha plc (Alpha)\n\nBid  Lots                  Amount, GBP"
-    )
-    assert "\n  3  1 of 800 MHz, 1 of B  " in text
+    assert text.startswith("Lost bids of Alpha plc (Alpha)\n\nBid  Amount, GBP  Needed, GBP  ")
+    assert "  1 of 800 MHz, 1 of B\n" in text
     assert "in steps of 1 GBP, " in text
 
 
@@ -616,13 +613,14 @@ def test_many_solves_and_those_that_fail(tmp_path: Path, wdp: str) -> None:
     folder.read_messages("--no-prices", "--quiet")
     message = "lost: 203 solves for 203 lost bids; for more than 100 say --bidder NAME or --bid J\n"
     assert find_lost(folder) == (2, "", message)
-    words = ["--bidder", "Beta", "--quiet", "--solver-command", "false {mps} {out}"]
+    # (of bids for 50 lots: 52 bids of the other bidder fit beside each, of which a solver is asked)
+    words = ["--bid", 50, "--quiet", "--solver-command", "false {mps} {out}"]
     seen = find_lost(folder, *words)
-    assert seen.status == 1
-    assert "lost: bid 7 of Beta: " in seen.err
-    # (no solver is asked where 40 bids of Alpha or fewer fit, beside 62 lots of Beta or more)
-    assert "lost: 61 of 102 bids are missing: bid 1 of Beta, " in seen.err
-    assert ", bid 10 of Beta and 51 more\n" in seen.err
+    assert (seen.status, seen.out) == (1, "")
+    assert "lost: bid 50 of Beta: false ended with status 1" in seen.err
+    assert seen.err.endswith("lost: 2 of 2 bids are missing: bid 50 of Alpha, bid 50 of Beta\n")
+    # (of a bid for all lots nobody is asked)
+    assert find_lost(folder, "--bidder", "Beta", "--bid", 102, "--quiet").status == 0
     assert json.loads(folder.read("lost/Beta/102.json"))["needed"] == 1000 + 100 * 102
 
 

@@ -29,7 +29,6 @@ if TYPE_CHECKING:
 LOST = "lost"  # the folder of what was found
 MOST_SOLVES = 100  # that are made if nothing says of which bids
 _AWARD = f"{LOST}/of_award.txt"  # which award that is of (no bidder has such a name)
-_MISSING_SHOWN = 10  # bids that a message names
 
 
 def name_record(key: BidKey) -> str:
@@ -171,11 +170,10 @@ class LostRun:
         if not missing:
             self.means.reporter.say(f"what they lacked is in {where}, with an audit for each")
             return 0
-        listed = ", ".join(map(_name_step, missing[:_MISSING_SHOWN]))
-        more = len(missing) - _MISSING_SHOWN
-        rest = f" and {more} more" if more > 0 else ""
-        count = f"{len(missing)} of {format_count(len(keys), 'bid')} are missing"
-        self.means.reporter.say(f"{count}: {listed}{rest}")
+        listed = ", ".join(map(_name_step, missing))
+        are = "is" if len(missing) == 1 else "are"
+        count = f"{len(missing)} of {format_count(len(keys), 'bid')} {are} missing"
+        self.means.reporter.say(f"{count}: {listed}")
         return 1
 
 
