@@ -35,6 +35,7 @@ from commands import (
     finish,
     parse_rows,
     read_text,
+    run,
     run_program,
     start,
     wait_for,
@@ -108,6 +109,25 @@ def test_nothing_is_done_again(paged: PagedAuction) -> None:
     assert "4 groups, 4 done" in paged.read_messages("--ties")
     assert paged.read_outcome() == before
     assert (paged.where / "certificates/1.txt").stat().st_mtime_ns == made
+
+
+def test_the_audit_alone_makes_the_same_results(paged: PagedAuction, tmp_path: Path) -> None:
+    """Although a group was added to those of the input."""
+    alone = tmp_path / "alone"
+    audit = paged.where / "audit.txt"
+    assert b"# added\n" in paged.read("audit.txt")
+    words = ["--output", alone, "--title", "Lots & <more>", "--currency", "GBP"]
+    assert run("results", audit, *words).status == 0
+    paths = list(paged.where.glob("results/*"))
+    assert sorted(os.listdir(alone)) == sorted(path.name for path in paths)
+    for path in paths:
+        assert (alone / path.name).read_bytes() == path.read_bytes(), path
+
+
+def test_an_audit_is_no_input(auction: AuctionFolder, paged: PagedAuction) -> None:
+    auction.put("input.txt", paged.read("audit.txt"))
+    said = auction.read_messages(status=1)
+    assert re.fullmatch("auction: .*/input.txt is an audit, .* wdp-office results .*\n", said)
 
 
 def test_title_and_currency_are_kept(paged: PagedAuction) -> None:

@@ -15,6 +15,7 @@ from commands import (
     hide_library,
     limit_files,
     read_text,
+    run,
     run_program,
 )
 from results_folder import (
@@ -372,6 +373,26 @@ def test_the_page_names_the_program(folder: ResultsFolder, wdp: str) -> None:
 def test_the_audit_is_published(folder: ResultsFolder) -> None:
     folder.publish_tie(TIE_AUDIT)
     assert (folder.out / "audit.txt").read_text() == TIE_AUDIT
+
+
+@pytest.mark.parametrize("audit", [TIE_AUDIT, TIED_AUDIT])
+def test_an_audit_alone_makes_the_same(folder: ResultsFolder, audit: str) -> None:
+    folder.publish_tie(audit, "--title", "One lot", "--currency", "GBP")
+    alone = folder.folder / "alone"
+    words = ["--output", alone, "--title", "One lot", "--currency", "GBP"]
+    result = run("results", folder.write("audit.txt", audit), *words)
+    assert result == (0, "", f"results: 7 files in {alone}\n")
+    assert sorted(os.listdir(alone)) == sorted([*FILES, "audit.txt"])
+    for name in os.listdir(alone):
+        assert (alone / name).read_bytes() == (folder.out / name).read_bytes(), name
+
+
+def test_an_audit_alone_has_the_award_that_was_drawn(folder: ResultsFolder) -> None:
+    folder.publish_tie(TIED_AUDIT, "--drawn", "2")
+    alone = folder.folder / "alone"
+    audit = folder.write("audit.txt", TIED_AUDIT)
+    assert run("results", audit, "--drawn", "2", "--output", alone).status == 0
+    assert (alone / "results.json").read_bytes() == (folder.out / "results.json").read_bytes()
 
 
 # Alpha offers 11 and Beta 10: if Beta's part is no smaller than Alpha's, halves of both are the

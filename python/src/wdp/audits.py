@@ -1,15 +1,19 @@
-"""The awards that an audit lists: group 1's solution, and the solutions that tie with it, numbered
-as they were found.
+"""An audit: the awards that it lists, and the input at its end.
 
+The awards are group 1's solution, and the solutions that tie with it, numbered as they were found.
 If another than award 1 is first, a comment at the head of each of these solutions, as `# award 3`,
 says its number: it is by these numbers that one is drawn.
+
+The groups that were added to those of the input, to show the prices, come last, and a comment at
+the head of the solution of each says so.
 """
 import re
 from collections.abc import Iterable, Sequence
 from dataclasses import dataclass
 
 from wdp.results import Allocation, Winner
-from wdp.texts.parts import Part, parse_parts
+from wdp.texts.accepted import KINDS
+from wdp.texts.parts import Part, find_end_of_groups, list_groups, parse_parts
 from wdp.texts.refusals import Refused, WrongArgument
 
 # bytes of an audit: the input, and solutions and certificates of each group
@@ -17,6 +21,9 @@ MOST_OF_AUDIT = 2**31
 # kinds of parts; `weights` is of an earlier version
 _KINDS_OF_PRICES = ("prices", "cover", "rule", "weights")
 _MARK = re.compile(rb"# award ([1-9][0-9]?)\n")
+# of the solution of a group that was added; by the second, the line before its own was ended
+_ADDED = b"# added\n"
+_ADDED_TO_UNENDED = b"# added after an unended line\n"
 _BID = re.compile(r"bid ([0-9]+) ")
 
 
@@ -41,6 +48,48 @@ def remove_prices(audit: bytes) -> bytes:
     one.
     """
     return join_parts(part for part in parse_parts(audit) if part.kind not in _KINDS_OF_PRICES)
+
+
+def is_audit(text: bytes) -> bool:
+    """Whether a text has certificates, as audits and no inputs have."""
+    return any(part.kind == "certificate" for part in parse_parts(text))
+
+
+def refuse_audit(text: bytes, name: str) -> None:
+    """Raises Refused if the text of this file is an audit, and no input."""
+    if is_audit(text):
+        shown = f"wdp-office results {name} --output DIR makes its tables and page"
+        raise Refused(f"{name} is an audit, which has its winners, and no input; {shown}")
+
+
+def mark_added(solutions: Iterable[bytes], data: bytes) -> list[bytes]:
+    """The solutions of the groups that were added to an input, with the comments that say so."""
+    is_ended = data.endswith(b"\n", 0, find_end_of_groups(data))
+    first = _ADDED if is_ended else _ADDED_TO_UNENDED
+    return [(_ADDED if index else first) + solution for index, solution in enumerate(solutions)]
+
+
+def find_input(audit: bytes, name: str) -> bytes:
+    """The input at the end of an audit, without the groups that comments say were added to it.
+    Comments that can't be right count for nothing. `name` is the audit's file.
+
+    Raises Refused if the audit doesn't end with an input.
+    """
+    parts = list(parse_parts(audit))
+    first = next((index for index, part in enumerate(parts) if part.kind in KINDS), 0)
+    if not first or any(part.kind not in KINDS for part in parts[first:]):
+        raise Refused(f"{name}: it doesn't end with the input, after solutions and certificates")
+    data = audit[parts[first - 1].end :]
+    solutions = [part.text for part in parts if part.kind == "solution"]
+    added = [text for text in solutions if text.startswith((_ADDED, _ADDED_TO_UNENDED))]
+    has_own = len(added) < len(list_groups(data)) == len(solutions)
+    if not added or not has_own or added != solutions[-len(added) :]:
+        return data
+    end = find_end_of_groups(data)
+    kept = b"".join(data[:end].splitlines(keepends=True)[: -len(added)])
+    if added[0].startswith(_ADDED_TO_UNENDED):
+        kept = kept.removesuffix(b"\n")
+    return kept + data[end:]
 
 
 def find_mark(solution: bytes) -> bytes:

@@ -12,7 +12,7 @@ from dataclasses import dataclass
 from pathlib import Path
 from typing import IO
 
-from wdp import files
+from wdp import audits, files
 from wdp.texts.refusals import Refused
 
 INPUT = "input.txt"
@@ -85,7 +85,9 @@ class Folder:
             current = files.read(str(path), _MOST_OF_FILE, regular=True)
             if data not in (None, current) and (has_others or not self.has(INPUT)):
                 raise another
-            data = current if data is None else data
+            if data is None:
+                audits.refuse_audit(current, str(path))
+                data = current
         if not has_others:
             self.leave(INPUT, data)
         elif self.has(INPUT):

@@ -14,7 +14,7 @@ from wdp.publish.names import LONGEST, TITLE, PageOptions, is_line
 from wdp.results import Report, Solutions
 from wdp.runs.contents import format_parts
 from wdp.runs.means import Means
-from wdp.runs.reports import make_sources
+from wdp.runs.reports import make_sources, print_report
 from wdp.texts.parts import list_groups, list_names, parse_parts
 from wdp.texts.refusals import WrongArgument
 
@@ -97,17 +97,18 @@ class Outcome:
             _check_line(name, text)
         count = len(list_groups(self.input))
         solutions = [text.encode() for text in self.solutions.texts[:count]]
-        sources = make_sources(
+        report = print_report(
             self.program,
             data=self.input,
             solutions=format_parts("solution", solutions),
-            audit=self.audit,
+            is_certified=True,
         )
         options = PageOptions(
             title=title or TITLE,
             currency=currency,
             names_path=None if names is None else os.fsdecode(names),
         )
+        sources = make_sources(self.input, report, self.audit)
         make_results(self.program, sources, options).write_files(os.fsdecode(folder))
 
     def compare(self, now: Outcome) -> Comparison:

@@ -10,7 +10,7 @@ from dataclasses import replace
 from functools import partial
 from pathlib import Path
 
-from wdp import certify, files, solve, steps
+from wdp import audits, certify, files, solve, steps
 from wdp.commands.arguments import (
     add_solver_options,
     make_line_type,
@@ -248,7 +248,7 @@ def run(options: argparse.Namespace) -> int:
         return run_without_folder(whole, partial(_take_standard_input, whole), name=name)
     if options.origin:
         return _run_from_origin(options, whole)
-    data = files.read(options.input, MOST_OF_INPUT) if options.input else None
+    data = _read_input(options.input) if options.input else None
     if data is not None:
         options.folder.mkdir(parents=True, exist_ok=True)
     if options.step:
@@ -256,8 +256,15 @@ def run(options: argparse.Namespace) -> int:
     return run_in_folder(whole, data, award=options.award_number or 1)
 
 
+def _read_input(path: str) -> bytes:
+    """The input in a file; Refused if it is an audit."""
+    data = files.read(path, MOST_OF_INPUT)
+    audits.refuse_audit(data, path)
+    return data
+
+
 def _take_standard_input(run_of_input: Run) -> None:
-    run_of_input.folder.take_input(files.read("-", MOST_OF_INPUT))
+    run_of_input.folder.take_input(_read_input("-"))
 
 
 def _run_from_origin(options: argparse.Namespace, whole: Run) -> int:

@@ -1,6 +1,8 @@
 """Makes what can be published of an auction: tables as CSV and JSON, and an HTML page that loads
 nothing.
 
+In place of INPUT and REPORT an audit may come alone, which `wdp verify` reads: it has both.
+
 INPUT is the auction's input, without solutions, and REPORT is what `wdp report` printed; wdp has to
 print it again from the winners in it. DIR gets bidders.csv, categories.csv, pools.csv, groups.csv,
 results.json and results.html, all or none of them. --text prints the same tables for people, with
@@ -18,11 +20,11 @@ wrong.
 """
 import argparse
 
-from wdp.audits import MOST_OF_AUDIT
+from wdp.audits import MOST_OF_AUDIT, is_audit
 from wdp.commands.arguments import make_line_type, parse_award_number, parse_path
 from wdp.files import put, read, tell
 from wdp.program import find_program
-from wdp.publish.judging import AuditSource, Source, Sources
+from wdp.publish.judging import AuditSource, Source, Sources, take_audit_alone
 from wdp.publish.making import make_results
 from wdp.publish.names import TITLE, PageOptions
 from wdp.publish.sentences import describe_certificates
@@ -32,8 +34,10 @@ from wdp.texts.refusals import WrongArgument
 
 def add_arguments(parser: argparse.ArgumentParser) -> None:
     """Adds the arguments of the command."""
-    parser.add_argument("input", metavar="INPUT")
-    parser.add_argument("report", metavar="REPORT")
+    parser.add_argument(
+        "input", metavar="INPUT", help="the input of the auction; or its audit, without REPORT"
+    )
+    parser.add_argument("report", metavar="REPORT", nargs="?", help="what `wdp report` printed")
     parser.add_argument(
         "--output",
         metavar="DIR",
@@ -73,12 +77,20 @@ def _check_arguments(options: argparse.Namespace) -> None:
     """Raises WrongArgument if the options don't go together."""
     if options.output is None and not options.text:
         raise WrongArgument("one of these options is needed: --output DIR, --text")
-    if options.drawn is not None and not options.audit:
+    if options.report is None and options.audit:
+        raise WrongArgument("--audit FILE goes with INPUT and REPORT; an audit alone comes first")
+    if options.report and options.drawn is not None and not options.audit:
         raise WrongArgument("--drawn needs --audit, which has the award that was drawn")
 
 
 def _read_sources(options: argparse.Namespace) -> Sources:
     """Reads the files that results are made of."""
+    if options.report is None:
+        text = read(options.input, MOST_OF_AUDIT)
+        if not is_audit(text):
+            why = "it has no certificates, so it is no audit; REPORT is missing"
+            raise WrongArgument(f"{options.input}: {why}")
+        return take_audit_alone(AuditSource(text, name=options.input, drawn=options.drawn))
     data = read(options.input, MOST_OF_INPUT)
     report = read(options.report, MOST_OF_INPUT)
     audit = None

@@ -33,11 +33,17 @@ class AuditSource(Source):
 
 @dataclass(frozen=True)
 class Sources:
-    """What results are made of: an auction's input, its report and perhaps an audit."""
+    """What results are made of: an auction's input, and its report or an audit or both."""
 
     input: Source
-    report: Source
+    report: Source | None = None
     audit: AuditSource | None = None
+
+
+def take_audit_alone(audit: AuditSource) -> Sources:
+    """What results are made of if there is an audit alone; Refused if it has no input at its end."""
+    data = audits.find_input(audit.text, audit.name)
+    return Sources(input=Source(data, name=audit.name), audit=audit)
 
 
 @dataclass(frozen=True)
@@ -107,14 +113,16 @@ def _format_solutions(report: Report, auction: Accepted) -> bytes:
     return "".join(lines).encode()
 
 
-def judge_report(program: str, sources: Sources, auction: Accepted) -> PublishedAward:
-    """The award of a report without an audit.
+def judge_report(
+    program: str, sources: Sources, source: Source, *, auction: Accepted
+) -> PublishedAward:
+    """The award of a report without an audit, of this source.
 
     Raises Refused if the program doesn't print the report of its winners, or if it contradicts
     itself.
     """
-    text = sources.report.text
-    name = sources.report.name
+    text = source.text
+    name = source.name
     try:
         report = read_report(text, ExpectedAnswer(sources.input.text), is_certified=False)
         solutions = _format_solutions(report, auction)
@@ -149,9 +157,9 @@ def judge_audit(
     """The award of an audit that is published: the one that comes first in it, or the one that was
     drawn.
 
-    The report is that of the award that comes first or, if an award was drawn, perhaps that of
-    award 1. `left_out` are the input's bids in no program, each with the bidder's name and why.
-    Raises Refused if the audit isn't one of the input, if the program refuses it, or if it prints
+    The report, if there is one, is that of the award that comes first or, if an award was drawn,
+    perhaps that of award 1. `left_out` are the input's bids in no program, each with the bidder's
+    name and why. Raises Refused if the audit isn't one of the input, if the program refuses it, or if it prints
     another report of it, and WrongArgument if there is nothing to draw, or no such award.
     """
     added_bytes = _count_added_bytes(sources.input.text, audit)
@@ -190,7 +198,8 @@ def _check_audit(
     """
     judgements = [judgement] if audit.drawn is None else [judgement, listed]
     count = len(list_groups(sources.input.text))
-    if sources.report.text not in [cut_report(each.printed, count) for each in judgements]:
+    reports = [cut_report(each.printed, count) for each in judgements]
+    if sources.report is not None and sources.report.text not in reports:
         raise Refused(f"{audit.name}: what wdp verify prints of it isn't the report")
     if audit.drawn is not None and len(listed.report.awards) == 1:
         raise WrongArgument(f"{audit.name} shows no tie, so that nothing was drawn")

@@ -19,7 +19,7 @@ from wdp.texts import accepted
 from wdp.texts.accepted import Accepted
 from wdp.texts.answers import cut_report
 from wdp.texts.parts import find_end_of_groups
-from wdp.texts.refusals import Refused
+from wdp.texts.refusals import Refused, WrongArgument
 from wdp.texts.tables import compute_digest
 
 
@@ -36,10 +36,12 @@ def make_results(program: str, sources: Sources, options: PageOptions) -> Result
     names: dict[str, str] = {}
     if options.names_path:
         names = read_names(options.names_path, auction.rules, regular=options.regular_names)
-    if sources.audit is None:
-        award = judge_report(program, sources, auction)
-    else:
+    if sources.audit is not None:
         award = judge_audit(program, sources, sources.audit, left_out=left_out)
+    elif sources.report is not None:
+        award = judge_report(program, sources, sources.report, auction=auction)
+    else:
+        raise WrongArgument(f"{sources.input.name}: results need a report or an audit")
     made = _make_figures(
         auction,
         award,

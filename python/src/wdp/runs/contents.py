@@ -5,7 +5,7 @@ from collections.abc import Collection, Iterable, Iterator, Sequence
 from dataclasses import dataclass
 from itertools import count
 
-from wdp import certify, prices
+from wdp import audits, certify, prices
 from wdp.folder import INPUT
 from wdp.groups import Names, parse_names
 from wdp.runs.stores import Store
@@ -228,9 +228,15 @@ class Contents:
         if with_prices and self.has_prices():
             added = self.list_added()
             shown = self.store.read(PRICES).rpartition(_HEAD_OF_GROUPS)[0]
-        audit = b""
-        for kind in ("solution", "certificate"):
-            names = [name_file(kind, group) for group in [*groups, *added]]
-            audit += format_parts(kind, map(self.store.read, names))
-        data = add_groups(self.store.read(INPUT), added.values())
-        return audit + shown + self.format_ties() + data
+        data = self.store.read(INPUT)
+        solutions = [
+            *self._read_all("solution", groups),
+            *audits.mark_added(self._read_all("solution", added), data),
+        ]
+        certificates = self._read_all("certificate", [*groups, *added])
+        audit = format_parts("solution", solutions) + format_parts("certificate", certificates)
+        return audit + shown + self.format_ties() + add_groups(data, added.values())
+
+    def _read_all(self, kind: str, groups: Iterable[int]) -> list[bytes]:
+        """The files of this kind of these groups."""
+        return [self.store.read(name_file(kind, group)) for group in groups]

@@ -62,19 +62,22 @@ def _choose_line(fields: dict[str, object], name: str) -> str | None:
     return text if isinstance(text, str) and is_line(text, longest) else None
 
 
-def make_sources(program: str, *, data: bytes, solutions: bytes, audit: bytes | None) -> Sources:
-    """What results are made of, of an input, the parts with its solutions, and if these are
-    certified the audit: the program prints the report.
+def print_report(program: str, *, data: bytes, solutions: bytes, is_certified: bool) -> bytes:
+    """What the program reports of an input and the parts with its solutions.
 
-    NotSolved if there is no audit, and the report shows by itself that an answer isn't the best
-    one.
+    NotSolved if these aren't certified, and the report shows by itself that one isn't the best.
     """
     judgement = judge(program, "report", solutions + data)
-    if audit is None and (fault := find_contradiction(judgement.report)):
+    if not is_certified and (fault := find_contradiction(judgement.report)):
         raise NotSolved(fault, _WRONG)
+    return judgement.printed
+
+
+def make_sources(data: bytes, report: bytes, audit: bytes | None) -> Sources:
+    """What results are made of: an input, its report, and if that is certified the audit."""
     return Sources(
         input=Source(data, name="the input"),
-        report=Source(judgement.printed, name="the report"),
+        report=Source(report, name="the report"),
         audit=None if audit is None else AuditSource(audit, name="the audit"),
     )
 
@@ -97,17 +100,19 @@ class Publisher:
         shows by itself that an answer isn't the best one.
         """
         is_certified = self.contents.goals.is_certified
-        sources = make_sources(
+        data = self.folder.read(INPUT)
+        report = print_report(
             self.means.program,
-            data=self.folder.read(INPUT),
+            data=data,
             solutions=self.contents.format_solutions(),
-            audit=self.contents.format_audit() if is_certified else None,
+            is_certified=is_certified,
         )
-        self._write_results(sources)
-        if sources.audit is None:
-            self._leave({UNCERTIFIED: sources.report.text})
+        audit = self.contents.format_audit() if is_certified else None
+        self._write_results(make_sources(data, report, audit))
+        if audit is None:
+            self._leave({UNCERTIFIED: report})
         else:
-            self._leave({AUDIT: sources.audit.text, REPORT: sources.report.text})
+            self._leave({AUDIT: audit, REPORT: report})
 
     def _leave(self, texts: dict[str, bytes]) -> None:
         """Leaves these files in the place of all of an earlier run, if they aren't the same."""
