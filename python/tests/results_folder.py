@@ -6,6 +6,7 @@ import hashlib
 import json
 import os
 import re
+import subprocess
 from html import unescape
 from pathlib import Path
 from typing import Any, NamedTuple
@@ -121,6 +122,14 @@ class ResultsFolder:
         """The first line of each table as CSV."""
         tables = [self.out / name for name in FILES if name.endswith(".csv")]
         return [table.read_text("utf-8-sig").splitlines()[0] for table in tables]
+
+
+def make_key(folder: Path, name: str, passphrase: str = "") -> Path:
+    """A private key, with the public one beside it."""
+    path = folder / name
+    make = ["ssh-keygen", "-q", "-t", "ed25519", "-N", passphrase, "-C", "", "-f", str(path)]
+    subprocess.run(make, check=True, stdin=subprocess.DEVNULL)
+    return path
 
 
 def read_example(name: str) -> tuple[str, str]:

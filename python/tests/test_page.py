@@ -17,6 +17,7 @@ from results_folder import (
     TIED_AUDIT,
     Page,
     ResultsFolder,
+    make_key,
     read_audit,
     read_example,
 )
@@ -137,7 +138,7 @@ def make_many() -> Figures:
 
 
 def publish_page(name: str, folder: ResultsFolder) -> str:
-    """The page of an example, of the tie, of the longest names and amounts, or of figures that are
+    """The page of an example, of the tie, which is signed, of the longest names and amounts, or of figures that are
     made.
     """
     made = {"many": make_many, "nobody": lambda: make_figures({"A": 4, "B": 0}, [LOSER])}
@@ -147,6 +148,7 @@ def publish_page(name: str, folder: ResultsFolder) -> str:
     audit: str | None = None
     if name == "tie":
         data, report, audit = TIE, TIE_REPORT, TIED_AUDIT
+        options += ["--sign", make_key(folder.folder, "key")]
     elif name == "long":
         data, report, audit = read_audit("long.txt")
         options += ["--names", folder.write("names.csv", LONG_NAME)]

@@ -11,6 +11,7 @@ from wdp.lost.bids import LostBids
 from wdp.program import StrPath
 from wdp.publish.making import make_results
 from wdp.publish.names import LONGEST, TITLE, PageOptions, is_line
+from wdp.publish.signing import Signer
 from wdp.results import Report, Solutions
 from wdp.runs.contents import format_parts
 from wdp.runs.means import Means
@@ -84,14 +85,19 @@ class Outcome:
         title: str | None = None,
         currency: str | None = None,
         names: StrPath | None = None,
+        key: StrPath | None = None,
     ) -> None:
         """Writes what can be published into a folder, as `wdp-office results` does: an HTML page
         that loads nothing, tables as CSV and JSON, and the audit, with which anyone can repeat it.
 
         `title` is the page's heading, `currency` the unit of all amounts, and `names` a file with a
-        row `code,name` for each bidder or category that has another name. The folder must be new,
-        or have only files of an earlier page. Raises Refused if a file isn't written or can't be
-        read, WrongArgument for a title or currency that isn't a line, and Missing without jinja2.
+        row `code,name` for each bidder or category that has another name. With `key`, a file with
+        a private key of OpenSSH, `ssh-keygen` signs the files. The folder must be new, or have only
+        files of an earlier page, and if that is signed this one must be.
+
+        Raises Refused if a file isn't written or can't be read, or isn't signed, WrongArgument for
+        a title or currency that isn't a line, Missing without jinja2, and NotFound without
+        ssh-keygen.
         """
         for name, text in (("title", title), ("currency", currency)):
             _check_line(name, text)
@@ -109,7 +115,8 @@ class Outcome:
             names_path=None if names is None else os.fsdecode(names),
         )
         sources = make_sources(self.input, report, self.audit)
-        make_results(self.program, sources, options).write_files(os.fsdecode(folder))
+        signer = None if key is None else Signer(os.fsdecode(key))
+        make_results(self.program, sources, options).write_files(os.fsdecode(folder), signer)
 
     def compare(self, now: Outcome) -> Comparison:
         """This outcome, as that of before, beside another one of an auction with the same bidders:

@@ -13,6 +13,9 @@ Then each total is certified, what wdp prints after REPORT of prices and of othe
 and DIR also gets audit.txt, with which anyone can repeat the audit. Nothing else certifies a
 result.
 
+--sign KEY adds SHA256SUMS, which has the SHA-256 of each file, and SHA256SUMS.sig, its signature by
+OpenSSH. The page says how to check both.
+
 --drawn N publishes award N of those that tie, if it was drawn, with an audit in which it comes
 first.
 Exit status: 0 the files are written; 1 a text is refused or a package is missing; 2 the options are
@@ -28,6 +31,7 @@ from wdp.publish.judging import AuditSource, Source, Sources, take_audit_alone
 from wdp.publish.making import make_results
 from wdp.publish.names import TITLE, PageOptions
 from wdp.publish.sentences import describe_certificates
+from wdp.publish.signing import Signer
 from wdp.texts.parts import MOST_OF_INPUT
 from wdp.texts.refusals import WrongArgument
 
@@ -71,12 +75,20 @@ def add_arguments(parser: argparse.ArgumentParser) -> None:
         metavar="N",
         help="publish this award of those that tie, since it was drawn",
     )
+    parser.add_argument(
+        "--sign",
+        metavar="KEY",
+        type=parse_path,
+        help="sign the files by ssh-keygen with this private key: SHA256SUMS and SHA256SUMS.sig",
+    )
 
 
 def _check_arguments(options: argparse.Namespace) -> None:
     """Raises WrongArgument if the options don't go together."""
     if options.output is None and not options.text:
         raise WrongArgument("one of these options is needed: --output DIR, --text")
+    if options.sign and options.output is None:
+        raise WrongArgument("--sign KEY goes with --output DIR")
     if options.report is None and options.audit:
         raise WrongArgument("--audit FILE goes with INPUT and REPORT; an audit alone comes first")
     if options.report and options.drawn is not None and not options.audit:
@@ -107,11 +119,14 @@ def _read_sources(options: argparse.Namespace) -> Sources:
 def run(options: argparse.Namespace) -> int:
     """Makes the results, and writes and prints what is asked for; the status."""
     _check_arguments(options)
+    signer = Signer(options.sign) if options.sign else None
+    if signer is not None:
+        signer.check()
     sources = _read_sources(options)
     page = PageOptions(title=options.title, currency=options.currency, names_path=options.names)
     results = make_results(find_program(options.program), sources, page)
     if options.output is not None:
-        count = results.write_files(options.output)
+        count = results.write_files(options.output, signer)
         tell(f"results: {count} files in {options.output}\n")
     if options.text:
         put(results.format_text().encode())

@@ -1,15 +1,17 @@
 """An auction's results as they are published: a page, tables as CSV and JSON, and the audit."""
 import json
+import os
 from dataclasses import dataclass
 from fractions import Fraction
 from pathlib import Path
 
-from wdp.files import write_folder
+from wdp.files import Unreadable, write_folder
 from wdp.office.faults import format_lines, format_number
 from wdp.publish.csv_files import make_csv_files
 from wdp.publish.figures import Figures
 from wdp.publish.picture import make_picture
 from wdp.publish.sentences import make_sentences
+from wdp.publish.signing import NAMESPACE, SIGNATURE, SUMS, Signer, format_sums
 from wdp.publish.tables import BLANKS, make_tables
 from wdp.texts.refusals import need
 
@@ -36,20 +38,29 @@ class Results:
             pieces.append(table.format_text() + proofs)
         return "\n".join(pieces)
 
-    def make_files(self) -> dict[str, bytes]:
-        """The files by their names. Raises Missing without jinja2."""
+    def make_files(self, signer: Signer | None = None) -> dict[str, bytes]:
+        """The files by their names, with the sums of the others and their signature if somebody
+        signs. Raises Missing without jinja2, and what the signer does.
+        """
         files = make_csv_files(self.figures)
         files["results.json"] = _format_json(self.figures)
-        files["results.html"] = _make_page(self.figures)
+        files["results.html"] = _make_page(self.figures, is_signed=signer is not None)
         if self.audit is not None:
             files[_AUDIT] = self.audit
+        if signer is not None:
+            sums = format_sums(files)
+            files |= {SUMS: sums, SIGNATURE: signer.sign(sums)}
         return files
 
-    def write_files(self, folder: str) -> int:
+    def write_files(self, folder: str, signer: Signer | None = None) -> int:
         """Writes the files into a folder, in the place of an older one of these files alone, and
-        returns how many they are. Raises Unreadable if they can't be written, or Missing.
+        returns how many they are. A folder that is signed is replaced by one that is.
+
+        Raises Unreadable if they can't be written, Missing, and what the signer does.
         """
-        files = self.make_files()
+        if signer is None and os.path.lexists(os.path.join(folder, SIGNATURE)):
+            raise Unreadable(folder, "it is signed, and these files aren't; name a new folder")
+        files = self.make_files(signer)
         write_folder(folder, files, ours=[*files, _AUDIT])
         return len(files)
 
@@ -63,7 +74,7 @@ def _format_json(figures: Figures) -> bytes:
     return (json.dumps(figures, indent=1, default=_make_plain) + "\n").encode()
 
 
-def _make_page(figures: Figures) -> bytes:
+def _make_page(figures: Figures, *, is_signed: bool) -> bytes:
     """The page; Missing without jinja2."""
     need("the page", "jinja2")
     from jinja2 import StrictUndefined, Template
@@ -83,5 +94,9 @@ def _make_page(figures: Figures) -> bytes:
         tables=make_tables(figures),
         format_number=format_number,
         blanks=BLANKS,
+        is_signed=is_signed,
+        sums=SUMS,
+        signature=SIGNATURE,
+        namespace=NAMESPACE,
     )
     return page.encode()
