@@ -71,8 +71,8 @@ def read_page(folder: AuctionFolder, name: str) -> list[str]:
 
 
 NOTE = (
-    "You pay the exact price, rounded up to whole pounds. The cost alone is how much more the "
-    "others, and the values of unsold lots, would bring without you. Bound by names the groups of "
+    "You pay the exact price, rounded up to whole pounds. Your opportunity cost is how much more "
+    "the others, and the values of unsold lots, would bring without you. Bound by names the groups of "
     "winners that by exact prices pay just what they cost together, and says reserve if your exact "
     "price is the reserve."
 )
@@ -88,7 +88,7 @@ Lots: 1 of 800 MHz
 Winning bid: 1, of 20 GBP
 You pay: 13 GBP
 Exact price: 12 1/2 GBP
-Cost alone: 8 GBP
+Opportunity cost: 8 GBP
 Reserve of these lots: 10 GBP
 Bound by: Beta plc + Gamma
 

@@ -11,8 +11,8 @@ from wdp.texts.accepted import AcceptedRules, Bid
 
 _UNPRICED = "not found yet"
 _ABOUT_PRICES = (
-    "You pay the exact price, rounded up to whole pounds. The cost alone is how much more the "
-    "others, and the values of unsold lots, would bring without you. Bound by names the groups of "
+    "You pay the exact price, rounded up to whole pounds. Your opportunity cost is how much more "
+    "the others, and the values of unsold lots, would bring without you. Bound by names the groups of "
     "winners that by exact prices pay just what they cost together, and says reserve if your exact "
     "price is the reserve."
 )
@@ -201,7 +201,7 @@ def _list_payment(bidder: BidderFigures, figures: Figures) -> dict[str, str]:
         "Exact price": figures.format_amount(bidder.exact_price),
     }
     if bidder.cost is not None:
-        facts["Cost alone"] = figures.format_amount(bidder.cost)
+        facts["Opportunity cost"] = figures.format_amount(bidder.cost)
     facts["Reserve of these lots"] = figures.format_amount(bidder.reserve)
     facts["Bound by"] = list_bounds(bidder.name, figures, figures.prices) or "nothing listed"
     return facts
