@@ -77,7 +77,7 @@ class Trial:
         audit = Audit(data + self.rest, self.first, self.report)
         status, out, err = told = seen(self.wdp, ["verify"], data + self.rest)
         try:
-            words = audit.words()
+            words = audit.format_answer()
         except Untrue as why:
             assert (status, out) == (1, b""), (why, told)
             return False

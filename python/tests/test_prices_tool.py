@@ -33,7 +33,7 @@ from commands import (
     run_program,
     write_solver,
 )
-from price_judge import printed
+from price_judge import format_prices
 from priced_auctions import Costs, drawn
 from tied_auctions import BIDDERS, Bid, Pool
 from trials.judging import row
@@ -107,7 +107,7 @@ def check_rule(wdp: str, auction: tied_auctions.Auction, groups: Groups) -> None
     assert paid.paid == {name: math.ceil(price) for name, price in paid.exact.items()}
     assert paid.is_by_rule
     assert outcome.limit is None
-    assert print_prices(wdp, outcome) == printed(paid.exact) + "by the rule\n"
+    assert print_prices(wdp, outcome) == format_prices(paid.exact) + "by the rule\n"
     listed = ["+".join(group.names) or "-" for group in outcome.report]
     assert listed[: len(groups)] == [tied_auctions.names_of(group) for group in groups]
 
@@ -267,7 +267,7 @@ def test_prices_by_hand(wdp: str, auction: tied_auctions.Auction, wanted: str) -
     assert " ".join(map(str, exact)) == wanted
     assert Costs(auction, list_winners(outcome.report)).fault_of(exact) is None
     paid = read_prices(outcome)
-    assert print_prices(wdp, outcome) == printed(paid.exact) + "by the rule\n"
+    assert print_prices(wdp, outcome) == format_prices(paid.exact) + "by the rule\n"
     by_hand = [Fraction(price) for price in wanted.split()]
     assert paid.total == sum(map(math.ceil, by_hand))
     assert paid.exact_total == sum(by_hand)
@@ -306,7 +306,7 @@ def test_beyond_a_limit_prices_are_rounded_up_and_only_cover(
     sums = list(paid.paid.values())
     for group, cost in costs.costs.items():
         assert sum(sums[place] for place in group) >= cost
-    assert print_prices(wdp, outcome) == printed(paid.paid)
+    assert print_prices(wdp, outcome) == format_prices(paid.paid)
 
 
 def limit_certificates(monkeypatch: pytest.MonkeyPatch, most: int) -> None:
@@ -520,7 +520,7 @@ def check_command(wdp: str, folder: Path, number: int) -> None:
     winners = [bidder for bidder in figures["bidders"] if bidder["bid"]]
     exact = {winner["name"]: Fraction(winner["exact_price"]) for winner in winners}
     verified = run_program(wdp, "verify", run_of.read("audit.txt")).decode()
-    assert verified.endswith(printed(exact) + "by the rule\n")
+    assert verified.endswith(format_prices(exact) + "by the rule\n")
     won = tuple((BIDDERS.index(winner["name"]) + 1, winner["bid"]) for winner in winners)
     assert Costs(auction, won).fault_of(list(exact.values())) is None
 
