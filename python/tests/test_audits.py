@@ -74,3 +74,17 @@ def test_an_audit_ends_with_the_input(text: bytes) -> None:
 )
 def test_an_audit_has_certificates(text: bytes, is_audit: bool) -> None:
     assert audits.is_audit(text) == is_audit
+
+
+@pytest.mark.parametrize(
+    "solution, mark",
+    [
+        (b"# award 3\nX1_1 1\n", b"# award 3\n"),
+        (b"# added\nX1_1 1\n", b"# added\n"),
+        (b"# added after an unended line\n", b"# added after an unended line\n"),
+        (b"# added later\nX1_1 1\n", b""),
+        (b"X1_1 1\n# added\n", b""),
+    ],
+)
+def test_the_mark_of_a_solution(solution: bytes, mark: bytes) -> None:
+    assert audits.find_mark(solution) == mark

@@ -93,9 +93,12 @@ def find_input(audit: bytes, name: str) -> bytes:
 
 
 def find_mark(solution: bytes) -> bytes:
-    """The line that says which award a solution is; nothing if it has none."""
-    match = _MARK.match(solution)
-    return match[0] if match else b""
+    """The line that says which award a solution is, or that its group was added; nothing if it has
+    none.
+    """
+    if match := _MARK.match(solution):
+        return match[0]
+    return next((mark for mark in (_ADDED, _ADDED_TO_UNENDED) if solution.startswith(mark)), b"")
 
 
 def _list_awards(parts: Sequence[Part]) -> list[_Award]:

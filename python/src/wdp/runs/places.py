@@ -142,7 +142,7 @@ def take_audit(run: Run, audit: bytes) -> None:
 
 def _leave_solutions(folder: Folder, parts: list[Part]) -> None:
     """Leaves the solutions of an audit as solvers give them, each after the line that says which
-    award it is, if it has one.
+    award it is, or that its group was added, if it has one.
     """
     solutions = [part.text for part in parts if part.kind == "solution"]
     for group, text in enumerate(solutions, 1):
