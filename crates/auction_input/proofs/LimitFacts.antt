@@ -1,7 +1,7 @@
 -- The book that an input leaves is within the limits.
 use Rattle.std.proofs.Common.{◌≡◌, ◌≤◌, ◌<◌, ◌+◌, ◌==◌, ◌++◌, ◌∷◌, ◌∙◌, [], ℕ, zero, suc, Bool, true, false, List, Option}
 use Rattle.std.proofs.Common.{None, Some, Result, Ok, Err, append_assoc, arith, drop, length-drop, eqb-true, leb-true}
-use Rattle.std.proofs.Common.{length, length-append, map, refl, subst, sym, cond, filter, nat_le, nat_lt, inl, inr}
+use Rattle.std.proofs.Common.{length, length-append, map, refl, subst, sym, cond, filter, nat_le, inl, inr}
 use Rattle.std.specs.List.{AllByRecursion, last_or, list_all, range_with_len}
 use Rattle.std.proofs.lemmas.Bool.{and_parts, cases_Bool, ltb-true}
 use Rattle.std.proofs.lemmas.List.{append-nil, length-map}

@@ -1,7 +1,7 @@
 -- What records of rules have, of which none has a fault.
 use Rattle.std.proofs.Common.{◌≡◌, ◌≤◌, ◌<◌, ◌++◌, ◌∷◌, [], ℕ, Bool, true, false, List, Option, None, Some, Ok, Err}
-use Rattle.std.proofs.Common.{append_assoc, arith, length, length-append, refl, subst, ◌+◌, ok_or, append-nil, inl, inr, ap}
-use Rattle.std.proofs.Common.{◌==◌, ◌∙◌}
+use Rattle.std.proofs.Common.{append_assoc, arith, length, length-append, refl, subst, ◌+◌, append-nil, inl, inr, ap}
+use Rattle.std.proofs.Common.{◌∙◌}
 use Rattle.std.specs.List.{AllByRecursion}
 use Rattle.std.specs.Option.{option_map_or, option_or}
 use Rattle.std.proofs.lemmas.Bool.{cases_Bool}
