@@ -130,8 +130,8 @@ HEADINGS = [
     "Bidder",
     "Wins before",
     "Wins now",
-    "Cost alone before",
-    "Cost alone now",
+    "Opportunity cost before",
+    "Opportunity cost now",
     "Price before",
     "Price now",
 ]

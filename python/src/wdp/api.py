@@ -310,7 +310,8 @@ class Auction:
         time_limit: float | None = None,
     ) -> Outcome:
         """Certifies each group's solution, and verifies that: a better solution replaces one that
-        isn't optimal. Without solutions the search begins from nothing, which may take long.
+        isn't optimal. Without solutions the search begins from nothing, which may take long, unless
+        a group that leaves out fewer has shown the same winners.
 
         With `ties` it also finds who else can win with group 1's total, and proves that nobody else
         can; it ends at 64 solutions beside the first, which is as many as an audit can list.

@@ -28,7 +28,7 @@ class Tabular:
         - of a report the groups, with group, left_out (names joined by `+`, or `-`), total and cost
         - of prices the winners, with bidder, exact (a `fractions.Fraction` of pounds) and paid
         - of a comparison the bidders that win by one of two reports, with bidder, and of each
-          report, `_before` and `_now`: bid, amount, cost (alone) and price; blank if it has none
+          report, `_before` and `_now`: bid, amount, (opportunity) cost and price; blank if it has none
         - of solutions the columns that they name, with group, column and value
         - of lost bids the bids, with bidder, bid, amount, needed, lacked, fate and reason
         - of what `explain` finds the findings, with part, number, kind, record, field and cause;

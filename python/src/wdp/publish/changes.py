@@ -10,10 +10,10 @@ _TWICE = ("before", "now")
 
 
 def make_changes_table(comparison: Comparison) -> DisplayTable:
-    """What each bidder wins, costs alone and pays by one outcome and by the other; prices if one of
+    """What each bidder wins, costs and pays by one outcome and by the other; prices if one of
     them has some.
     """
-    names = ["Wins", "Cost alone"]
+    names = ["Wins", "Opportunity cost"]
     if any(report.prices for report in (comparison.before, comparison.now)):
         names.append("Price")
     count = len(names)
@@ -36,7 +36,7 @@ def _alternate(before: Sequence[CellValue], now: Sequence[CellValue]) -> list[Ce
 
 
 def _list_cells(standing: Standing) -> list[CellValue]:
-    """What a bidder wins, costs alone and pays."""
+    """What a bidder wins, costs and pays."""
     winner = standing.winner
     wins = "nothing"
     if winner is not None:
