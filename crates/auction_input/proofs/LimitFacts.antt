@@ -1,11 +1,12 @@
 -- The book that an input leaves is within the limits.
 use Rattle.std.proofs.Common.{◌≡◌, ◌≤◌, ◌<◌, ◌+◌, ◌==◌, ◌++◌, ◌∷◌, ◌∙◌, [], ℕ, zero, suc, Bool, true, false, List, Option}
-use Rattle.std.proofs.Common.{None, Some, Result, Ok, Err, append_assoc, arith, drop, length-drop, eqb-true, leb-true}
+use Rattle.std.proofs.Common.{None, Some, Result, Ok, Err, ap, append_assoc, arith, eqb-true, leb-true}
 use Rattle.std.proofs.Common.{length, length-append, map, refl, subst, sym, cond, filter, nat_le, inl, inr}
 use Rattle.std.specs.List.{AllByRecursion, last_or, list_all, range_with_len}
 use Rattle.std.proofs.lemmas.Bool.{and_parts, cases_Bool, ltb-true}
 use Rattle.std.proofs.lemmas.List.{append-nil, length-map}
 use Rattle.std.proofs.lemmas.List.FromFn.{length-map-range_with_len}
+use Rattle.auction_terms.specs.AcceptedGroups.{Each}
 use Rattle.auction_terms.specs.Entries.{terms_of}
 use Rattle.auction_terms.proofs.AcceptedRulesFacts.{kind-holds}
 use Rattle.auction_terms.specs.AllFaults.{all_faults}
@@ -22,7 +23,10 @@ use Rattle.auction_terms.specs.declared.record_kinds.RecordKind.TheVariants as k
 use Rattle.auction_terms.specs.declared.record_kinds.Version.{Version}
 use Rattle.auction_terms.specs.declared.rules_text.RulesFault.TheVariants as rules_fault
 use Rattle.bid_desk.specs.Closing.{bids_in}
-use Rattle.bid_forms.specs.FormText.{bid_checks, bid_fault, parsed_bid, parsed_bidder, form_of_records}
+use Rattle.bid_forms.proofs.AcceptedFormsFacts.{parsed-described}
+use Rattle.bid_forms.proofs.BidFacts.{allowed-parts}
+use Rattle.bid_forms.specs.AcceptedForms.{IsBidRecord}
+use Rattle.bid_forms.specs.FormText.{parsed_bid, form_of_records}
 use Rattle.bid_forms.specs.Offers.{Offers, eligibility_of}
 use Rattle.bid_forms.specs.declared.form_text.FormFault.TheVariants as form_fault
 use Rattle.auction_input.specs.BookLeft.{sale_left}
@@ -60,42 +64,36 @@ small : (quantities : List ℕ) → list_all (λ (quantity : ℕ). nat_le quanti
 small [] are = tt
 small (n ∷ quantities) are = (let parts = and_parts _ _ are in (leb-true n GREATEST_QUANTITY parts.0, small quantities parts.1))
 
--- a record without a fault describes a bid within the limits, and there is room for it
-bid-within : (t : Terms) (eligibility place : ℕ) (before : List Bid) (r : Record) → first_failed (bid_checks t eligibility place before r) ≡ None
-    → IsBid (lots_in t) (parsed_bid r) × (length before < MOST_BIDS)
-bid-within t eligibility place before r free =
-    let checks = none-failed (bid_checks t eligibility place before r) free in
-    let wide = eqb-true (length r) (length t.categories + 1) checks.0 in
-    let fields : length (drop 1 r) ≡ length t.categories = (let cut = length-drop 1 r in omega arith) in
-    let sized : length (parsed_bid r).package ≡ length (lots_in t).supply = length-map (drop 1 r) _ ∙ fields ∙ sym (length-map t.categories _) in
-    let most = and_parts _ _ checks.1.1.0 in (
-      record { sized = sized; quantities = small (parsed_bid r).package checks.1.1.1.1.1.0; amount = leb-true _ _ most.1 },
-      ltb-true _ _ checks.1.1.1.1.1.1.1.1.1.1.0,
-    )
+-- a record that describes a bid describes one within the limits
+bid-within : (t : Terms) (eligibility : ℕ) (before : List Bid) (r : Record) → IsBidRecord t eligibility before r → IsBid (lots_in t) (parsed_bid r)
+bid-within t eligibility before r is =
+    let (wide, range, step, each, some, points, reserve) = allowed-parts t eligibility (parsed_bid r) is.allowed in
+    let most = and_parts _ _ range in
+    record {
+      sized = eqb-true (length (parsed_bid r).package) (length t.categories) wide ∙ sym (length-map t.categories _);
+      quantities = small (parsed_bid r).package each;
+      amount = leb-true _ _ most.1;
+    }
 
-bids-within : (t : Terms) (eligibility : ℕ) (before more : List Record) → first_fault (bid_fault t eligibility) before more ≡ None → length before ≤ MOST_BIDS
-    → (length (before ++ more) ≤ MOST_BIDS) × AllByRecursion (IsBid (lots_in t)) (map parsed_bid more)
-unfolding first_fault
-bids-within t eligibility before [] none few = (rw (append-nil before) few, tt)
-bids-within t eligibility before (r ∷ more) none few =
-    let parts = neither (bid_fault t eligibility before r) (first_fault (bid_fault t eligibility) (before ++ r ∷ []) more) none in
-    let bid = bid-within t eligibility (length before + 2) (map parsed_bid before) r parts.0 in
-    let room = bid.1 in
+bids-within : (t : Terms) (eligibility : ℕ) (all before more : List Record) → all ≡ before ++ more
+    → Each (λ before r. IsBidRecord t eligibility (map parsed_bid before) r) all → length before ≤ MOST_BIDS
+    → (length all ≤ MOST_BIDS) × AllByRecursion (IsBid (lots_in t)) (map parsed_bid more)
+bids-within t eligibility all before [] are each few = (rw (are, append-nil before) few, tt)
+bids-within t eligibility all before (r ∷ more) are each few =
+    let is = each before r more are in
+    let room = is.room in
     let count = length-map before parsed_bid in
     let grown = length-append before (r ∷ []) in
-    let rest = bids-within t eligibility (before ++ r ∷ []) more parts.1 (omega arith) in
-    (subst (λ (rs : List Record). length rs ≤ MOST_BIDS) (append_assoc before (r ∷ []) more) rest.0, (bid.0, rest.1))
+    let rest = bids-within t eligibility all (before ++ r ∷ []) more (are ∙ sym (append_assoc before (r ∷ []) more)) each (omega arith) in
+    (rest.0, (bid-within t eligibility (map parsed_bid before) r is, rest.1))
 
 form-within : (t : Terms) (records : List Record) (form : Offers) → form_of_records t records ≡ Ok form → IsWithin (lots_in t) form
-form-within t [] form parsed = cc
-form-within t (header ∷ more) form parsed =
-    let first = ok-after (parsed_bidder t header) _ form parsed in
-    let eligibility = eligibility_of t first.0 in
-    let made : Offers = record { bidder = first.0; bids = map parsed_bid more } in
-    let second = unless-ok (first_fault (bid_fault t eligibility) [] more) made form first.2 in
-    let within = bids-within t eligibility [] more second.0 (omega arith) in
-    let count = length-map more parsed_bid in
-    subst (λ (o : Offers). IsWithin (lots_in t) o) second.1 (omega arith, within.1)
+form-within t records form parsed =
+    let so = (parsed-described t records form).0 parsed in
+    let within = bids-within t (eligibility_of t form.bidder) so.entries [] so.entries refl so.each (omega arith) in
+    let count = length-map so.entries parsed_bid in
+    let sizes = ap length so.bids in
+    (omega arith, subst (AllByRecursion (IsBid (lots_in t))) (sym so.bids) within.1)
 
 -- ---- what an input describes
 

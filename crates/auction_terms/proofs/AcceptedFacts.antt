@@ -1,11 +1,11 @@
 -- All faults of a list are those of its items, and the accepted ones have none.
 use Rattle.std.proofs.Common.{◌≡◌, ◌≤◌, ◌+◌, ◌∷◌, ◌++◌, ◌∙◌, Bool, ℕ, List, [], ap, append_assoc, append-nil, arith, inl}
 use Rattle.std.proofs.Common.{inr, length, length-append, map, refl, subst, sym}
-use Rattle.std.specs.Prelude.{true, false, Option, Some, None, if◌then◌else◌, option_map, option_to_list}
+use Rattle.std.specs.Prelude.{true, false, Some, None, if◌then◌else◌}
 use Rattle.std.specs.List.{Contains}
 use Rattle.std.proofs.lemmas.List.Elements.{Contains-append_cases, Contains-append_left, Contains-append_right}
 use Rattle.auction_terms.specs.Accepted.{AreOfItems, IsOfItem, StaysFaultless, accepted_of}
-use Rattle.auction_terms.specs.AllFaults.{accepted_with, all_faults, found, one_failed, or_else}
+use Rattle.auction_terms.specs.AllFaults.{accepted_with, all_faults, or_else}
 use Rattle.auction_terms.specs.FirstFault.{first_failed}
 
 -- where a list joined of two is empty, both are
@@ -145,18 +145,3 @@ fail-alike {F} (check ∷ some) (other ∷ others) same none =
     by true true is more none = more none
     by true false is more none = cc is
     by false b is more none = cc none
-
--- one fault is reported just where a check fails
-pub one-none : {F : Type 0} (field : ℕ) (checks : List (Bool × F)) → one_failed field checks ≡ [] → first_failed checks ≡ None
-one-none {F} field checks none = by (first_failed checks) none
-  where
-    by : (o : Option F) → option_to_list (option_map (found field) o) ≡ [] → o ≡ None
-    by None none = refl
-    by (Some f) none = cc none
-
-pub none-one : {F : Type 0} (field : ℕ) (checks : List (Bool × F)) → first_failed checks ≡ None → one_failed field checks ≡ []
-none-one field checks none = rw none refl
-
-pub one-alike : {F : Type 0} (field : ℕ) (some others : List (Bool × F)) → tests_of some ≡ tests_of others → one_failed field some ≡ []
-    → one_failed field others ≡ []
-one-alike field some others same none = none-one field others (fail-alike some others same (one-none field some none))

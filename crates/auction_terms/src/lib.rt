@@ -45,7 +45,7 @@ pub use bids::{Bid, Kept, KeptBid};
 pub use causes::{count_cause, limits_cause, most_cause};
 pub use choices::Choice;
 pub use decimals::{NumberFault, read_number, scaled};
-pub use faults::{Faults, Found};
+pub use faults::Found;
 pub use fractions::{Fraction, gcd, in_parts, lcm, read_fraction};
 pub use front::Front;
 pub use group_list::Groups;

@@ -1,76 +1,110 @@
--- All faults of a form are those of its records.
-use Rattle.std.proofs.Common.{◌≡◌, ◌+◌, ◌∷◌, Bool, true, false, ℕ, List, [], drop, map, refl}
-use Rattle.std.specs.Prelude.{if◌then◌else◌}
-use Rattle.auction_terms.proofs.AcceptedFacts.{are-of-items, both-none, one-alike, or_else-none}
-use Rattle.auction_terms.specs.Accepted.{AreOfItems}
-use Rattle.auction_terms.specs.AllFaults.{each_failed, found, one_failed, or_else, where_none}
+-- A text of a form has no fault exactly if its records describe a form.
+use Rattle.std.proofs.Common.{◌≡◌, ◌+◌, ◌∷◌, ◌++◌, ℕ, List, [], Option, None, Some, Ok, ap, append_assoc, append-nil, arith, length, map, refl}
+use Rattle.std.specs.Prelude.{◌↔◌, codes}
+use Rattle.std.specs.Option.{option_map_or}
+use Rattle.auction_terms.specs.AcceptedGroups.{Each}
+use Rattle.auction_terms.proofs.AcceptedFacts.{both-none, or_else-none}
+use Rattle.auction_terms.proofs.FirstFaultFacts.{empty-cons}
+use Rattle.auction_terms.specs.AllFaults.{all_faults}
+use Rattle.auction_terms.specs.Judged.{Fault, fault_at, fault_of, first_or}
 use Rattle.auction_terms.specs.Records.{Record}
-use Rattle.auction_terms.specs.RulesText.{field_number}
+use Rattle.auction_terms.specs.RulesText.{record_field}
 use Rattle.auction_terms.specs.Terms.{Terms}
-use Rattle.auction_terms.specs.declared.bids.Bid.{Bid}
 use Rattle.auction_terms.specs.declared.limits.TheConstants.{GREATEST_AMOUNT}
-use Rattle.bid_forms.specs.AcceptedForms.{FormFaultsAreOfRecords}
-use Rattle.bid_forms.specs.AllFormFaults.{all_bid_faults, all_package_faults, all_quantity_faults, fault_of_amount, faults_by_record}
-use Rattle.bid_forms.specs.FormText.{amount_checks, parsed_bid, count_checks, form_room_checks, is_quantity}
-use Rattle.bid_forms.specs.FormText.{is_quantity_text, package_checks, repeat_checks, reserve_checks}
-use Rattle.bid_forms.specs.Offers.{eligibility_of}
+use Rattle.bid_forms.proofs.BidFacts.{bid-passes, passes-bid}
+use Rattle.bid_forms.proofs.HeaderFacts.{header-is, header-passes, name-is}
+use Rattle.bid_forms.specs.AcceptedForms.{Describe}
+use Rattle.bid_forms.specs.FormText.{bids_faults, described_form, faults_of_named, form_faults, form_of_records, form_header_checks, named_bidder, parsed_bid, record_faults}
+use Rattle.bid_forms.specs.Offers.{Offers, eligibility_of}
 use Rattle.bid_forms.specs.declared.form_text.FormFault.{FormFault}
 use Rattle.bid_forms.specs.declared.form_text.FormFault.TheVariants as fault
 
--- which items fail doesn't hang on what is reported of them
-each-alike : {X : Type 0} (test : X → Bool) (f g : FormFault) (n : ℕ) (xs : List X) → each_failed test f n xs ≡ [] → each_failed test g n xs ≡ []
-each-alike test f g n [] none = refl
-each-alike test f g n (x ∷ xs) none = by (test x) (each-alike test f g (n + 1) xs) none
+-- ---------- of any list ----------
+
+module _ {R F : Type 0} (faults_of : ℕ → List R → R → List F) where
+  -- where a list has no fault, no item has one
+  none-each : (n : ℕ) (accepted items : List R) → all_faults faults_of n accepted items ≡ []
+      → Each (λ before item. faults_of (n + length before) (accepted ++ before) item ≡ []) items
+  unfolding all_faults
+  none-each n accepted [] none before item after is = absurd (empty-cons before item after is)
+  none-each n accepted (x ∷ xs) none [] item after is =
+      let both = both-none (faults_of n accepted x) _ none in
+      let same : x ≡ item = cc is in
+      let at : n + 0 ≡ n = omega arith in
+      rw (at, append-nil accepted, ← same) both.0
+  none-each n accepted (x ∷ xs) none (y ∷ before) item after is =
+      let both = both-none (faults_of n accepted x) _ none in
+      let first = both.0 in
+      let rest : all_faults faults_of (n + 1) (accepted ++ x ∷ []) xs ≡ [] = rw first at both.1 in
+      let same : x ≡ y = cc is in
+      let others : xs ≡ before ++ item ∷ after = cc is in
+      let later = none-each (n + 1) (accepted ++ x ∷ []) xs rest before item after others in
+      let at : n + length (y ∷ before) ≡ n + 1 + length before = omega arith in
+      rw (at, ← same, ← append_assoc accepted (x ∷ []) before) later
+
+  -- and the other way round
+  each-none : (n : ℕ) (accepted items : List R) → Each (λ before item. faults_of (n + length before) (accepted ++ before) item ≡ []) items
+      → all_faults faults_of n accepted items ≡ []
+  unfolding all_faults
+  each-none n accepted [] each = refl
+  each-none n accepted (x ∷ xs) each =
+      let at : n + 0 ≡ n = omega arith in
+      let here = each [] x xs refl in
+      let first : faults_of n accepted x ≡ [] = rw (at, append-nil accepted) at here in
+      let rest : all_faults faults_of (n + 1) (accepted ++ x ∷ []) xs ≡ [] = each-none (n + 1) (accepted ++ x ∷ []) xs
+      (λ before item after is. let later = each (x ∷ before) item after (ap (λ ys. x ∷ ys) is) in
+      let next : n + 1 + length before ≡ n + length (x ∷ before) = omega arith in
+      rw (next, append_assoc accepted (x ∷ []) before) later) in
+      rw first rest
+
+-- ---------- of forms ----------
+
+-- where a text has no fault, its records describe the form that is read
+pub none-describe : (t : Terms) (records : List Record) → form_faults t records ≡ [] → Describe t records (described_form t records)
+none-describe t [] none = cc none
+none-describe t (header ∷ entries) none =
+    let both = or_else-none (fault_of (form_header_checks t.categories header)) (faults_of_named t (record_field 1 header) entries) none in
+    by (named_bidder t (record_field 1 header)) refl both.0 both.1
   where
-    by : (b : Bool) → (each_failed test f (n + 1) xs ≡ [] → each_failed test g (n + 1) xs ≡ [])
-        → (if b then each_failed test f (n + 1) xs else found n f ∷ each_failed test f (n + 1) xs) ≡ []
-        → (if b then each_failed test g (n + 1) xs else found n g ∷ each_failed test g (n + 1) xs) ≡ []
-    by true more none = more none
-    by false more none = cc none
+    by : (named : Option ℕ) → named_bidder t (record_field 1 header) ≡ named → fault_of (form_header_checks t.categories header) ≡ []
+        → option_map_or (λ bidder. bids_faults t (eligibility_of t bidder) entries) named
+        (fault_at 1 (record_field 1 header) (fault.UnknownBidder 1) (codes "is no bidder's name") ∷ bids_faults t GREATEST_AMOUNT entries) ≡ []
+        → Describe t (header ∷ entries) (described_form t (header ∷ entries))
+    by None is columns none = cc none
+    by (Some bidder) is columns none =
+        rw is (record {
+          name = record_field 1 header;
+          entries = entries;
+          records_are = ap (λ r. r ∷ entries) (header-is t header columns);
+          bidder = is;
+          bids = refl;
+          each = λ before r after at. bid-passes t (eligibility_of t bidder) (2 + length before) (map parsed_bid before) r
+              (none-each (record_faults t (eligibility_of t bidder)) 2 [] entries none before r after at);
+        })
 
-quantities-stay : (m n : ℕ) (r : Record) → all_quantity_faults n r ≡ [] → all_quantity_faults m r ≡ []
-quantities-stay m n r none =
-    let both = both-none (each_failed is_quantity_text (fault.QuantityText n) 2 (drop 1 r))
-    (each_failed is_quantity (fault.QuantityRange n) 2 (parsed_bid r).package) none in
-    let texts = each-alike is_quantity_text (fault.QuantityText n) (fault.QuantityText m) 2 (drop 1 r) both.0 in
-    let ranges = each-alike is_quantity (fault.QuantityRange n) (fault.QuantityRange m) 2 (parsed_bid r).package both.1 in
-    rw (texts, ranges) refl
+-- and the other way round
+pub describe-none : (t : Terms) (records : List Record) (form : Offers) → Describe t records form
+    → (form_faults t records ≡ []) × (described_form t records ≡ form)
+describe-none t records form so =
+    let none : bids_faults t (eligibility_of t form.bidder) so.entries ≡ [] =
+    each-none (record_faults t (eligibility_of t form.bidder)) 2 [] so.entries (λ before r after at.
+    passes-bid t (eligibility_of t form.bidder) (2 + length before) (map parsed_bid before) r (so.each before r after at)) in (
+      rw (so.records_are, header-passes t so.name, name-is t so.name, so.bidder) none,
+      rw (so.records_are, name-is t so.name, so.bidder, ← so.bids) refl,
+    )
 
-amount-stays : (step m n : ℕ) (r : Record) → fault_of_amount step n r ≡ [] → fault_of_amount step m r ≡ []
-amount-stays step m n r none = one-alike 1 (amount_checks step n r) (amount_checks step m r) refl none
+pub faultless-described : (t : Terms) (records : List Record) → form_faults t records ≡ [] ↔ ((form : Offers) × Describe t records form)
+faultless-described t records = (λ none. (described_form t records, none-describe t records none), λ described. (describe-none t records described.0 described.1).0)
 
-package-stays : (t : Terms) (eligibility m n : ℕ) (before : List Bid) (r : Record) → fault_of_amount t.step n r ≡ []
-    → all_package_faults t eligibility n before r ≡ [] → all_package_faults t eligibility m before r ≡ []
-package-stays t eligibility m n before r amount none =
-    let lots = (parsed_bid r).package in
-    let first = both-none (one_failed 0 (package_checks t.categories eligibility n lots)) _ none in
-    let second = both-none (where_none (fault_of_amount t.step n r) (one_failed 1 (reserve_checks t.categories n lots (field_number 1 r))))
-    (one_failed 0 (repeat_checks n before lots)) first.1 in
-    let reserve : one_failed 1 (reserve_checks t.categories n lots (field_number 1 r)) ≡ [] = rw amount at second.0 in
-    let of_package = one-alike 0 (package_checks t.categories eligibility n lots) (package_checks t.categories eligibility m lots) refl first.0 in
-    let of_reserve = one-alike 1 (reserve_checks t.categories n lots (field_number 1 r)) (reserve_checks t.categories m lots (field_number 1 r)) refl reserve in
-    let of_repeat = one-alike 0 (repeat_checks n before lots) (repeat_checks m before lots) refl second.1 in
-    rw (amount-stays t.step m n r amount, of_package, of_reserve, of_repeat) refl
+pub parsed-described : (t : Terms) (records : List Record) (form : Offers) → form_of_records t records ≡ Ok form ↔ Describe t records form
+parsed-described t records form = (forth, back)
+  where
+    by : (faults : List (Fault FormFault)) → first_or faults (described_form t records) ≡ Ok form → (faults ≡ []) × (described_form t records ≡ form)
+    by [] is = (refl, cc is)
+    by (f ∷ more) is = cc is
 
-bid-stays : (t : Terms) (eligibility m n : ℕ) (before : List Bid) (r : Record) → all_bid_faults t eligibility n before r ≡ []
-    → all_bid_faults t eligibility m before r ≡ []
-bid-stays t eligibility m n before r none =
-    let first = or_else-none (one_failed 0 (count_checks t n r)) _ none in
-    let second = both-none (fault_of_amount t.step n r) _ first.1 in
-    let third = both-none (or_else (all_quantity_faults n r) (all_package_faults t eligibility n before r)) (one_failed 0 (form_room_checks n before))
-    second.1 in
-    let fourth = or_else-none (all_quantity_faults n r) (all_package_faults t eligibility n before r) third.0 in
-    let of_count = one-alike 0 (count_checks t n r) (count_checks t m r) refl first.0 in
-    let of_room = one-alike 0 (form_room_checks n before) (form_room_checks m before) refl third.1 in
-    rw (of_count, package-stays t eligibility m n before r second.0 fourth.1, quantities-stay m n r fourth.0, amount-stays t.step m n r second.0, of_room) refl
+    forth : form_of_records t records ≡ Ok form → Describe t records form
+    forth is = let both = by (form_faults t records) is in rw both.1 at (none-describe t records both.0)
 
-pub records-are-of-items : (t : Terms) (eligibility : ℕ) → AreOfItems (faults_by_record t eligibility)
-records-are-of-items t eligibility = are-of-items (faults_by_record t eligibility) (λ m n before r low. bid-stays t eligibility m n (map parsed_bid before) r)
-
-pub of-records : (t : Terms) (header : Record) (entries : List Record) → FormFaultsAreOfRecords t header entries
-of-records t header entries =
-    record {
-      each = λ bidder f is. rw is ((records-are-of-items t (eligibility_of t bidder)).each 2 entries f);
-      none = λ bidder is. rw is ((records-are-of-items t (eligibility_of t bidder)).none 2 entries);
-      unknown = λ f is unknown. rw (is, unknown, (records-are-of-items t GREATEST_AMOUNT).none 2 entries) refl;
-    }
+    back : Describe t records form → form_of_records t records ≡ Ok form
+    back described = let (none, same) = describe-none t records form described in rw (none, same) refl

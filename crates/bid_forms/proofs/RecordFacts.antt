@@ -1,25 +1,22 @@
 -- The fields of a record, one after the other.
 use Rattle.std.proofs.Common.{◌≡◌, ◌<◌, ◌+◌, ◌-◌, ◌∷◌, ◌++◌, ◌∙◌, Bool, true, false, ℕ, zero, suc, List, [], Some, None}
 use Rattle.std.proofs.Common.{add-one, drop, length, map, slice_index_or, refl, sym, ap, arith, ◌&&◌, append_assoc, All}
-use Rattle.std.proofs.Common.{◌≤◌, is_some, not, nat_le, unwrap_or, le-leb, bytes_eq, drop-cons}
+use Rattle.std.proofs.Common.{◌≤◌, is_some, not, nat_le, unwrap_or, le-leb, bytes_eq, drop-cons, drop_of_length-le, append-nil}
 use Rattle.std.specs.List.{list_all}
 use Rattle.std.proofs.lemmas.Bool.{and_right}
 use Rattle.std.proofs.lemmas.List.{length_push}
 use Rattle.std.proofs.lemmas.List.Elements.{All-push}
+use Rattle.auction_terms.specs.FirstFault.{first_failed}
+use Rattle.auction_terms.specs.Judged.{fault_at}
 use Rattle.auction_terms.specs.Numbers.{number_of}
-use Rattle.std.specs.Cmp.Lexicographic.{pointwise}
+use Rattle.std.specs.Prelude.{codes, if◌then◌else◌}
 use Rattle.csv.specs.Records.{field_at}
 use Rattle.auction_terms.specs.RulesText.{parsed_numeral, record_field}
 use Rattle.auction_terms.specs.Records.{Record}
 use Rattle.auction_terms.specs.declared.rules.Category.{Category}
 use Rattle.auction_terms.specs.declared.limits.TheConstants.{GREATEST_QUANTITY}
-
--- lists of different length differ
-pub differ-lengths : (xs ys : List (List ℕ)) → (length xs ≡ length ys → ⊥) → pointwise bytes_eq xs ys ≡ false
-differ-lengths [] [] differ = absurd (differ refl)
-differ-lengths [] (y ∷ ys) differ = refl
-differ-lengths (x ∷ xs) [] differ = refl
-differ-lengths (x ∷ xs) (y ∷ ys) differ = and_right (bytes_eq x y) _ (differ-lengths xs ys (λ e. differ (ap suc e)))
+use Rattle.bid_forms.specs.FormText.{column_checks, is_number_text, is_small_text, parsed_bid}
+use Rattle.bid_forms.specs.declared.form_text.FormFault.TheVariants as fault
 
 fields-from : (r : Record) (i : ℕ) → i < length r → drop i r ≡ unwrap_or (field_at r i) [] ∷ drop (suc i) r
 unfolding field_at
@@ -33,17 +30,17 @@ fields-more r i small =
     let place : i + 1 - 1 ≡ i = omega arith in
     rw (place, add-one i) (fields-from r i small)
 
--- the names from a place on
-pub names-more : (categories : List Category) (r : Record) (place : ℕ) (category : Category)
-    → place < length categories → place + 1 < length r → category ≡ slice_index_or categories place category
-    → pointwise bytes_eq (drop (place + 1) r) (map (λ c. c.name) (drop place categories))
-    ≡ (bytes_eq (record_field (place + 2) r) category.name && pointwise bytes_eq (drop (place + 1 + 1) r) (map (λ c. c.name) (drop (place + 1) categories)))
-names-more categories r place category small wide at =
+-- the columns from a place on
+pub columns-more : (categories : List Category) (r : Record) (place : ℕ) (category : Category)
+    → place < length categories → category ≡ slice_index_or categories place category
+    → first_failed (column_checks (place + 2) (drop place categories) r)
+    ≡ (if bytes_eq (record_field (place + 2) r) category.name then first_failed (column_checks (place + 1 + 2) (drop (place + 1) categories) r)
+    else Some (fault_at (place + 2) (record_field (place + 2) r) (fault.Header 1) (codes "in place of")))
+columns-more categories r place category small at =
     let next : drop place categories ≡ category ∷ drop (place + 1) categories =
     rw (add-one place) (drop-cons categories place category small ∙ ap (λ c. c ∷ drop (suc place) categories) (sym at)) in
-    let field_next : drop (place + 1) r ≡ record_field (place + 1 + 1) r ∷ drop (place + 1 + 1) r = fields-more r (place + 1) wide in
-    let two : place + 1 + 1 ≡ place + 2 = omega arith in
-    rw (next, field_next, two) refl
+    let three : place + 2 + 1 ≡ place + 1 + 2 = omega arith in
+    rw (next, three) refl
 
 pub when-not-true : (b : Bool) → true ≡ not b → b ≡ false
 when-not-true true e = cc e
@@ -53,52 +50,54 @@ pub when-not-false : (b : Bool) → false ≡ not b → b ≡ true
 when-not-false true e = refl
 when-not-false false e = cc e
 
+-- whether each field after the first is a quantity
+abbrev pub has_quantities : Record → Bool
+has_quantities r = list_all is_number_text (drop 1 r) && list_all is_small_text (drop 1 r)
+
 -- the quantities of the fields from a place on
 abbrev pub quantities_from : ℕ → Record → List ℕ
 quantities_from n r = map parsed_numeral (drop n r)
 
 -- what a loop over the quantities keeps
-abbrev pub QuantitiesSoFar : Record → ℕ → Bool → List ℕ → Type 0
-QuantitiesSoFar r n within items =
-    (list_all (λ (text : List ℕ). is_some (number_of text)) (drop n r) ≡ list_all (λ (text : List ℕ). is_some (number_of text)) (drop 1 r))
-    × ((within && list_all (λ (quantity : ℕ). nat_le quantity GREATEST_QUANTITY) (quantities_from n r))
-    ≡ list_all (λ (quantity : ℕ). nat_le quantity GREATEST_QUANTITY) (quantities_from 1 r))
-    × (within ≡ true → items ++ quantities_from n r ≡ quantities_from 1 r)
-    × All (λ quantity. quantity ≤ GREATEST_QUANTITY) items
-    × (length items < n)
+abbrev pub QuantitiesSoFar : Record → ℕ → List ℕ → Type 0
+QuantitiesSoFar r n items =
+    (list_all is_number_text (drop n r) ≡ list_all is_number_text (drop 1 r)) × (list_all is_small_text (drop n r) ≡ list_all is_small_text (drop 1 r))
+    × (items ++ quantities_from n r ≡ quantities_from 1 r) × All (λ quantity. quantity ≤ GREATEST_QUANTITY) items × (length items < n)
 
 -- the next field is no number
-pub quantities-none : (r : Record) (n : ℕ) (within : Bool) (items : List ℕ) → QuantitiesSoFar r n within items → n < length r
-    → None ≡ number_of (record_field (n + 1) r)
-    → list_all (λ (text : List ℕ). is_some (number_of text)) (drop 1 r) ≡ false
-quantities-none r n within items (texts, limits, are, each, few) small none =
-    let parsed = rw (fields-more r n small, sym (ap is_some none)) at texts in
-    sym parsed
+pub quantities-none : (r : Record) (n : ℕ) (items : List ℕ) → QuantitiesSoFar r n items → n < length r
+    → None ≡ number_of (record_field (n + 1) r) → has_quantities r ≡ false
+quantities-none r n items (texts, small, are, each, few) more none =
+    let parsed = rw (fields-more r n more, sym (ap is_some none)) at texts in
+    rw (sym parsed) refl
+
+-- the next field is a number above the limit
+pub quantities-great : (r : Record) (n : ℕ) (items : List ℕ) (value : ℕ) → QuantitiesSoFar r n items → n < length r
+    → Some value ≡ number_of (record_field (n + 1) r) → nat_le value GREATEST_QUANTITY ≡ false → has_quantities r ≡ false
+quantities-great r n items value (texts, small, are, each, fewer) more some great =
+    let parsed = rw (fields-more r n more, ← some, great) at small in
+    and_right (list_all is_number_text (drop 1 r)) _ (sym parsed)
 
 -- the next field is a quantity
-pub quantities-small : (r : Record) (n : ℕ) (within : Bool) (items : List ℕ) (value : ℕ) → QuantitiesSoFar r n within items → n < length r
-    → Some value ≡ number_of (record_field (n + 1) r) → value ≤ GREATEST_QUANTITY → QuantitiesSoFar r (n + 1) within (items ++ value ∷ [])
-quantities-small r n within items value (texts, limits, are, each, fewer) small some few =
-    let next = fields-more r n small in
-    let is_text : is_some (number_of (record_field (n + 1) r)) ≡ true = sym (ap is_some some) in
-    let test : nat_le value GREATEST_QUANTITY ≡ true = le-leb value GREATEST_QUANTITY few in (
-      rw (next, is_text) at texts,
-      rw (next, ← some, test) at limits,
-      λ h. (let parsed = are h in let more = rw (next, ← some) at parsed in append_assoc items (value ∷ []) _ ∙ more),
+pub quantities-small : (r : Record) (n : ℕ) (items : List ℕ) (value : ℕ) → QuantitiesSoFar r n items → n < length r
+    → Some value ≡ number_of (record_field (n + 1) r) → value ≤ GREATEST_QUANTITY → QuantitiesSoFar r (n + 1) (items ++ value ∷ [])
+quantities-small r n items value (texts, small, are, each, fewer) wide some few =
+    let next = fields-more r n wide in
+    let test : nat_le value GREATEST_QUANTITY ≡ true = le-leb value GREATEST_QUANTITY few in
+    let more = rw (next, ← some) at are in (
+      rw (next, ← some) at texts,
+      rw (next, ← some, test) at small,
+      append_assoc items (value ∷ []) _ ∙ more,
       All-push (λ quantity. quantity ≤ GREATEST_QUANTITY) items value each few,
       (let longer = length_push items value in omega arith),
     )
 
--- the next field is a number above the limit
-pub quantities-great : (r : Record) (n : ℕ) (within : Bool) (items : List ℕ) (value : ℕ) → QuantitiesSoFar r n within items → n < length r
-    → Some value ≡ number_of (record_field (n + 1) r) → nat_le value GREATEST_QUANTITY ≡ false → QuantitiesSoFar r (n + 1) false items
-quantities-great r n within items value (texts, limits, are, each, fewer) small some great =
-    let next = fields-more r n small in
-    let is_text : is_some (number_of (record_field (n + 1) r)) ≡ true = sym (ap is_some some) in
-    let parsed = rw (next, ← some, great) at limits in (
-      rw (next, is_text) at texts,
-      sym (and_right within false refl) ∙ parsed,
-      λ h. cc h,
-      each,
-      omega arith,
-    )
+-- no field is left
+pub quantities-all : (r : Record) (n : ℕ) (items : List ℕ) → QuantitiesSoFar r n items → length r ≤ n
+    → (has_quantities r ≡ true) × (items ≡ (parsed_bid r).package)
+quantities-all r n items (texts, small, are, each, fewer) past =
+    let none : drop n r ≡ [] = drop_of_length-le r past in
+    let all_texts : list_all is_number_text (drop 1 r) ≡ true = sym (rw none at texts) in
+    let all_small : list_all is_small_text (drop 1 r) ≡ true = sym (rw none at small) in
+    let same = rw none at are in
+    (rw (all_texts, all_small) refl, sym (append-nil items) ∙ same)

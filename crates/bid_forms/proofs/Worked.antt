@@ -2,7 +2,7 @@
 use Rattle.std.proofs.Common.{◌≡◌, refl, [], ◌∷◌, Ok, Err, codes}
 use Rattle.csv.specs.Records.{field_at}
 use Rattle.csv.proofs.OnLiterals.{csv_on_literals}
-use Rattle.auction_terms.specs.FirstFault.{first_fault}
+use Rattle.auction_terms.specs.AllFaults.{all_faults}
 use Rattle.auction_terms.specs.Records.{records_of}
 use Rattle.auction_terms.specs.Terms.{Terms}
 use Rattle.bid_forms.specs.FormText.{form_of_records}
@@ -26,21 +26,21 @@ rules = record {
 
 form : form_of_records rules (records_of (codes "Alpha,A,B\n0030,1,0\n"))
     ≡ Ok (record { bidder = 1; bids = (record { «package» = 1 ∷ 0 ∷ []; amount = 30 } ∷ []) })
-unfolding csv_on_literals first_fault field_at
+unfolding csv_on_literals all_faults field_at
 form = refl
 
 unknown_bidder : form_of_records rules (records_of (codes "Delta,A,B\n")) ≡ Err (fault.UnknownBidder 1)
-unfolding csv_on_literals first_fault field_at
+unfolding csv_on_literals all_faults field_at
 unknown_bidder = refl
 
 amount_first : form_of_records rules (records_of (codes "Alpha,A,B\n0,0,0\n")) ≡ Err (fault.AmountRange 2)
-unfolding csv_on_literals first_fault field_at
+unfolding csv_on_literals all_faults field_at
 amount_first = refl
 
 below_reserve : form_of_records rules (records_of (codes "Alpha,A,B\n14,1,1\n")) ≡ Err (fault.BelowReserve 2)
-unfolding csv_on_literals first_fault field_at
+unfolding csv_on_literals all_faults field_at
 below_reserve = refl
 
 repeated : form_of_records rules (records_of (codes "Alpha,A,B\n30,1,0\n31,1,0\n")) ≡ Err (fault.RepeatedPackage 3 1)
-unfolding csv_on_literals first_fault field_at
+unfolding csv_on_literals all_faults field_at
 repeated = refl

@@ -68,6 +68,7 @@ impl Form {
 
 ghost use Rattle.std.specs.Prelude.{◌≡◌, ◌≤◌, ◌↔◌, IsTrue, length};
 ghost use Rattle.std.specs.List.{list_all};
+ghost use Rattle.auction_terms.specs.Terms.{AreTerms};
 ghost use Rattle.auction_terms.specs.declared.limits.TheConstants.{MOST_BIDDERS};
 ghost use Rattle.bid_forms.specs.Offers.{eligibility_of, is_bid_under};
 
@@ -77,6 +78,7 @@ pub(crate) fn eligibility_of(rules: &Rules, bidder: u16) -> u64
     requires known { bidder ≤ length rules.now.bidders }
     ensures value { result ≡ eligibility_of rules.now bidder }
     ensures few { bidder ≤ MOST_BIDDERS }
+    ensures terms { AreTerms rules.now }
 {
     rules.bidders()[usize::from(bidder) - 1].eligibility
 }

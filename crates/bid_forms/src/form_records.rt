@@ -1,266 +1,469 @@
 //! The records of a form: its header, and each bid after those before it.
 
-ghost use Rattle.std.specs.Prelude.{◌≡◌, ◌≤◌, ◌<◌, ◌+◌, ◌++◌, [], ◌∷◌, None, Some, Err, All, IfErr, IfOk, OnOk, IsTrue, false, drop, is_some, length, map};
-ghost use Rattle.std.specs.Str.{bytes_eq};
-ghost use Rattle.std.specs.Cmp.Lexicographic.{pointwise};
+ghost use Rattle.std.specs.Prelude.{◌≡◌, ◌≢◌, ◌≤◌, ◌+◌, ◌++◌, [], ◌∷◌, None, Some, All as AllAre, IfErr, IfOk, MatchOption, OnOk, ⊤};
+ghost use Rattle.std.specs.Prelude.{codes, drop, false, if◌then◌else◌, is_none, length, option_map, option_to_list, true};
+ghost use Rattle.std.specs.Bool.{MatchBool};
 ghost use Rattle.csv.specs.Records.{fields_of};
+ghost use Rattle.auction_terms.specs.AllFaults.{accepted_with, or_else};
+ghost use Rattle.auction_terms.specs.Causes.{limits_cause};
 ghost use Rattle.auction_terms.specs.FirstFault.{first_failed};
-ghost use Rattle.auction_terms.specs.RulesText.{field_number, record_field};
-ghost use Rattle.auction_terms.specs.Terms.{AreTerms, IsCategory};
+ghost use Rattle.auction_terms.specs.Judged.{HoldsMore, fault_at, fault_of, kept_fault};
+ghost use Rattle.auction_terms.specs.Packages.{IsPackage};
+ghost use Rattle.auction_terms.specs.RulesText.{field_number};
+ghost use Rattle.auction_terms.specs.Terms.{IsCategory};
 ghost use Rattle.auction_terms.specs.declared.limits.TheConstants.{MOST_CATEGORIES};
-ghost use Rattle.bid_forms.specs.inside.Fingerprints.{AreSeen};
-ghost use Rattle.bid_forms.specs.Offers.{IsBidWithinLimits, is_bid_under, number_of_package};
 ghost use Rattle.auction_terms.specs.declared.bids.Bid.{Bid};
-ghost use Rattle.bid_forms.specs.FormText.{amount_checks, parsed_bid, parsed_bidder, count_checks, is_form_memory};
-ghost use Rattle.bid_forms.specs.FormText.{package_checks, quantity_checks, repeat_checks, reserve_checks, form_room_checks};
-ghost use Rattle.bid_forms.specs.inside.FormText.{fault_of_bid, fault_of_lots};
-ghost use Rattle.auction_terms.specs.Stages.{Answers};
-ghost use Rattle.auction_terms.specs.inside.FirstFault.{Tells, TellsFault};
+ghost use Rattle.bid_forms.specs.FormText.{amount_checks, bid_faults, count_checks, field_faults, form_room_checks};
+ghost use Rattle.bid_forms.specs.FormText.{form_header_checks, is_number_text, is_small_text, package_checks, package_faults, parsed_bid};
+ghost use Rattle.bid_forms.specs.FormText.{quantity_faults, repeat_checks, reserve_checks};
 ghost use Rattle.bid_forms.specs.declared.form_text.FormFault.TheVariants as fault;
+ghost use Rattle.bid_forms.specs.inside.Fingerprints.{AreSeen};
+ghost use Rattle.bid_forms.specs.inside.FormText.{IsAmountOf};
 
 use crate::form_text::FormFault;
 use crate::seen::{Seen, earlier};
 use crate::sums::{is_empty_package, points_of, reserve_of};
 use arrayvec::ArrayVec;
 use auction_terms::{
-    Bid, Category, GREATEST_AMOUNT, GREATEST_QUANTITY, MOST_BIDS, Package, Quantities, Rules,
+    All, Bid, Category, FaultAt, GREATEST_AMOUNT, GREATEST_QUANTITY, MOST_BIDS, Package,
+    Quantities, Rules, Wording, count_cause, field, limits_cause, most_cause, number,
 };
 use csv::ByteRecord;
 use std::alloc::AllocError;
 
-// Whether the fields after the first are the names of the categories.
-fn is_header(categories: &[Category], row: &ByteRecord) -> bool
-    requires { 1 ≤ length categories.now }
-    ensures { result ≡ pointwise bytes_eq (drop 1 (fields_of row.now))
-        (map (λ category. category.name) categories.now) }
+/// A record that describes a bid, and what it is judged by.
+#[derive(Drop)]
+pub(crate) struct Entry<'r> {
+    pub rules: &'r Rules,
+    /// The eligibility of the bidder.
+    pub eligibility: u64,
+    /// The number of the record, from 1.
+    pub place: u32,
+    pub row: &'r ByteRecord,
+}
+
+/// The fault of a header whose columns aren't the categories.
+pub(crate) fn header_fault(
+    categories: &[Category],
+    header: &ByteRecord,
+) -> Option<FaultAt<FormFault>>
+    ensures { option_map kept_fault result
+        ≡ first_failed (form_header_checks categories.now (fields_of header.now)) }
 {
-    if row.len() != categories.len() + 1 {
-        return false;
+    let fault = FormFault::Header { place: 1 };
+    if header.len() != categories.len() + 1 {
+        let cause = count_cause(header.len(), categories.len() + 1);
+        return Some(FaultAt::of_whole(fault, Some(cause)));
     }
     for (place, category) in categories.iter().enumerate() {
-        if field!(row, place + 2) != category.name.as_bytes() {
-            return false;
+        let text = field(header, place + 2);
+        if text != category.name.as_bytes() {
+            let cause = Wording::Words("in place of");
+            return Some(FaultAt::new(place + 2, text, fault, cause));
         }
-    }
-    true
-}
-
-// The bidder that the header names.
-pub(crate) fn read_header(rules: &Rules, row: &ByteRecord) -> Result<u16, FormFault>
-    ensures answer { Answers is_form_memory result (parsed_bidder rules.now (fields_of row.now)) }
-    ensures some { IfOk result (λ bidder. 1 ≤ bidder) }
-    ensures known { IfOk result (λ bidder. bidder ≤ length rules.now.bidders) }
-{
-    refuse!(
-        !is_header(rules.categories(), row),
-        FormFault::Header { place: 1 }
-    );
-    match rules.bidder_number(field!(row, 1)) {
-        Some(bidder) => Ok(bidder),
-        None => Err(FormFault::UnknownBidder { place: 1 }),
-    }
-}
-
-// The amount of a record.
-pub(crate) fn read_amount(step: u64, place: u32, row: &ByteRecord) -> Result<u64, FormFault>
-    requires { 1 ≤ step }
-    ensures answer { Tells is_form_memory result
-        (first_failed (amount_checks step place (fields_of row.now)))
-        (field_number 1 (fields_of row.now)) }
-    ensures limits { IfOk result (λ amount. (1 ≤ amount) × (amount ≤ GREATEST_AMOUNT)) }
-{
-    let amount = number!(row, 1, FormFault::AmountText { place });
-    refuse!(
-        amount < 1 || amount > GREATEST_AMOUNT,
-        FormFault::AmountRange { place }
-    );
-    refuse!(amount % step != 0, FormFault::AmountStep { place });
-    Ok(amount)
-}
-
-// The quantities of a record.
-pub(crate) fn read_quantities(place: u32, row: &ByteRecord) -> Result<Quantities, FormFault>
-    requires { length (fields_of row.now) ≤ MOST_CATEGORIES + 1 }
-    ensures answer { TellsFault is_form_memory result
-        (first_failed (quantity_checks place (fields_of row.now))) }
-    ensures parsed { IfErr result (λ f. is_form_memory f ≡ false) }
-    ensures quantities { IfOk result (λ quantities. quantities.items
-        ≡ (parsed_bid (fields_of row.now)).package) }
-    ensures each { IfOk result (λ quantities. All (λ quantity. quantity ≤ GREATEST_QUANTITY)
-        quantities.items) }
-{
-    let mut quantities = ArrayVec::new();
-    let mut within = true;
-    for n in 1..row.len() {
-        let value = number!(row, n + 1, FormFault::QuantityText { place });
-        if value <= GREATEST_QUANTITY {
-            quantities.push(value as u16);
-        } else {
-            within = false;
-        }
-    }
-    refuse!(!within, FormFault::QuantityRange { place });
-    Ok(quantities)
-}
-
-// The fault of a record with another number of fields than there are categories, and one.
-pub(crate) fn count_fault(rules: &Rules, place: u32, row: &ByteRecord) -> Option<FormFault>
-    ensures { result ≡ first_failed (count_checks rules.now place (fields_of row.now)) }
-{
-    if row.len() != rules.categories().len() + 1 {
-        return Some(FormFault::FieldCount { place });
     }
     None
 }
 
+// The fault of a record with another number of fields than there are categories, and one.
+fn count_fault(categories: &[Category], place: u32, row: &ByteRecord) -> Option<FaultAt<FormFault>>
+    ensures { option_map kept_fault result
+        ≡ first_failed (count_checks categories.now place (fields_of row.now)) }
+{
+    if row.len() != categories.len() + 1 {
+        let cause = count_cause(row.len(), categories.len() + 1);
+        return Some(FaultAt::of_whole(FormFault::FieldCount { place }, Some(cause)));
+    }
+    None
+}
+
+// The amount of a record, or its fault.
+fn read_amount(step: u64, place: u32, row: &ByteRecord) -> Result<u64, FaultAt<FormFault>>
+    requires { 1 ≤ step }
+    ensures amount { IfOk result (λ amount. IsAmountOf step place (fields_of row.now)
+        (Some amount)) }
+    ensures fault { IfErr result (λ at. first_failed (amount_checks step place
+        (fields_of row.now)) ≡ Some (kept_fault at)) }
+{
+    let text = field(row, 1);
+    let Some(amount) = number(text) else {
+        let cause = Wording::Words("isn't 1 to 18 digits");
+        return Err(FaultAt::new(1, text, FormFault::AmountText { place }, cause));
+    };
+    if amount < 1 || amount > GREATEST_AMOUNT {
+        let cause = limits_cause(1, GREATEST_AMOUNT);
+        return Err(FaultAt::new(1, text, FormFault::AmountRange { place }, cause));
+    }
+    if amount % step != 0 {
+        let cause = Wording::Number("isn't a multiple of ", step);
+        return Err(FaultAt::new(1, text, FormFault::AmountStep { place }, cause));
+    }
+    Ok(amount)
+}
+
+// Adds the fault of the amount of a record, or returns the amount.
+fn take_amount(
+    faults: &mut All<FormFault>,
+    step: u64,
+    place: u32,
+    row: &ByteRecord,
+) -> Result<Option<u64>, AllocError>
+    requires { 1 ≤ step }
+    ensures told { OnOk result (HoldsMore faults.old faults.new
+        (fault_of (amount_checks step place (fields_of row.now)))) }
+    ensures amount { IfOk result (IsAmountOf step place (fields_of row.now)) }
+{
+    match read_amount(step, place, row) {
+        Ok(amount) => Ok(Some(amount)),
+        Err(at) => {
+            faults.add(at)?;
+            Ok(None)
+        }
+    }
+}
+
+// The quantities of a record, where each field after the first is one.
+fn read_quantities(place: u32, row: &ByteRecord) -> Option<Quantities>
+    requires { length (fields_of row.now) ≤ MOST_CATEGORIES + 1 }
+    ensures none { MatchOption result (quantity_faults place (fields_of row.now) ≢ [])
+        (λ quantities. quantity_faults place (fields_of row.now) ≡ []) }
+    ensures quantities { MatchOption result ⊤ (λ quantities. quantities.items
+        ≡ (parsed_bid (fields_of row.now)).package) }
+    ensures each { MatchOption result ⊤ (λ quantities. AllAre (λ quantity. quantity
+        ≤ GREATEST_QUANTITY) quantities.items) }
+{
+    let mut quantities = ArrayVec::new();
+    for n in 1..row.len() {
+        let Some(value) = number(field(row, n + 1)) else {
+            return None;
+        };
+        if value > GREATEST_QUANTITY {
+            return None;
+        }
+        quantities.push(value as u16);
+    }
+    Some(quantities)
+}
+
+// The fault of the quantity in a field where that is no number.
+fn text_fault(place: u32, n: usize, text: &[u8]) -> Option<FaultAt<FormFault>>
+    ensures { option_map kept_fault result ≡ first_failed ((
+      is_number_text text.now,
+      fault_at n text.now (fault.QuantityText place) (codes "isn't 1 to 18 digits"),
+    ) ∷ []) }
+{
+    if number(text).is_some() {
+        return None;
+    }
+    let cause = Wording::Words("isn't 1 to 18 digits");
+    Some(FaultAt::new(n, text, FormFault::QuantityText { place }, cause))
+}
+
+// The fault of the quantity in a field where that is a number above the greatest one.
+fn range_fault(place: u32, n: usize, text: &[u8]) -> Option<FaultAt<FormFault>>
+    ensures { option_map kept_fault result ≡ first_failed ((
+      is_small_text text.now,
+      fault_at n text.now (fault.QuantityRange place) (limits_cause 0 GREATEST_QUANTITY),
+    ) ∷ []) }
+{
+    if number(text).unwrap_or(0) <= GREATEST_QUANTITY {
+        return None;
+    }
+    let cause = limits_cause(0, GREATEST_QUANTITY);
+    Some(FaultAt::new(n, text, FormFault::QuantityRange { place }, cause))
+}
+
+// Adds the faults of quantities that are no numbers.
+fn add_texts(faults: &mut All<FormFault>, place: u32, row: &ByteRecord) -> Result<(), AllocError>
+    ensures { OnOk result (HoldsMore faults.old faults.new (field_faults is_number_text
+        (fault.QuantityText place) (codes "isn't 1 to 18 digits") 2
+        (drop 1 (fields_of row.now)))) }
+{
+    for n in 1..row.len() {
+        faults.add_any(text_fault(place, n + 1, field(row, n + 1)))?;
+    }
+    Ok(())
+}
+
+// Adds the faults of quantities that are numbers above the greatest one.
+fn add_ranges(faults: &mut All<FormFault>, place: u32, row: &ByteRecord) -> Result<(), AllocError>
+    ensures { OnOk result (HoldsMore faults.old faults.new (field_faults is_small_text
+        (fault.QuantityRange place) (limits_cause 0 GREATEST_QUANTITY) 2
+        (drop 1 (fields_of row.now)))) }
+{
+    for n in 1..row.len() {
+        faults.add_any(range_fault(place, n + 1, field(row, n + 1)))?;
+    }
+    Ok(())
+}
+
 // The fault of a package that the rules don't allow a bidder with this eligibility.
-pub(crate) fn package_fault(
+fn package_fault(
     categories: &[Category],
     eligibility: u64,
     place: u32,
     quantities: &[u16],
-) -> Option<FormFault>
+) -> Option<FaultAt<FormFault>>
     requires few { length categories.now ≤ MOST_CATEGORIES }
     requires sized { length quantities.now ≡ length categories.now }
-    requires each { All IsCategory categories.now }
-    requires quantities { All (λ quantity. quantity ≤ GREATEST_QUANTITY) quantities.now }
-    ensures { result ≡ first_failed (package_checks categories.now eligibility place
-        quantities.now) }
+    requires each { AllAre IsCategory categories.now }
+    requires quantities { AllAre (λ quantity. quantity ≤ GREATEST_QUANTITY) quantities.now }
+    ensures { option_map kept_fault result
+        ≡ first_failed (package_checks categories.now eligibility place quantities.now) }
 {
     if is_empty_package(quantities) {
-        return Some(FormFault::EmptyPackage { place });
+        let cause = Wording::Words("each quantity is 0");
+        return Some(FaultAt::of_whole(FormFault::EmptyPackage { place }, Some(cause)));
     }
-    if points_of(categories, quantities) > eligibility {
-        return Some(FormFault::OverEligibility { place });
+    let points = points_of(categories, quantities);
+    if points > eligibility {
+        let cause = Wording::Numbers(
+            "",
+            points,
+            " points, above the eligibility of ",
+            eligibility,
+        );
+        return Some(FaultAt::of_whole(FormFault::OverEligibility { place }, Some(cause)));
     }
     None
 }
 
-// The fault of an amount below the reserve of the package.
-pub(crate) fn reserve_fault(
-    categories: &[Category],
-    place: u32,
+// The fault of the amount of a record, where it is known and below the reserve of the package.
+fn reserve_fault(
+    entry: &Entry<'_>,
     quantities: &[u16],
-    amount: u64,
-) -> Option<FormFault>
-    requires few { length categories.now ≤ MOST_CATEGORIES }
-    requires sized { length quantities.now ≡ length categories.now }
-    requires each { All IsCategory categories.now }
-    requires quantities { All (λ quantity. quantity ≤ GREATEST_QUANTITY) quantities.now }
-    ensures { result ≡ first_failed (reserve_checks categories.now place quantities.now amount) }
+    amount: Option<u64>,
+) -> Option<FaultAt<FormFault>>
+    requires sized { length quantities.now ≡ length entry.now.rules.now.categories }
+    requires quantities { AllAre (λ quantity. quantity ≤ GREATEST_QUANTITY) quantities.now }
+    requires amount { IsAmountOf entry.now.rules.now.step entry.now.place
+        (fields_of entry.now.row.now) amount }
+    ensures { option_to_list (option_map kept_fault result)
+        ≡ (if is_none (first_failed (amount_checks entry.now.rules.now.step entry.now.place
+        (fields_of entry.now.row.now))) then fault_of (reserve_checks
+        entry.now.rules.now.categories entry.now.place quantities.now
+        (fields_of entry.now.row.now)) else []) }
 {
-    if reserve_of(categories, quantities) > amount {
-        return Some(FormFault::BelowReserve { place });
+    let amount = amount?;
+    let reserve = reserve_of(entry.rules.categories(), quantities);
+    if reserve <= amount {
+        return None;
     }
-    None
+    let fault = FormFault::BelowReserve { place: entry.place };
+    let cause = Wording::Number("is below the reserve of ", reserve);
+    Some(FaultAt::new(1, field(entry.row, 1), fault, cause))
 }
 
 // The fault of a package that an earlier bid has. It is among those seen from now on.
-pub(crate) fn repeat_fault(
+fn repeat_fault(
     seen: &mut Seen,
     place: u32,
     before: &[Bid],
     quantities: &[u16],
-) -> Result<Option<FormFault>, AllocError>
+) -> Result<Option<FaultAt<FormFault>>, AllocError>
     requires seen { AreSeen seen.old.multiplier seen.old.prints.keys before.now }
     requires few { length before.now ≤ MOST_BIDS }
-    ensures fault { IfOk result (λ fault. fault
+    ensures fault { IfOk result (λ at. option_map kept_fault at
         ≡ first_failed (repeat_checks place before.now quantities.now)) }
     ensures seen { IfOk result (λ _. (bid : Bid) → bid.package ≡ quantities.now
         → AreSeen seen.new.multiplier seen.new.prints.keys (before.now ++ bid ∷ [])) }
 {
     match earlier(seen, before, quantities)? {
-        Some(earlier) => Ok(Some(FormFault::RepeatedPackage { place, earlier })),
+        Some(earlier) => Ok(Some(FaultAt::of_whole(
+            FormFault::RepeatedPackage { place, earlier },
+            None,
+        ))),
         None => Ok(None),
     }
 }
 
 // The fault of a bid after the last one that may be.
-pub(crate) fn room_fault(place: u32, before: &[Bid]) -> Option<FormFault>
-    ensures { result ≡ first_failed (form_room_checks place before.now) }
+fn room_fault(place: u32, before: &[Bid]) -> Option<FaultAt<FormFault>>
+    ensures { option_map kept_fault result ≡ first_failed (form_room_checks place before.now) }
 {
     if before.len() >= MOST_BIDS {
-        return Some(FormFault::TooManyBids { place });
+        let cause = most_cause(MOST_BIDS, " bids");
+        return Some(FaultAt::of_whole(FormFault::TooManyBids { place }, Some(cause)));
     }
     None
 }
 
-// Tests that there is no fault.
-fn check_none(fault: Option<FormFault>) -> Result<(), FormFault>
-    ensures none { OnOk result (fault ≡ None) }
-    ensures one { IfErr result (λ f. fault ≡ Some f) }
+// Adds these faults, and returns whether there is none.
+fn add_each(
+    faults: &mut All<FormFault>,
+    first: Option<FaultAt<FormFault>>,
+    second: Option<FaultAt<FormFault>>,
+    third: Option<FaultAt<FormFault>>,
+) -> Result<bool, AllocError>
+    ensures told { OnOk result (HoldsMore faults.old faults.new
+        (option_to_list (option_map kept_fault first)
+        ++ (option_to_list (option_map kept_fault second)
+        ++ option_to_list (option_map kept_fault third)))) }
+    ensures none { IfOk result (λ none. MatchBool none
+        (option_to_list (option_map kept_fault first)
+        ++ (option_to_list (option_map kept_fault second)
+        ++ option_to_list (option_map kept_fault third)) ≡ [])
+        (option_to_list (option_map kept_fault first)
+        ++ (option_to_list (option_map kept_fault second)
+        ++ option_to_list (option_map kept_fault third)) ≢ [])) }
 {
-    match fault {
-        Some(fault) => Err(fault),
-        None => Ok(()),
-    }
+    let none = first.is_none() && second.is_none() && third.is_none();
+    faults.add_any(first)?;
+    faults.add_any(second)?;
+    faults.add_any(third)?;
+    Ok(none)
 }
 
-// Tests the quantities and the amount of a record, after the bids before it. The package is among those seen from now on.
-fn check_lots(
-    rules: &Rules,
-    eligibility: u64,
-    place: u32,
+// Adds the faults of the package of a record, by the bids before it, and returns whether there is none. The package is among those seen
+// from now on.
+fn check_package(
+    faults: &mut All<FormFault>,
+    entry: &Entry<'_>,
     seen: &mut Seen,
     before: &[Bid],
     quantities: &[u16],
-    amount: u64,
-) -> Result<(), FormFault>
+    amount: Option<u64>,
+) -> Result<bool, AllocError>
     requires seen { AreSeen seen.old.multiplier seen.old.prints.keys before.now }
     requires few { length before.now ≤ MOST_BIDS }
-    requires sized { length quantities.now ≡ length rules.now.categories }
-    requires quantities { All (λ quantity. quantity ≤ GREATEST_QUANTITY) quantities.now }
-    ensures answer { TellsFault is_form_memory result
-        (fault_of_lots rules.now.categories eligibility place before.now quantities.now amount) }
-    ensures package { OnOk result (first_failed
-        (package_checks rules.now.categories eligibility place quantities.now) ≡ None) }
-    ensures reserve { OnOk result (first_failed
-        (reserve_checks rules.now.categories place quantities.now amount) ≡ None) }
-    ensures new { OnOk result (number_of_package quantities.now before.now ≡ None) }
-    ensures room { OnOk result (length before.now < MOST_BIDS) }
+    requires sized { length quantities.now ≡ length entry.now.rules.now.categories }
+    requires each { AllAre (λ quantity. quantity ≤ GREATEST_QUANTITY) quantities.now }
+    requires quantities { quantities.now ≡ (parsed_bid (fields_of entry.now.row.now)).package }
+    requires amount { IsAmountOf entry.now.rules.now.step entry.now.place
+        (fields_of entry.now.row.now) amount }
+    ensures told { OnOk result (HoldsMore faults.old faults.new
+        (package_faults entry.now.rules.now entry.now.eligibility entry.now.place before.now
+        (fields_of entry.now.row.now))) }
+    ensures none { IfOk result (λ none. MatchBool none
+        (package_faults entry.now.rules.now entry.now.eligibility entry.now.place before.now
+        (fields_of entry.now.row.now) ≡ [])
+        (package_faults entry.now.rules.now entry.now.eligibility entry.now.place before.now
+        (fields_of entry.now.row.now) ≢ [])) }
     ensures seen { OnOk result ((bid : Bid) → bid.package ≡ quantities.now
         → AreSeen seen.new.multiplier seen.new.prints.keys (before.now ++ bid ∷ [])) }
-    ensures kept { IfErr result (λ f. is_form_memory f ≡ false
-        → AreSeen seen.new.multiplier seen.new.prints.keys before.now) }
 {
-    let categories = rules.categories();
-    check_none(package_fault(categories, eligibility, place, quantities))?;
-    check_none(reserve_fault(categories, place, quantities, amount))?;
+    let categories = entry.rules.categories();
+    let place = entry.place;
+    let refused = package_fault(categories, entry.eligibility, place, quantities);
+    let below = reserve_fault(entry, quantities, amount);
     let repeated = repeat_fault(seen, place, before, quantities)?;
-    check_none(repeated)?;
-    check_none(room_fault(place, before))?;
-    Ok(())
+    add_each(faults, refused, below, repeated)
 }
 
-// The bid of a record, after those before it.
-pub(crate) fn read_bid(
-    rules: &Rules,
-    eligibility: u64,
-    place: u32,
+// Adds the faults of the quantities of a record, or of their package, or returns the quantities.
+fn take_quantities(
+    faults: &mut All<FormFault>,
+    entry: &Entry<'_>,
     seen: &mut Seen,
     before: &[Bid],
-    row: &ByteRecord,
-) -> Result<Bid, FormFault>
+    amount: Option<u64>,
+) -> Result<Option<Quantities>, AllocError>
     requires seen { AreSeen seen.old.multiplier seen.old.prints.keys before.now }
     requires few { length before.now ≤ MOST_BIDS }
-    ensures answer { Tells is_form_memory result
-        (fault_of_bid rules.now eligibility place before.now (fields_of row.now))
-        (parsed_bid (fields_of row.now)) }
-    ensures limits { IfOk result IsBidWithinLimits }
-    ensures allowed { IfOk result (λ bid. IsTrue (is_bid_under rules.now eligibility bid)) }
-    ensures new { IfOk result (λ bid. number_of_package bid.package before.now ≡ None) }
-    ensures room { OnOk result (length before.now < MOST_BIDS) }
-    ensures seen { IfOk result (λ bid. AreSeen seen.new.multiplier seen.new.prints.keys
-        (before.now ++ bid ∷ [])) }
-    ensures kept { IfErr result (λ f. is_form_memory f ≡ false
-        → AreSeen seen.new.multiplier seen.new.prints.keys before.now) }
+    requires sized { length (fields_of entry.now.row.now)
+        ≡ length entry.now.rules.now.categories + 1 }
+    requires amount { IsAmountOf entry.now.rules.now.step entry.now.place
+        (fields_of entry.now.row.now) amount }
+    ensures told { OnOk result (HoldsMore faults.old faults.new
+        (or_else (quantity_faults entry.now.place (fields_of entry.now.row.now))
+        (package_faults entry.now.rules.now entry.now.eligibility entry.now.place before.now
+        (fields_of entry.now.row.now)))) }
+    ensures none { IfOk result (λ quantities. MatchOption quantities
+        (or_else (quantity_faults entry.now.place (fields_of entry.now.row.now))
+        (package_faults entry.now.rules.now entry.now.eligibility entry.now.place before.now
+        (fields_of entry.now.row.now)) ≢ [])
+        (λ _. or_else (quantity_faults entry.now.place (fields_of entry.now.row.now))
+        (package_faults entry.now.rules.now entry.now.eligibility entry.now.place before.now
+        (fields_of entry.now.row.now)) ≡ [])) }
+    ensures quantities { IfOk result (λ quantities. MatchOption quantities ⊤
+        (λ quantities. (quantities.items ≡ (parsed_bid (fields_of entry.now.row.now)).package)
+        × IsPackage quantities.items)) }
+    ensures kept { OnOk result (AreSeen seen.new.multiplier seen.new.prints.keys before.now) }
+    ensures seen { IfOk result (λ quantities. MatchOption quantities ⊤ (λ quantities. (bid : Bid)
+        → bid.package ≡ quantities.items
+        → AreSeen seen.new.multiplier seen.new.prints.keys (before.now ++ bid ∷ []))) }
 {
-    rules.within_limits();
-    check_none(count_fault(rules, place, row))?;
-    let amount = read_amount(rules.step(), place, row)?;
-    let quantities = read_quantities(place, row)?;
-    let lots = quantities.as_slice();
-    check_lots(rules, eligibility, place, seen, before, lots, amount)?;
+    entry.rules.within_limits();
+    match read_quantities(entry.place, entry.row) {
+        None => {
+            add_texts(faults, entry.place, entry.row)?;
+            add_ranges(faults, entry.place, entry.row)?;
+            Ok(None)
+        }
+        Some(quantities) => {
+            let lots = quantities.as_slice();
+            if !check_package(faults, entry, seen, before, lots, amount)? {
+                return Ok(None);
+            }
+            Ok(Some(quantities))
+        }
+    }
+}
+
+// Adds the faults of a record, by the bids before it, or returns the bid that it describes.
+fn read_bid(
+    faults: &mut All<FormFault>,
+    entry: &Entry<'_>,
+    seen: &mut Seen,
+    before: &[Bid],
+) -> Result<Option<Bid>, AllocError>
+    requires seen { AreSeen seen.old.multiplier seen.old.prints.keys before.now }
+    requires few { length before.now ≤ MOST_BIDS }
+    ensures told { OnOk result (HoldsMore faults.old faults.new (bid_faults entry.now.rules.now
+        entry.now.eligibility entry.now.place before.now (fields_of entry.now.row.now))) }
+    ensures none { IfOk result (λ bid. MatchOption bid
+        (bid_faults entry.now.rules.now entry.now.eligibility entry.now.place before.now
+        (fields_of entry.now.row.now) ≢ [])
+        (λ _. bid_faults entry.now.rules.now entry.now.eligibility entry.now.place before.now
+        (fields_of entry.now.row.now) ≡ [])) }
+    ensures bid { IfOk result (λ bid. MatchOption bid ⊤
+        (λ bid. bid ≡ parsed_bid (fields_of entry.now.row.now))) }
+    ensures seen { IfOk result (λ bid. AreSeen seen.new.multiplier seen.new.prints.keys
+        (before.now ++ option_to_list bid)) }
+{
+    let place = entry.place;
+    if let Some(at) = count_fault(entry.rules.categories(), place, entry.row) {
+        faults.add(at)?;
+        return Ok(None);
+    }
+    entry.rules.within_limits();
+    let amount = take_amount(faults, entry.rules.step(), place, entry.row)?;
+    let quantities = take_quantities(faults, entry, seen, before, amount)?;
+    if let Some(at) = room_fault(place, before) {
+        faults.add(at)?;
+        return Ok(None);
+    }
+    let Some(amount) = amount else {
+        return Ok(None);
+    };
+    let Some(quantities) = quantities else {
+        return Ok(None);
+    };
     let package = Package::of(quantities);
-    Ok(Bid { package, amount })
+    Ok(Some(Bid { package, amount }))
+}
+
+/// Adds the faults of a record, or the bid that it describes to those before it.
+pub(crate) fn take_bid(
+    faults: &mut All<FormFault>,
+    entry: &Entry<'_>,
+    seen: &mut Seen,
+    bids: &mut Vec<Bid>,
+) -> Result<(), AllocError>
+    requires seen { AreSeen seen.old.multiplier seen.old.prints.keys bids.old.items }
+    requires few { length bids.old.items ≤ MOST_BIDS }
+    ensures told { OnOk result (HoldsMore faults.old faults.new (bid_faults entry.now.rules.now
+        entry.now.eligibility entry.now.place bids.old.items (fields_of entry.now.row.now))) }
+    ensures bids { OnOk result (bids.new.items ≡ accepted_with (bid_faults entry.now.rules.now
+        entry.now.eligibility entry.now.place bids.old.items (fields_of entry.now.row.now))
+        bids.old.items (parsed_bid (fields_of entry.now.row.now))) }
+    ensures seen { OnOk result (AreSeen seen.new.multiplier seen.new.prints.keys
+        bids.new.items) }
+{
+    if let Some(bid) = read_bid(faults, entry, seen, bids)? {
+        if bids.push(bid).is_err() {
+            return Err(AllocError);
+        }
+    }
+    Ok(())
 }

@@ -1,24 +1,25 @@
 //! The text of a form.
 
-ghost use Rattle.std.specs.Prelude.{◌≡◌, ◌≤◌, ◌<◌, ◌+◌, [], Some, Err, All, IfOk, OnOk, IsTrue, is_some, length, map};
-ghost use Rattle.auction_terms.specs.FirstFault.{first_fault};
-ghost use Rattle.auction_terms.specs.RulesText.{record_field};
+ghost use Rattle.std.specs.Prelude.{◌≡◌, ◌≢◌, ◌≤◌, ◌<◌, ◌+◌, ◌∷◌, [], None, Some, Err, IfOk, IsTrue, MatchOption, OnOk, ⊤, length, map};
+ghost use Rattle.auction_terms.specs.Judged.{Holds, fault_of_whole};
 ghost use Rattle.auction_terms.specs.Records.{records_of};
-ghost use Rattle.auction_terms.specs.Terms.{AreTerms};
-ghost use Rattle.bid_forms.specs.Offers.{IsBidWithinLimits, Meets, PackagesDiffer, eligibility_of, is_bid_under};
-ghost use Rattle.auction_terms.specs.declared.bids.Bid.{Bid};
-ghost use Rattle.bid_forms.specs.FormText.{bid_fault, parsed_bid, form_of_records, is_form_memory};
 ghost use Rattle.auction_terms.specs.Stages.{Answers};
-ghost use Rattle.auction_terms.specs.inside.FirstFault.{Tells, TellsFault};
 ghost use Rattle.auction_terms.specs.Wording.{wording_text};
+ghost use Rattle.auction_terms.specs.declared.limits.TheConstants.{MOST_FAULTS};
 ghost use Rattle.bid_forms.specs.FormFaultText.{form_fault_text};
-ghost use Rattle.bid_forms.specs.RowNumbers.{form_place};
+ghost use Rattle.bid_forms.specs.FormText.{bids_faults, described_form, form_faults, form_of_records, is_form_memory, parsed_bid};
+ghost use Rattle.bid_forms.specs.Offers.{Meets, eligibility_of};
+ghost use Rattle.bid_forms.specs.FormPlaces.{form_place};
 ghost use Rattle.bid_forms.specs.declared.form_text.FormFault.TheVariants as fault;
+ghost use Rattle.bid_forms.specs.inside.FormText.{AreBids, FindsEnough};
 
 use crate::form::{Form, eligibility_of};
-use crate::form_records::{read_bid, read_header};
-use crate::seen::{Seen, earlier};
-use auction_terms::{Bid, MOST_BIDS, RecordReader, Rules, TEXT_LIMIT, Wording};
+use crate::form_records::{Entry, header_fault, take_bid};
+use crate::seen::Seen;
+use auction_terms::{
+    All, Bid, FaultAt, GREATEST_AMOUNT, MOST_FAULTS, RecordReader, Rules, TEXT_LIMIT, Wording,
+    field,
+};
 use csv::ByteRecord;
 use std::alloc::{AllocError, Global};
 use std::fmt;
@@ -139,78 +140,125 @@ impl From<AllocError> for FormFault {
     }
 }
 
-// Reads the records after the header, of a bidder with this eligibility.
-fn take_bids(
+// Whether one fault is wanted, and it is found.
+fn has_enough(faults: &All<FormFault>) -> bool
+    ensures { IsTrue result → (faults.now.most ≡ 1) × (1 ≤ length faults.now.kept.items) }
+{
+    faults.most == 1 && !faults.kept.is_empty()
+}
+
+// Adds the faults of the records after the header, of a bidder with this eligibility, and returns the bids of those without one.
+fn read_bids(
     alloc: Global,
+    faults: &mut All<FormFault>,
     rules: &Rules,
     eligibility: u64,
     reader: &mut RecordReader,
     text: &[u8],
-    bids: &mut Vec<Bid>,
-) -> Result<(), FormFault>
-    requires few { length reader.old ≤ TEXT_LIMIT + 1 }
-    requires none { bids.old.items ≡ [] }
-    ensures answer { TellsFault is_form_memory result
-        (first_fault (bid_fault rules.now eligibility) [] reader.old) }
-    ensures bids { OnOk result (bids.new.items ≡ map parsed_bid reader.old) }
-    ensures few { OnOk result (length bids.new.items ≤ MOST_BIDS) }
-    ensures limits { OnOk result (All IsBidWithinLimits bids.new.items) }
-    ensures allowed { OnOk result (All (λ bid. IsTrue (is_bid_under rules.now eligibility bid))
-        bids.new.items) }
-    ensures differ { OnOk result (PackagesDiffer bids.new.items) }
+) -> Result<Vec<Bid>, AllocError>
+    requires short { length reader.old ≤ TEXT_LIMIT + 1 }
+    ensures found { OnOk result (FindsEnough faults.old faults.new
+        (bids_faults rules.now eligibility reader.old)) }
+    ensures bids { IfOk result (λ bids. length faults.new.kept.items ≡ 0
+        → bids_faults rules.now eligibility reader.old ≡ []
+        → bids.items ≡ map parsed_bid reader.old) }
+    ensures are { IfOk result (λ bids. AreBids rules.now eligibility bids.items) }
 {
     let mut row = ByteRecord::new(alloc);
     let mut seen = Seen::of_text(alloc, text);
+    let mut bids = Vec::new(alloc);
     let mut place = 2u32;
     while reader.next(&mut row)? {
-        let bid = read_bid(rules, eligibility, place, &mut seen, bids, &row)?;
-        if bids.push(bid).is_err() {
-            return Err(FormFault::OutOfMemory);
+        let entry = Entry {
+            rules,
+            eligibility,
+            place,
+            row: &row,
+        };
+        take_bid(faults, &entry, &mut seen, &mut bids)?;
+        if has_enough(faults) {
+            return Ok(bids);
         }
         place += 1;
     }
-    Ok(())
+    Ok(bids)
 }
 
-// Reads the form of a bidder, of the records after the header.
-fn read_bids(
+// Adds the faults of the records after the header, or returns the form of the bidder.
+fn read_form_of(
     alloc: Global,
+    faults: &mut All<FormFault>,
     rules: &Rules,
     bidder: u16,
     reader: &mut RecordReader,
     text: &[u8],
-) -> Result<Form, FormFault>
+) -> Result<Option<Form>, AllocError>
     requires some { 1 ≤ bidder }
     requires known { bidder ≤ length rules.now.bidders }
-    requires few { length reader.old ≤ TEXT_LIMIT + 1 }
-    ensures answer { Tells is_form_memory result
-        (first_fault (bid_fault rules.now (eligibility_of rules.now bidder)) [] reader.old)
-        (record { bidder = bidder; bids = (map parsed_bid reader.old) }) }
-    ensures meets { IfOk result (Meets rules.now) }
+    requires short { length reader.old ≤ TEXT_LIMIT + 1 }
+    requires none { Holds faults.old.most faults.old [] }
+    requires room { 1 ≤ faults.old.most }
+    ensures found { OnOk result (FindsEnough faults.old faults.new
+        (bids_faults rules.now (eligibility_of rules.now bidder) reader.old)) }
+    ensures none { IfOk result (λ form. MatchOption form
+        (bids_faults rules.now (eligibility_of rules.now bidder) reader.old ≢ [])
+        (λ _. bids_faults rules.now (eligibility_of rules.now bidder) reader.old ≡ [])) }
+    ensures form { IfOk result (λ form. MatchOption form ⊤ (λ form. form ≡ record {
+      bidder = bidder;
+      bids = map parsed_bid reader.old;
+    })) }
+    ensures meets { IfOk result (λ form. MatchOption form ⊤ (Meets rules.now)) }
 {
     let eligibility = eligibility_of(rules, bidder);
-    let mut bids = Vec::new(alloc);
-    take_bids(alloc, rules, eligibility, reader, text, &mut bids)?;
+    let mut bids = read_bids(alloc, faults, rules, eligibility, reader, text)?;
+    if !faults.kept.is_empty() {
+        return Ok(None);
+    }
     // The history keeps every form: room for further bids would be most of what a small one takes.
     bids.shrink_to_fit();
-    Ok(Form::new(bidder, bids))
+    Ok(Some(Form::new(bidder, bids)))
 }
 
-// Reads the form that the records of a text describe.
-fn read_records(
+// Adds the faults of the records of a text, or returns the form that they describe.
+fn judge_form(
     alloc: Global,
+    faults: &mut All<FormFault>,
     rules: &Rules,
     reader: &mut RecordReader,
     text: &[u8],
-) -> Result<Form, FormFault>
-    requires few { length reader.old ≤ TEXT_LIMIT + 1 }
-    ensures answer { Answers is_form_memory result (form_of_records rules.now reader.old) }
-    ensures meets { IfOk result (Meets rules.now) }
+) -> Result<Option<Form>, AllocError>
+    requires short { length reader.old ≤ TEXT_LIMIT + 1 }
+    requires none { Holds faults.old.most faults.old [] }
+    requires room { 1 ≤ faults.old.most }
+    ensures found { OnOk result (FindsEnough faults.old faults.new
+        (form_faults rules.now reader.old)) }
+    ensures none { IfOk result (λ form. MatchOption form (form_faults rules.now reader.old ≢ [])
+        (λ _. form_faults rules.now reader.old ≡ [])) }
+    ensures form { IfOk result (λ form. MatchOption form ⊤
+        (λ form. form ≡ described_form rules.now reader.old)) }
+    ensures meets { IfOk result (λ form. MatchOption form ⊤ (Meets rules.now)) }
 {
-    let mut row = ByteRecord::new(alloc);
-    refuse!(!reader.next(&mut row)?, FormFault::Header { place: 1 });
-    let bidder = read_header(rules, &row)?;
-    read_bids(alloc, rules, bidder, reader, text)
+    let mut header = ByteRecord::new(alloc);
+    if !reader.next(&mut header)? {
+        let cause = Wording::Words("there is no record");
+        faults.add(FaultAt::of_whole(FormFault::Header { place: 1 }, Some(cause)))?;
+        return Ok(None);
+    }
+    if let Some(at) = header_fault(rules.categories(), &header) {
+        faults.add(at)?;
+        return Ok(None);
+    }
+    let name = field(&header, 1);
+    match rules.bidder_number(name) {
+        Some(bidder) => read_form_of(alloc, faults, rules, bidder, reader, text),
+        None => {
+            let cause = Wording::Words("is no bidder's name");
+            let fault = FormFault::UnknownBidder { place: 1 };
+            faults.add(FaultAt::new(1, name, fault, cause))?;
+            read_bids(alloc, faults, rules, GREATEST_AMOUNT, reader, text)?;
+            Ok(None)
+        }
+    }
 }
 
 /// Reads a form, under rules.
@@ -220,7 +268,31 @@ pub fn read_form(alloc: Global, bytes: &[u8], rules: &Rules) -> Result<Form, For
         → Answers is_form_memory result (form_of_records rules.now (records_of bytes.now)) }
     ensures meets { IfOk result (Meets rules.now) }
 {
-    refuse!(bytes.len() > TEXT_LIMIT, FormFault::TooLarge);
+    if bytes.len() > TEXT_LIMIT {
+        return Err(FormFault::TooLarge);
+    }
+    let mut faults = All::new(alloc, 1);
     let mut reader = RecordReader::new(alloc, bytes);
-    read_records(alloc, rules, &mut reader, bytes)
+    match judge_form(alloc, &mut faults, rules, &mut reader, bytes)? {
+        Some(form) => Ok(form),
+        None => Err(faults.kept[0].fault),
+    }
+}
+
+/// All faults of a text of a form, under rules.
+pub fn form_faults(alloc: Global, bytes: &[u8], rules: &Rules) -> Result<All<FormFault>, AllocError>
+    ensures too_large { TEXT_LIMIT < length bytes.now
+        → IfOk result (λ faults. Holds MOST_FAULTS faults (fault_of_whole fault.TooLarge None ∷ [])) }
+    ensures all { length bytes.now ≤ TEXT_LIMIT
+        → IfOk result (λ faults. Holds MOST_FAULTS faults
+        (form_faults rules.now (records_of bytes.now))) }
+{
+    let mut faults = All::new(alloc, MOST_FAULTS);
+    if bytes.len() > TEXT_LIMIT {
+        faults.add(FaultAt::of_whole(FormFault::TooLarge, None))?;
+        return Ok(faults);
+    }
+    let mut reader = RecordReader::new(alloc, bytes);
+    judge_form(alloc, &mut faults, rules, &mut reader, bytes)?;
+    Ok(faults)
 }

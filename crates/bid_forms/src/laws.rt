@@ -1,30 +1,26 @@
-//! Laws over the definitions alone: which fault of a form is the first, and that all begin with it.
+//! Laws over the definitions alone: which texts are forms, and what all faults of a text are.
 
-ghost use Rattle.std.specs.Prelude.{ℕ, List};
-ghost use Rattle.auction_terms.specs.AllFaults.{AreFaultsOf};
-ghost use Rattle.auction_terms.specs.FirstFault.{TellsTheFirst};
-ghost use Rattle.auction_terms.specs.Terms.{Terms};
-ghost use Rattle.auction_terms.specs.Records.{Record};
+ghost use Rattle.std.specs.Prelude.{◌≡◌, ◌↔◌, [], List, Ok, ℕ};
 ghost use Rattle.auction_terms.specs.Accepted.{AreOfItems};
-ghost use Rattle.bid_forms.specs.AcceptedForms.{FormFaultsAreOfRecords};
-ghost use Rattle.bid_forms.specs.AllFormFaults.{all_form_faults, faults_by_record};
-ghost use Rattle.bid_forms.specs.FormText.{bid_fault, form_of_records};
+ghost use Rattle.auction_terms.specs.Records.{Record};
+ghost use Rattle.auction_terms.specs.Terms.{Terms};
+ghost use Rattle.bid_forms.specs.AcceptedForms.{Describe};
+ghost use Rattle.bid_forms.specs.FaultsOfRecords.{FormFaultsAreOfRecords};
+ghost use Rattle.bid_forms.specs.FormText.{form_faults, form_of_records, record_faults};
+ghost use Rattle.bid_forms.specs.Offers.{Offers};
 
-/// The records after the header of a form have the fault of the first of them with a fault.
-pub fn records_of_forms_tell_their_first_fault()
-    ensures { (terms : Terms) (eligibility : ℕ) → TellsTheFirst (bid_fault terms eligibility) }
-{}
-
-/// All faults of a text of a form begin with the first one, and where there is none there is no first one.
-pub fn all_faults_of_forms_begin_with_the_first()
-    ensures { (terms : Terms) (records : List Record) → AreFaultsOf (all_form_faults terms records)
-        (form_of_records terms records) }
+/// A text has no fault exactly if its records describe a form; and that form is what is read.
+pub fn accepted_forms_are_these()
+    ensures accepted { (terms : Terms) (records : List Record)
+        → form_faults terms records ≡ [] ↔ ((form : Offers) × Describe terms records form) }
+    ensures read { (terms : Terms) (records : List Record) (form : Offers)
+        → form_of_records terms records ≡ Ok form ↔ Describe terms records form }
 {}
 
 /// The faults of a form are those of its records, by the accepted ones before them; the accepted ones alone have none, but the header's.
 pub fn faults_of_forms_are_of_their_records()
-    ensures form { (terms : Terms) (header : Record) (entries : List Record)
-        → FormFaultsAreOfRecords terms header entries }
+    ensures form { (terms : Terms) (name : List ℕ) (entries : List Record)
+        → FormFaultsAreOfRecords terms name entries }
     ensures records { (terms : Terms) (eligibility : ℕ)
-        → AreOfItems (faults_by_record terms eligibility) }
+        → AreOfItems (record_faults terms eligibility) }
 {}

@@ -2,12 +2,12 @@
 use Rattle.std.proofs.Common.{◌≡◌, ◌+◌, ◌++◌, ◌∷◌, ◌∙◌, ℕ, List, [], Option, None, Some, Result, Ok, Err, ap, length, refl}
 use Rattle.std.proofs.lemmas.List.{map-append}
 use Rattle.std.specs.Prelude.{Bool, true, false, if◌then◌else◌, nat_lt}
-use Rattle.auction_terms.specs.AllFaults.{AreFaultsOf, accepted_with, all_faults, found}
+use Rattle.auction_terms.specs.AllFaults.{accepted_with, all_faults}
 use Rattle.auction_terms.specs.Judged.{Fault, reported_as}
 use Rattle.auction_terms.specs.Stages.{and_then, each_in_turn, refused_as, unless}
 use Rattle.auction_terms.specs.declared.faults.Found.{Found}
 use Rattle.auction_terms.specs.declared.limits.TheConstants.{TEXT_LIMIT}
-use Rattle.input_faults.specs.FaultsAs.{BeginWith, fault_as, faults_of_sized, judged_as}
+use Rattle.input_faults.specs.FaultsAs.{BeginWith, fault_as, judged_as}
 
 -- where a value is parsed there is no fault
 pub none-reported : {A F G : Type 0} (whole : F → G) (faults : List (Fault F)) (reported : Result A G) (x : A)
@@ -15,15 +15,6 @@ pub none-reported : {A F G : Type 0} (whole : F → G) (faults : List (Fault F))
 none-reported whole [] reported x are is = refl
 none-reported whole (at ∷ more) (Ok y) x are is = cc
 none-reported whole (at ∷ more) (Err f) x are is = cc
-
--- a text and its size
-pub begin-sized : {A F : Type 0} (too_large : F) (text : List ℕ) (faults : List (Found F)) (reported : Result A F) → AreFaultsOf faults reported
-    → AreFaultsOf (faults_of_sized too_large text faults) (if nat_lt TEXT_LIMIT (length text) then Err too_large else reported)
-begin-sized {A} {F} too_large text faults reported are = by (nat_lt TEXT_LIMIT (length text))
-  where
-    by : (b : Bool) → AreFaultsOf (if b then found 0 too_large ∷ [] else faults) (if b then Err too_large else reported)
-    by true = (0, [], refl)
-    by false = are
 
 -- one fault, if there is one
 pub begin-fault : {A F G H : Type 0} (part : F → G) (whole : G → H) (fault : Option F) (x : A)

@@ -18,7 +18,7 @@ use Rattle.auction_input.specs.declared.part_kind.PartKind.{PartKind}
 use Rattle.auction_input.specs.declared.refusal.Refusal.{Refusal}
 use Rattle.auction_input.specs.declared.refusal.Refusal.TheVariants as refusal
 use Rattle.auction_terms.proofs.RulesTextFacts.{version-refused}
-use Rattle.auction_terms.specs.AllFaults.{AreFaultsOf, all_failed, or_else}
+use Rattle.auction_terms.specs.AllFaults.{all_failed, or_else}
 use Rattle.auction_terms.specs.FirstFault.{first_failed, first_fault}
 use Rattle.auction_terms.specs.GroupsText.{group_faults, groups_of}
 use Rattle.auction_terms.specs.Judged.{fault_of_whole, first_or, reported_as}
@@ -33,12 +33,10 @@ use Rattle.auction_terms.specs.Terms.{Terms}
 use Rattle.auction_terms.specs.declared.faults.Found.{Found}
 use Rattle.auction_terms.specs.declared.groups_text.GroupFault.TheVariants as groups
 use Rattle.auction_terms.specs.declared.rules_text.RulesFault.TheVariants as rules
-use Rattle.bid_forms.proofs.AllFormFaultsFacts.{begin-form}
-use Rattle.bid_forms.specs.AllFormFaults.{all_form_faults}
-use Rattle.bid_forms.specs.FormText.{form_of_records}
+use Rattle.bid_forms.specs.FormText.{form_faults, form_of_records}
 use Rattle.bid_forms.specs.Offers.{Offers}
 use Rattle.bid_forms.specs.declared.form_text.FormFault.TheVariants as form
-use Rattle.input_faults.proofs.BeginFacts.{begin-each, begin-fault, begin-next, begin-sized}
+use Rattle.input_faults.proofs.BeginFacts.{begin-each, begin-fault, begin-next}
 use Rattle.input_faults.specs.FaultsAs.{BeginWith, fault_as, faults_as, judged_as, judged_of_sized, unseen}
 use Rattle.input_faults.specs.InputFaults.{call_fault, faults_in_parts, faults_of_form, faults_of_forms, faults_of_groups}
 use Rattle.input_faults.specs.InputFaults.{faults_of_rules, faults_of_texts, faults_under, input_faults, refusal_of}
@@ -48,13 +46,6 @@ use Rattle.input_faults.specs.declared.fault.Fault.TheVariants as fault
 use Rattle.auction_input.specs.Requests.{target_of}
 use Rattle.auction_input.specs.declared.request.Request.{Request}
 use Rattle.auction_input.specs.declared.request.Target.{Target}
-
--- faults of a text that are reported as refusals by way of those of the input
-by-fault : {A F : Type 0} (part : F → Fault) (faults : List (Found F)) (reported : Result A F) → AreFaultsOf faults reported
-    → BeginWith (judged_as refusal_of (faults_as part faults)) (refused_as (λ f. refusal_of (part f)) reported)
-by-fault part faults (Ok x) are = ap (λ fs. judged_as refusal_of (faults_as part fs)) are
-by-fault part faults (Err f) (field, more, are) =
-    (unseen field (refusal_of (part f)), judged_as refusal_of (faults_as part more), ap (λ fs. judged_as refusal_of (faults_as part fs)) are, refl)
 
 -- of a text and its size
 by-judged : {A F : Type 0} (part : F → Fault) (too_large : F) (text : List ℕ) (faults : List (Judged F)) (reported : Result A F) → BeginWith faults reported
@@ -93,8 +84,8 @@ begin-terms text = by-judged fault.Rules rules.TooLarge text (rules_faults (reco
 
 pub begin-one-form : (t : Terms) (number : ℕ) (text : List ℕ) → BeginWith (judged_as refusal_of (faults_of_form t number text)) (parsed_form t number text)
 begin-one-form t number text =
-    by-fault (fault.Form number) _ _ (begin-sized form.TooLarge text (all_form_faults t (records_of text))
-    (form_of_records t (records_of text)) (begin-form t (records_of text)))
+    by-judged (fault.Form number) form.TooLarge text (form_faults t (records_of text)) (form_of_records t (records_of text))
+    (begin-first (form_faults t (records_of text)) _)
 
 begin-group-text : (t : Terms) (text : List ℕ) → BeginWith (judged_as refusal_of (faults_of_groups t text)) (parsed_groups t text)
 begin-group-text t text = by-judged fault.Groups groups.TooLarge text (group_faults t.bidders text) (groups_of t.bidders text)

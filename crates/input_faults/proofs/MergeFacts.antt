@@ -4,8 +4,6 @@ use Rattle.std.proofs.Common.{length-take, refl, sym, take, take_all}
 use Rattle.std.proofs.Common.{map}
 use Rattle.std.proofs.lemmas.List.{length-map, map-append, take-map, take-take}
 use Rattle.std.specs.Prelude.{◌^◌, min}
-use Rattle.auction_terms.specs.AllFaults.{Keeps}
-use Rattle.auction_terms.specs.declared.faults.Faults.{Faults}
 use Rattle.auction_terms.specs.declared.faults.Found.{Found}
 use Rattle.auction_terms.specs.declared.limits.TheConstants.{MOST_FAULTS}
 use Rattle.auction_terms.specs.Judged.{Fault, Holds, HoldsMore, kept_fault, reported_as}
@@ -44,18 +42,6 @@ finds-all old middle new kept faults others front counted adds limit same count 
       kept = ap (map kept_fault) same ∙ first.kept ∙ take-both MOST_FAULTS MOST_FAULTS before faults (omega arith);
       more = omega arith;
     }
-
--- what is kept of a text's faults is added, and then the count of the others
-pub keeps-others : {F G : Type 0} (whole : F → G) (old middle new : All G) (held : Faults F) (faults : List (Found F)) (place : ℕ)
-    → Keeps held faults → length held.kept.items ≤ place
-    → FindsMore old middle (faults_as whole (take place held.kept.items)) → new.most ≡ middle.most
-    → new.kept.items ≡ middle.kept.items → new.more ≡ min (middle.more + held.more) (2 ^ 64 - 1) → FindsMore old new (faults_as whole faults)
-keeps-others {F} {G} whole old middle new held faults place holds all adds limit same count =
-    let as_many = length-map faults (λ (at : Found F). unseen at.field (whole at.fault)) in
-    let h = holds.more in
-    finds-all old middle new (faults_as whole (take place held.kept.items)) (faults_as whole faults) held.more
-    (ap (faults_as whole) (take_all place held.kept.items all ∙ holds.kept)
-    ∙ sym (take-map (λ (at : Found F). unseen at.field (whole at.fault)) MOST_FAULTS faults)) (omega arith) adds limit same count
 
 -- ---------- faults with their bytes ----------
 

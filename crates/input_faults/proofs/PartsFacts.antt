@@ -35,10 +35,10 @@ module _ (asked : Request) (input : Input) where
   parts-counted parts count none held is = rw (none, ← held, is) refl
 
 -- the details of parts, where each kind is counted right, are those of the texts in them
-pub parts-detail : (asked : Request) (parts : List Part) (rules : List ℕ) (forms : List (List ℕ)) → miscounted asked parts ≡ None
-    → rules ≡ only_text (parts_named (codes "%rules") parts) → forms ≡ parts_named (codes "%form") parts
-    → detail_in_texts (parsed_terms rules) forms ≡ detail_of_counted asked (miscounted asked parts) parts
-parts-detail asked parts rules forms none is_rules is_forms = rw (none, is_rules, is_forms) refl
+pub parts-detail : (asked : Request) (parts : List Part) (rules : List ℕ) → miscounted asked parts ≡ None
+    → rules ≡ only_text (parts_named (codes "%rules") parts)
+    → detail_in_texts (parsed_terms rules) ≡ detail_of_counted asked (miscounted asked parts) parts
+parts-detail asked parts rules none is_rules = rw (none, is_rules) refl
 
 -- and where one isn't, they are its count
 pub count-detail : (asked : Request) (parts : List Part) (kind : PartKind) → miscounted asked parts ≡ Some kind

@@ -6,7 +6,6 @@ use Rattle.auction_input.proofs.InputTextFacts.{rules-faulted, rules-parse, size
 use Rattle.auction_input.specs.ParsedTexts.{form_in, parsed_form, parsed_groups, parsed_terms}
 use Rattle.auction_input.specs.declared.refusal.Refusal.{Refusal}
 use Rattle.auction_input.specs.declared.refusal.Refusal.TheVariants as refusal
-use Rattle.auction_terms.specs.AllFaults.{Keeps, found}
 use Rattle.auction_terms.specs.Judged.{Holds, fault_of_whole}
 use Rattle.auction_terms.specs.Judged.{Fault as Judged}
 use Rattle.auction_terms.specs.declared.judge.All.{All}
@@ -15,7 +14,6 @@ use Rattle.auction_terms.specs.Records.{records_of}
 use Rattle.auction_terms.specs.RulesText.{is_rules_memory, rules_of_records}
 use Rattle.auction_terms.specs.Stages.{Answers, refused_as}
 use Rattle.auction_terms.specs.Terms.{Terms}
-use Rattle.auction_terms.specs.declared.faults.Faults.{Faults}
 use Rattle.auction_terms.specs.declared.faults.Found.{Found}
 use Rattle.auction_terms.specs.declared.limits.TheConstants.{MOST_FAULTS, TEXT_LIMIT}
 use Rattle.auction_terms.specs.declared.groups_text.GroupFault.{GroupFault}
@@ -28,18 +26,12 @@ use Rattle.bid_forms.specs.declared.form_text.FormFault.{FormFault}
 use Rattle.bid_forms.specs.declared.form_text.FormFault.TheVariants as form
 use Rattle.input_faults.proofs.BeginFacts.{none-reported}
 use Rattle.input_faults.proofs.MergeFacts.{finds-none}
-use Rattle.input_faults.specs.FaultsAs.{BeginWith, faults_of_sized, judged_as, judged_of_sized}
+use Rattle.input_faults.specs.FaultsAs.{BeginWith, judged_as, judged_of_sized}
 use Rattle.input_faults.specs.inside.Finding.{FindsMore}
 use Rattle.input_faults.specs.InputFaults.{faults_of_rules, faults_of_texts, faults_under, refusal_of, where_read}
 use Rattle.input_faults.specs.declared.fault.Fault.{Fault}
 
 -- what is kept of the faults of a text, whatever its size
-pub keeps-sized : {F : Type 0} (held : Faults F) (too_large : F) (text : List ℕ) (faults : List (Found F))
-    → (TEXT_LIMIT < length text → Keeps held (found 0 too_large ∷ [])) → (length text ≤ TEXT_LIMIT → Keeps held faults)
-    → Keeps held (faults_of_sized too_large text faults)
-keeps-sized held too_large text faults large small =
-    elim (leb_tells 4194305 (length text)) [ inl (is, more) ↦ rw is (large (omega arith)) | inr (is, few) ↦ rw is (small (omega arith)) ]
-
 pub holds-sized : {F : Type 0} (held : All F) (too_large : F) (text : List ℕ) (faults : List (Judged F))
     → (TEXT_LIMIT < length text → Holds MOST_FAULTS held (fault_of_whole too_large None ∷ [])) → (length text ≤ TEXT_LIMIT → Holds MOST_FAULTS held faults)
     → Holds MOST_FAULTS held (judged_of_sized too_large text faults)

@@ -1,5 +1,6 @@
 -- What is reported of a fault after its refusal: at which field or name it is, what is there, and what was wanted.
-use Rattle.std.specs.Prelude.{◌+◌, ◌++◌, ◌==◌, ℕ, List, [], ◌∷◌, Option, None, Some, codes, decimal, if◌then◌else◌, length}
+use Rattle.std.specs.Prelude.{◌-◌, ◌++◌, ◌==◌, ℕ, List, [], Option, None, Some, codes, decimal, if◌then◌else◌, length, option_map}
+use Rattle.std.specs.List.{slice_get}
 use Rattle.std.specs.Option.{option_map_or}
 use Rattle.std.specs.Str.{bytes_eq}
 use Rattle.auction_input.specs.declared.part_kind.PartKind.{PartKind}
@@ -10,9 +11,6 @@ use Rattle.auction_terms.specs.Judged.{Fault as Judged}
 use Rattle.auction_terms.specs.Records.{Record}
 use Rattle.auction_terms.specs.RulesText.{record_field}
 use Rattle.auction_terms.specs.Terms.{Terms}
-use Rattle.auction_terms.specs.declared.limits.TheConstants.{GREATEST_AMOUNT, GREATEST_QUANTITY, MOST_BIDS}
-use Rattle.auction_terms.specs.declared.rules.Category.{Category}
-use Rattle.bid_forms.specs.RowNumbers.{parsed_points, parsed_reserve}
 use Rattle.bid_forms.specs.declared.form_text.FormFault.{FormFault}
 use Rattle.bid_forms.specs.declared.form_text.FormFault.TheVariants as form
 use Rattle.input_faults.specs.Shown.{shown_text}
@@ -22,10 +20,6 @@ use Rattle.auction_input.specs.declared.request.Target.{Target}
 use Rattle.auction_input.specs.declared.request.Target.TheVariants as target
 
 -- ---------- words ----------
-
--- the number of a field, what is there, and what is wrong with it
-abbrev pub field_message : ℕ → Record → List ℕ → List ℕ
-field_message n r wrong = codes ", field " ++ (decimal n ++ (codes ": " ++ (shown_text (record_field n r) ++ wrong)))
 
 -- words and the number of a field or name after them, what is there, and what is wrong with it
 abbrev pub place_message : List ℕ → ℕ → List ℕ → List ℕ → List ℕ
@@ -39,14 +33,6 @@ cause_message words n text (Some cause) = if n == 0 then codes ": " ++ cause els
 -- a fault that tells its cause, with words before the number of its field or name
 abbrev pub fault_message : {F : Type 0} → List ℕ → Judged F → List ℕ
 fault_message words at = cause_message words at.field at.text at.cause
-
--- how many fields there are, and how many were wanted
-abbrev pub count_message : ℕ → ℕ → List ℕ
-count_message count wanted = codes ": " ++ (decimal count ++ (codes " fields in place of " ++ decimal wanted))
-
--- limits that a number is outside of
-abbrev pub limits_message : ℕ → ℕ → List ℕ
-limits_message least greatest = codes " isn't between " ++ (decimal least ++ (codes " and " ++ decimal greatest))
 
 -- ---------- parts ----------
 
@@ -91,36 +77,15 @@ unmet_message (unmet.Number kind count by) = []
 
 -- ---------- forms ----------
 
--- the first field from this one on that isn't the name of its category
-abbrev pub column_message : Record → ℕ → List Category → List ℕ
-column_message r n [] = []
-column_message r n (category ∷ more) = if bytes_eq (record_field n r) category.name then column_message r (n + 1) more else field_message n
-    r (codes " in place of " ++ category.name)
+-- the name of the category whose column has this number
+abbrev pub column_name : Terms → ℕ → List ℕ
+column_name t n = option_map_or (λ category. category.name) (slice_get t.categories (n - 2)) []
 
--- a header with other columns than the rules have categories
-abbrev pub columns_message : Terms → Record → List ℕ
-columns_message t r =
-    if length r == 0 then codes ": there is no record"
-    else (if length r == length t.categories + 1 then column_message r 2 t.categories else count_message (length r) (length t.categories + 1))
+-- what is wrong at a field of a header, where the name that was wanted comes after the words, or with the whole header
+abbrev pub column_cause : Terms → ℕ → List ℕ → List ℕ
+column_cause t n cause = if n == 0 then cause else cause ++ (codes " " ++ column_name t n)
 
--- points above an eligibility, where both are known
-abbrev pub points_above : Option ℕ → Option ℕ → List ℕ
-points_above (Some points) (Some most) = codes ": " ++ (decimal points ++ (codes " points, above the eligibility of " ++ decimal most))
-points_above points most = []
-
--- a fault at a field of a record of a form, whose bidder has this eligibility
-abbrev pub form_fault_message : Terms → Option ℕ → Record → ℕ → FormFault → List ℕ
-form_fault_message t most r n (form.Header place) = columns_message t r
-form_fault_message t most r n (form.UnknownBidder place) = field_message n r (codes " is no bidder's name")
-form_fault_message t most r n (form.FieldCount place) = count_message (length r) (length t.categories + 1)
-form_fault_message t most r n (form.AmountText place) = field_message n r (codes " isn't 1 to 18 digits")
-form_fault_message t most r n (form.AmountRange place) = field_message n r (limits_message 1 GREATEST_AMOUNT)
-form_fault_message t most r n (form.AmountStep place) = field_message n r (codes " isn't a multiple of " ++ decimal t.step)
-form_fault_message t most r n (form.QuantityText place) = field_message n r (codes " isn't 1 to 18 digits")
-form_fault_message t most r n (form.QuantityRange place) = field_message n r (limits_message 0 GREATEST_QUANTITY)
-form_fault_message t most r n (form.EmptyPackage place) = codes ": each quantity is 0"
-form_fault_message t most r n (form.OverEligibility place) = points_above (parsed_points t r) most
-form_fault_message t most r n (form.BelowReserve place) =
-    option_map_or (λ least. field_message n r (codes " is below the reserve of " ++ decimal least)) (parsed_reserve t r) []
-form_fault_message t most r n (form.TooManyBids place) = codes ": more than " ++ (decimal MOST_BIDS ++ codes " bids")
-form_fault_message t most r n f = []
+-- a fault of a form
+abbrev pub form_message : {F : Type 0} → Terms → FormFault → Judged F → List ℕ
+form_message t (form.Header place) at = cause_message (codes ", field ") at.field at.text (option_map (column_cause t at.field) at.cause)
+form_message t f at = fault_message (codes ", field ") at

@@ -25,10 +25,6 @@ fault_as whole fault = option_to_list (option_map (λ f. fault_of_whole (whole f
 abbrev pub judged_of_sized : {F : Type 0} → F → List ℕ → List (Fault F) → List (Fault F)
 judged_of_sized too_large text faults = if nat_lt TEXT_LIMIT (length text) then fault_of_whole too_large None ∷ [] else faults
 
--- faults of a text of which the bytes aren't known; one above the limit has that fault alone
-abbrev pub faults_of_sized : {F : Type 0} → F → List ℕ → List (Found F) → List (Found F)
-faults_of_sized too_large text faults = if nat_lt TEXT_LIMIT (length text) then found 0 too_large ∷ [] else faults
-
 -- the listed faults of a text agree with what is reported of it: there is none if the text is accepted, and else the reported one comes first
 abbrev pub BeginWith : {A F : Type 0} → List (Fault F) → Result A F → Type 0
 BeginWith faults (Ok x) = faults ≡ []

@@ -23,10 +23,10 @@ use Rattle.auction_terms.specs.Stages.{each_in_turn}
 use Rattle.auction_terms.specs.Terms.{Terms}
 use Rattle.auction_terms.specs.declared.groups_text.GroupFault.TheVariants as groups
 use Rattle.auction_terms.specs.declared.rules_text.RulesFault.TheVariants as rules
-use Rattle.bid_forms.specs.AllFormFaults.{all_form_faults}
+use Rattle.bid_forms.specs.FormText.{form_faults}
 use Rattle.bid_forms.specs.Offers.{Offers}
 use Rattle.bid_forms.specs.declared.form_text.FormFault.TheVariants as form
-use Rattle.input_faults.specs.FaultsAs.{fault_as, faults_as, faults_of_sized, judged_as, judged_of_sized}
+use Rattle.input_faults.specs.FaultsAs.{fault_as, faults_as, judged_as, judged_of_sized}
 use Rattle.input_faults.specs.declared.fault.Fault.{Fault}
 use Rattle.input_faults.specs.declared.fault.Fault.TheVariants as fault
 use Rattle.auction_input.specs.Requests.{target_of}
@@ -54,7 +54,7 @@ faults_of_rules text = judged_as fault.Rules (judged_of_sized rules.TooLarge tex
 
 -- the faults of the form of this number
 abbrev pub faults_of_form : Terms → ℕ → List ℕ → List (Judged Fault)
-faults_of_form t number text = faults_as (fault.Form number) (faults_of_sized form.TooLarge text (all_form_faults t (records_of text)))
+faults_of_form t number text = judged_as (fault.Form number) (judged_of_sized form.TooLarge text (form_faults t (records_of text)))
 
 -- the faults of all forms
 abbrev pub faults_of_forms : Terms → List (List ℕ) → List (Judged Fault)

@@ -17,9 +17,7 @@ use Rattle.auction_terms.specs.Lines.{lines_of}
 use Rattle.auction_terms.specs.Records.{Record, records_of}
 use Rattle.auction_terms.specs.Terms.{Terms}
 use Rattle.auction_terms.specs.declared.limits.TheConstants.{TEXT_LIMIT}
-use Rattle.bid_forms.specs.RowNumbers.{parsed_eligibility, form_place}
-use Rattle.bid_forms.specs.declared.form_text.FormFault.{FormFault}
-use Rattle.input_faults.specs.Details.{beginning_message, fault_message, form_fault_message, parts_count_message, unmet_message}
+use Rattle.input_faults.specs.Details.{beginning_message, fault_message, form_message, parts_count_message, unmet_message}
 use Rattle.input_faults.specs.declared.fault.Fault.{Fault}
 use Rattle.input_faults.specs.declared.fault.Fault.TheVariants as fault
 use Rattle.auction_input.specs.declared.request.Request.{Request}
@@ -27,14 +25,6 @@ use Rattle.auction_input.specs.declared.request.Request.{Request}
 -- the item of a number, counted from 1; where there is none, nothing
 abbrev pub numbered : {X : Type 0} → ℕ → List (List X) → List X
 numbered n items = slice_index_or ([] ∷ items) n []
-
--- a text above the limit isn't read
-abbrev pub within_limit : List ℕ → List ℕ
-within_limit text = if nat_lt TEXT_LIMIT (length text) then [] else text
-
--- a fault of the records of a form
-abbrev pub detail_of_form : Terms → List Record → ℕ → FormFault → List ℕ
-detail_of_form t records n f = form_fault_message t (parsed_eligibility t (numbered 1 records)) (numbered (form_place f) records) n f
 
 -- the detail of this fault, of an input whose rules are refused
 abbrev pub detail_in_rules_at : Judged Fault → Fault → List ℕ
@@ -52,25 +42,29 @@ abbrev pub detail_in_rules : Judged Fault → List ℕ
 detail_in_rules at = detail_in_rules_at at at.fault
 
 -- the detail of this fault, of an input whose rules are accepted
-abbrev pub detail_under_at : Terms → List (List ℕ) → Judged Fault → Fault → List ℕ
-detail_under_at t forms at (fault.Form number f) = detail_of_form t (records_of (within_limit (numbered number forms))) at.field f
-detail_under_at t forms at (fault.Groups f) = fault_message (codes ", name ") at
-detail_under_at t forms at (fault.Unmet u) = unmet_message u
-detail_under_at t forms at f = []
+abbrev pub detail_under_at : Terms → Judged Fault → Fault → List ℕ
+detail_under_at t at (fault.Form number f) = form_message t f at
+detail_under_at t at (fault.Groups f) = fault_message (codes ", name ") at
+detail_under_at t at (fault.Unmet u) = unmet_message u
+detail_under_at t at (fault.Parts f) = []
+detail_under_at t at (fault.PartCount part) = []
+detail_under_at t at (fault.Rules f) = []
+detail_under_at t at (fault.AnotherForm f) = []
+detail_under_at t at (fault.CallLimit n) = []
 
 -- the detail of a fault of an input whose rules are accepted
-abbrev pub detail_under : Terms → List (List ℕ) → Judged Fault → List ℕ
-detail_under t forms at = detail_under_at t forms at at.fault
+abbrev pub detail_under : Terms → Judged Fault → List ℕ
+detail_under t at = detail_under_at t at at.fault
 
 -- a fault of these texts
-abbrev pub detail_in_texts : Result Terms Refusal → List (List ℕ) → Judged Fault → List ℕ
-detail_in_texts (Ok t) forms at = detail_under t forms at
-detail_in_texts (Err r) forms at = detail_in_rules at
+abbrev pub detail_in_texts : Result Terms Refusal → Judged Fault → List ℕ
+detail_in_texts (Ok t) at = detail_under t at
+detail_in_texts (Err r) at = detail_in_rules at
 
 -- a fault of the texts in parts
 abbrev pub detail_in_parts : List Part → Judged Fault → List ℕ
 detail_in_parts parts at =
-    detail_in_texts (parsed_terms (only_text (parts_named (codes "%rules") parts))) (parts_named (codes "%form") parts) at
+    detail_in_texts (parsed_terms (only_text (parts_named (codes "%rules") parts))) at
 
 -- the bytes of the text at a place, from 0
 abbrev pub bytes_at : List Given → ℕ → List ℕ

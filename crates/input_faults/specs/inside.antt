@@ -1,4 +1,3 @@
 pub mod HeldLines
 pub mod DetailText
-pub mod Cursors
 pub mod Finding

@@ -1,21 +1,17 @@
 //! What is at a fault, and what was wanted there.
 
-ghost use Rattle.std.specs.Prelude.{◌≡◌, ◌++◌, codes, decimal};
-ghost use Rattle.csv.specs.Records.{fields_of};
-ghost use Rattle.auction_terms.specs.RulesText.{record_field};
+ghost use Rattle.std.specs.Prelude.{◌≡◌, ◌++◌, codes};
 ghost use Rattle.auction_terms.specs.Judged.{kept_fault};
 ghost use Rattle.auction_terms.specs.Wording.{wording_text};
-ghost use Rattle.input_faults.specs.Details.{beginning_message, fault_message, field_message, place_message};
-ghost use Rattle.input_faults.specs.Shown.{shown_text};
+ghost use Rattle.input_faults.specs.Details.{beginning_message, fault_message, place_message};
 ghost use Rattle.input_faults.specs.inside.DetailText.{detail_text};
 ghost use Rattle.byte_sinks.specs.Adds.{Adds};
 
 use crate::fault::Fault;
 use crate::shown::add_shown;
 use crate::wording::add_wording;
-use auction_terms::{FaultAt, Wording, field};
+use auction_terms::{FaultAt, Wording};
 use byte_sinks::{Sink, Writer};
-use csv::ByteRecord;
 
 /// What is at a fault, and what was wanted there.
 #[derive(Clone, Copy)]
@@ -27,32 +23,12 @@ pub enum Detail<'d> {
     Whole(Wording),
     /// Words with more than two numbers.
     Both(Wording, Wording),
-    /// The number of a field, what is there, and what is wrong with it.
-    Field(usize, &'d [u8], Wording),
-    /// The number of a field, what is there, and the name of the category that was wanted.
-    Column(usize, &'d [u8], &'d [u8]),
+    /// The number of a field, what is there, what is wrong with it, and the name of the category that was wanted.
+    Column(usize, &'d [u8], Wording, &'d [u8]),
     /// What is wrong with a whole record or line.
     Cause(Wording),
     /// Words, the number of a field or name after them, what is there, and what is wrong with it.
     Place(&'static str, usize, &'d [u8], Wording),
-}
-
-// The bytes of a field of this number. There is none of number 0: the first stands for it, as in the definitions.
-fn field_at(row: &ByteRecord, number: usize) -> &[u8]
-    ensures { result.now ≡ record_field number (fields_of row.now) }
-{
-    if number == 0 {
-        field(row, 1)
-    } else {
-        field(row, number)
-    }
-}
-
-/// The detail of a field.
-pub fn of_field<'d>(row: &'d ByteRecord, number: usize, wrong: Wording) -> Detail<'d>
-    ensures { detail_text result ≡ field_message number (fields_of row.now) (wording_text wrong) }
-{
-    Detail::Field(number, field_at(row, number), wrong)
 }
 
 /// The detail of a fault that tells its cause. The words come before the number of its field or name, if it is of one.
@@ -88,32 +64,20 @@ fn add_place<S: Sink>(
     add_wording(writer, cause);
 }
 
-// Adds the number of a field, what is there, and what is wrong with it.
-fn add_value<S: Sink>(
+// Adds the number of a field, what is there, what is wrong with it, and the name that was wanted.
+fn add_column<S: Sink>(
     writer: &mut Writer<'_, S>,
-    words: &'static str,
     number: usize,
     value: &[u8],
-    wrong: Wording,
+    cause: Wording,
+    name: &[u8],
 )
     ensures { Adds S.taken S.failures writer.old writer.new
-        (words.now ++ (decimal number ++ (codes ": " ++ (shown_text value.now
-        ++ wording_text wrong)))) }
+        (place_message (codes ", field ") number value.now
+        (wording_text cause ++ (codes " " ++ name.now))) }
 {
-    add_wording(writer, Wording::Between(words, number as u64, ": "));
-    add_shown(writer, value);
-    add_wording(writer, wrong);
-}
-
-// Adds the number of a field, what is there, and the name that was wanted.
-fn add_column<S: Sink>(writer: &mut Writer<'_, S>, number: usize, value: &[u8], name: &[u8])
-    ensures { Adds S.taken S.failures writer.old writer.new
-        (codes ", field " ++ (decimal number ++ (codes ": " ++ (shown_text value.now
-        ++ (codes " in place of " ++ name.now))))) }
-{
-    add_wording(writer, Wording::Between(", field ", number as u64, ": "));
-    add_shown(writer, value);
-    writer.add(b" in place of ");
+    add_place(writer, ", field ", number, value, cause);
+    writer.add(b" ");
     writer.add(name);
 }
 
@@ -138,8 +102,9 @@ pub fn add_detail<S: Sink>(writer: &mut Writer<'_, S>, detail: &Detail<'_>)
             add_wording(writer, words);
             add_wording(writer, more);
         }
-        Detail::Field(number, value, wrong) => add_value(writer, ", field ", number, value, wrong),
-        Detail::Column(number, value, name) => add_column(writer, number, value, name),
+        Detail::Column(number, value, cause, name) => {
+            add_column(writer, number, value, cause, name);
+        }
         Detail::Cause(cause) => {
             writer.add(b": ");
             add_wording(writer, cause);

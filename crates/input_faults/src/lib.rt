@@ -6,14 +6,12 @@ mod explaining;
 mod fault;
 mod finding;
 mod form_details;
-mod form_reading;
 pub mod laws;
 mod lines;
 mod merging;
 mod part_details;
 mod placed;
 mod reading;
-mod record_cursor;
 mod shown;
 mod wording;
 

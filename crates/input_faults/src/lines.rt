@@ -5,11 +5,9 @@ ghost use Rattle.std.specs.Io.KnownBytes.{Appends};
 ghost use Rattle.auction_input.specs.Parts.{parts_held};
 ghost use Rattle.auction_input.specs.Plan.{miscounted};
 ghost use Rattle.auction_input.specs.ParsedTexts.{parsed_terms};
-ghost use Rattle.auction_terms.specs.Lines.{bytes_of};
 ghost use Rattle.auction_terms.specs.Judged.{kept_fault};
 ghost use Rattle.input_faults.specs.FaultLines.{more_line, message_of};
 ghost use Rattle.input_faults.specs.TextDetails.{detail, detail_in_rules, detail_in_texts, detail_of_counted, detail_under};
-ghost use Rattle.input_faults.specs.inside.Cursors.{ReadsForm};
 ghost use Rattle.input_faults.specs.inside.DetailText.{detail_text};
 ghost use Rattle.input_faults.specs.inside.HeldLines.{held_lines, kept_line};
 ghost use Rattle.byte_sinks.specs.Adds.{Adds};
@@ -19,13 +17,12 @@ use crate::detail::{Detail, add_detail, fault_detail};
 use crate::fault::Fault;
 use crate::finding::check_part_fault;
 use crate::form_details::form_detail;
-use crate::form_reading::FormReading;
 use crate::part_details::{count_detail, part_detail, unmet_detail};
 use crate::placed::add_message;
 use crate::reading::rules_in;
 use crate::wording::add_wording;
 use auction_input::{
-    Input, Part, PartKind, Places, Request, count_of, miscounted, split_parts, text_of, texts_of,
+    Input, Part, PartKind, Places, Request, count_of, miscounted, split_parts, text_of,
 };
 use auction_terms::{All, FaultAt, Rules, Wording};
 use byte_sinks::{MemorySink, Sink, WriteFault, Writer};
@@ -78,64 +75,48 @@ fn add_lines_of_rules<S: Sink>(
 }
 
 // Adds the line of a fault where the rules are read.
-fn add_line_under<'t, S: Sink>(
-    alloc: Global,
+fn add_line_under<S: Sink>(
     writer: &mut Writer<'_, S>,
     places: &Places<'_>,
     rules: &Rules,
-    forms: &[&'t [u8]],
-    form: &mut FormReading<'t>,
     at: &FaultAt<Fault>,
-) -> Result<(), AllocError>
-    requires { ReadsForm rules.now (bytes_of forms.now) form.old }
-    ensures added { OnOk result (Adds S.taken S.failures writer.old writer.new
-        (kept_line (message_of places.now) (detail_under rules.now (bytes_of forms.now))
-        at.now)) }
-    ensures form { OnOk result (ReadsForm rules.now (bytes_of forms.now) form.new) }
+)
+    ensures { Adds S.taken S.failures writer.old writer.new
+        (kept_line (message_of places.now) (detail_under rules.now) at.now) }
 {
     match at.fault {
-        Fault::Form {
-            form: number,
-            fault,
-        } => {
-            form.go_to(alloc, rules, forms, number, fault.place())?;
-            let detail = form_detail(rules, form.eligibility, &form.cursor.row, at.field, fault);
-            add_line(writer, places, at.fault, &detail);
-            Ok(())
+        Fault::Form { form: _, fault } => {
+            add_line(writer, places, at.fault, &form_detail(rules, fault, at));
         }
         Fault::Groups(_) => {
             add_line(writer, places, at.fault, &fault_detail(", name ", at));
-            Ok(())
         }
         Fault::Unmet(unmet) => {
             add_line(writer, places, at.fault, &unmet_detail(unmet));
-            Ok(())
         }
-        _ => {
+        Fault::Parts(_)
+        | Fault::PartCount(_)
+        | Fault::Rules(_)
+        | Fault::AnotherForm(_)
+        | Fault::CallLimit { form: _ } => {
             add_line(writer, places, at.fault, &Detail::Nothing);
-            Ok(())
         }
     }
 }
 
-// Adds the lines of faults where the rules are read. Each form is gone over once.
+// Adds the lines of faults where the rules are read.
 fn add_lines_under<S: Sink>(
-    alloc: Global,
     writer: &mut Writer<'_, S>,
     places: &Places<'_>,
     rules: &Rules,
-    forms: &[&[u8]],
     faults: &[FaultAt<Fault>],
-) -> Result<(), AllocError>
-    ensures { OnOk result (Adds S.taken S.failures writer.old writer.new
-        (flat_map (kept_line (message_of places.now)
-        (detail_under rules.now (bytes_of forms.now))) faults.now)) }
+)
+    ensures { Adds S.taken S.failures writer.old writer.new
+        (flat_map (kept_line (message_of places.now) (detail_under rules.now)) faults.now) }
 {
-    let mut form = FormReading::begin(alloc, rules, forms, 0)?;
     for at in faults {
-        add_line_under(alloc, writer, places, rules, forms, &mut form, at)?;
+        add_line_under(writer, places, rules, at);
     }
-    Ok(())
 }
 
 // Adds the lines of faults that have one detail.
@@ -160,15 +141,17 @@ fn add_lines_in<S: Sink>(
     writer: &mut Writer<'_, S>,
     places: &Places<'_>,
     rules: &[u8],
-    forms: &[&[u8]],
     faults: &[FaultAt<Fault>],
 ) -> Result<(), AllocError>
     ensures { OnOk result (Adds S.taken S.failures writer.old writer.new
-        (flat_map (kept_line (message_of places.now) (detail_in_texts (parsed_terms rules.now)
-        (bytes_of forms.now))) faults.now)) }
+        (flat_map (kept_line (message_of places.now) (detail_in_texts (parsed_terms rules.now)))
+        faults.now)) }
 {
     match rules_in(alloc, rules)? {
-        Some(rules) => add_lines_under(alloc, writer, places, &rules, forms, faults),
+        Some(rules) => {
+            add_lines_under(writer, places, &rules, faults);
+            Ok(())
+        }
         None => {
             add_lines_of_rules(writer, places, faults);
             Ok(())
@@ -196,8 +179,7 @@ fn add_lines_of_parts<S: Sink>(
         return Ok(());
     }
     let rules = text_of(parts, PartKind::Rules);
-    let forms = texts_of(alloc, parts, PartKind::Form)?;
-    add_lines_in(alloc, writer, places, rules, forms.as_slice(), faults)?;
+    add_lines_in(alloc, writer, places, rules, faults)?;
     Ok(())
 }
 

@@ -1,34 +1,21 @@
 //! Faults of a text, added to those of an input.
 
-ghost use Rattle.std.specs.Prelude.{◌≡◌, ◌∷◌, [], List, OnOk};
-ghost use Rattle.auction_terms.specs.AllFaults.{Keeps, all_failed};
-ghost use Rattle.auction_terms.specs.Judged.{Fault as Judged, Holds, kept_fault};
+ghost use Rattle.std.specs.Prelude.{◌∷◌, [], List, OnOk};
+ghost use Rattle.auction_terms.specs.AllFaults.{all_failed};
+ghost use Rattle.auction_terms.specs.Judged.{Fault as Judged, Holds};
 ghost use Rattle.auction_terms.specs.declared.limits.TheConstants.{MOST_FAULTS};
-ghost use Rattle.auction_terms.specs.declared.faults.Found.{Found};
 ghost use Rattle.auction_terms.specs.declared.groups_text.GroupFault.{GroupFault};
 ghost use Rattle.auction_terms.specs.declared.rules_text.RulesFault.{RulesFault};
 ghost use Rattle.bid_forms.specs.declared.form_text.FormFault.{FormFault};
-ghost use Rattle.input_faults.specs.FaultsAs.{fault_as, faults_as, judged_as, unseen};
+ghost use Rattle.input_faults.specs.FaultsAs.{fault_as, faults_as, judged_as};
 ghost use Rattle.input_faults.specs.inside.Finding.{FindsMore};
 ghost use Rattle.input_faults.specs.declared.fault.Fault.TheVariants as fault;
 
 use crate::fault::Fault;
 use auction_input::{AnotherForm, Unmet};
-use auction_terms::{All, FaultAt, Faults, Front, GroupFault, RulesFault};
+use auction_terms::{All, FaultAt, GroupFault, RulesFault};
 use bid_forms::FormFault;
 use std::alloc::AllocError;
-
-// A fault at a field, of which the bytes and the cause aren't known.
-fn unseen(field: usize, fault: Fault) -> FaultAt<Fault>
-    ensures { kept_fault result ≡ unseen field fault }
-{
-    FaultAt {
-        field,
-        text: Front::of(b""),
-        fault,
-        cause: None,
-    }
-}
 
 /// Adds the faults of rules.
 pub fn add_rules(faults: &mut All<Fault>, found: All<RulesFault>) -> Result<(), AllocError>
@@ -48,16 +35,18 @@ pub fn add_rules(faults: &mut All<Fault>, found: All<RulesFault>) -> Result<(), 
 pub fn add_form(
     faults: &mut All<Fault>,
     form: usize,
-    found: &Faults<FormFault>,
+    found: All<FormFault>,
 ) -> Result<(), AllocError>
-    ensures { OnOk result ((reported : List (Found FormFault)) → Keeps found.now reported
-        → FindsMore faults.old faults.new (faults_as (fault.Form form) reported)) }
+    ensures { OnOk result ((reported : List (Judged FormFault)) → Holds MOST_FAULTS found reported
+        → FindsMore faults.old faults.new (judged_as (fault.Form form) reported)) }
 {
-    for at in &found.kept {
+    let All { kept, more, .. } = found;
+    for at in kept {
         let fault = at.fault;
-        faults.add(unseen(at.field, Fault::Form { form, fault }))?;
+        let told = at.reported_as(Fault::Form { form, fault });
+        faults.add(told)?;
     }
-    faults.more = faults.more.saturating_add(found.more);
+    faults.more = faults.more.saturating_add(more);
     Ok(())
 }
 

@@ -119,7 +119,7 @@ fn take_form(
         Err(fault) => {
             check_form_fault(fault)?;
             let found = form_faults(alloc, text, rules)?;
-            add_form(faults, number, &found)?;
+            add_form(faults, number, found)?;
             Ok(None)
         }
     }

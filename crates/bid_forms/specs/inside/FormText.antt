@@ -1,27 +1,32 @@
--- The checks of a record that describes a bid, part by part, as the code makes them.
-use Rattle.std.specs.Prelude.{ℕ, List, Option}
-use Rattle.std.specs.Option.{option_or}
+-- What a reader of forms finds: an amount, where it is right; the bids of the records without a fault; and all faults, or, where one is
+-- wanted, the first of them.
+use Rattle.std.specs.Prelude.{◌≡◌, ◌≢◌, ◌≤◌, ◌++◌, ℕ, List, [], Option, None, Some, All as Each, IsTrue, length}
 use Rattle.auction_terms.specs.FirstFault.{first_failed}
+use Rattle.auction_terms.specs.Judged.{Fault, HoldsMore}
 use Rattle.auction_terms.specs.Records.{Record}
 use Rattle.auction_terms.specs.RulesText.{field_number}
 use Rattle.auction_terms.specs.Terms.{Terms}
 use Rattle.auction_terms.specs.declared.bids.Bid.{Bid}
-use Rattle.auction_terms.specs.declared.rules.Category.{Category}
-use Rattle.bid_forms.specs.FormText.{amount_checks, parsed_bid, count_checks, package_checks, quantity_checks, repeat_checks, reserve_checks, form_room_checks}
-use Rattle.bid_forms.specs.declared.form_text.FormFault.{FormFault}
+use Rattle.auction_terms.specs.declared.judge.All.{All}
+use Rattle.auction_terms.specs.declared.limits.TheConstants.{MOST_BIDS}
+use Rattle.bid_forms.specs.FormText.{amount_checks}
+use Rattle.bid_forms.specs.Offers.{PackagesDiffer, is_bid_under}
 
--- the first fault of these quantities and this amount, by the bids before them
-abbrev pub fault_of_lots : List Category → ℕ → ℕ → List Bid → List ℕ → ℕ → Option FormFault
-fault_of_lots categories eligibility place before lots amount =
-    option_or (first_failed (package_checks categories eligibility place lots))
-    (option_or (first_failed (reserve_checks categories place lots amount))
-    (option_or (first_failed (repeat_checks place before lots))
-    (first_failed (form_room_checks place before))))
+-- this is the amount of a record, where it has no fault
+abbrev pub IsAmountOf : ℕ → ℕ → Record → Option ℕ → Type 0
+IsAmountOf step place r None = first_failed (amount_checks step place r) ≢ None
+IsAmountOf step place r (Some amount) = (first_failed (amount_checks step place r) ≡ None) × (amount ≡ field_number 1 r)
 
--- the first fault of a record at a place, by the bids before it
-abbrev pub fault_of_bid : Terms → ℕ → ℕ → List Bid → Record → Option FormFault
-fault_of_bid t eligibility place before r =
-    option_or (first_failed (count_checks t place r))
-    (option_or (first_failed (amount_checks t.step place r))
-    (option_or (first_failed (quantity_checks place r))
-    (fault_of_lots t.categories eligibility place before (parsed_bid r).package (field_number 1 r))))
+-- bids that a form of a bidder with this eligibility may have
+pub record AreBids (t : Terms) (eligibility : ℕ) (bids : List Bid) : Type 0 where
+  pub few : length bids ≤ MOST_BIDS
+  pub each : Each (λ bid. IsTrue (is_bid_under t eligibility bid)) bids
+  pub differ : PackagesDiffer bids
+
+-- of these faults the first ones were found after those before, and the others were left only where one is wanted, and is kept now
+pub record FindsEnough {F : Type 0} (old new : All F) (faults : List (Fault F)) : Type 0 where
+  pub found : List (Fault F)
+  pub left : List (Fault F)
+  pub faults_are : faults ≡ found ++ left
+  pub holds : HoldsMore old new found
+  pub enough : left ≢ [] → (new.most ≡ 1) × (1 ≤ length new.kept.items)

@@ -3,4 +3,4 @@ use Rattle.bid_forms.proofs.RecordFacts.{QuantitiesSoFar}
 use Rattle.bid_forms.proofs.form_records.read_quantities.Given as goal
 
 abbrev pub invariant-loop-n : goal.invariant-loop-n
-invariant-loop-n l = QuantitiesSoFar (fields_of l.row) l.n l.within l.quantities.items
+invariant-loop-n l = QuantitiesSoFar (fields_of l.row) l.n l.quantities.items

@@ -1,4 +1,4 @@
-use Rattle.bid_forms.proofs.AcceptedFormsFacts.{of-records, records-are-of-items}
+use Rattle.bid_forms.proofs.FaultsOfRecordsFacts.{of-records, records-are-of-items}
 use Rattle.bid_forms.proofs.laws.faults_of_forms_are_of_their_records.Goals as goal
 
 pub returns : goal.returns

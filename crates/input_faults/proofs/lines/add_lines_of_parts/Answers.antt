@@ -2,7 +2,6 @@ use Rattle.std.proofs.Common.{◌≡◌, ◌∙◌, ℕ, List, None, ap, rules, 
 use Rattle.std.specs.Prelude.{flat_map}
 use Rattle.auction_input.specs.Parts.{parts_held}
 use Rattle.auction_input.specs.Plan.{miscounted}
-use Rattle.auction_terms.specs.Lines.{bytes_of}
 use Rattle.auction_terms.specs.Judged.{Fault as Judged}
 use Rattle.byte_sinks.proofs.AddingFacts.{Adds-to}
 use Rattle.input_faults.proofs.PartsFacts.{count-detail, parts-detail}
@@ -28,6 +27,5 @@ returns g c =
     let asked = c.args.request.now in
     let parts = parts_held c.args.parts.now in
     let none : miscounted asked parts ≡ None = sym c.miscounted.ensures ∙ search rules in
-    let forms = ap bytes_of c.as_slice.ensures.value ∙ c.in_ok-forms.ensures in
     Adds-to c.in_ok-add_lines_in.ensures (ap (λ (d : Judged Fault → List ℕ). flat_map (kept_line (message_of c.args.places.now) d)
-    c.args.faults.now) (parts-detail asked parts _ _ none c.text_of-rules.ensures forms))
+    c.args.faults.now) (parts-detail asked parts _ none c.text_of-rules.ensures))

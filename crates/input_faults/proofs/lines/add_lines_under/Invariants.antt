@@ -1,16 +1,12 @@
 use Rattle.std.proofs.Common.{take}
 use Rattle.std.specs.Prelude.{flat_map}
-use Rattle.auction_terms.specs.Lines.{bytes_of}
 use Rattle.byte_sinks.specs.Adds.{Adds}
 use Rattle.input_faults.specs.FaultLines.{message_of}
-use Rattle.input_faults.specs.inside.HeldLines.{kept_line}
 use Rattle.input_faults.specs.TextDetails.{detail_under}
-use Rattle.input_faults.specs.inside.Cursors.{ReadsForm}
+use Rattle.input_faults.specs.inside.HeldLines.{kept_line}
 use Rattle.input_faults.proofs.lines.add_lines_under.Given as goal
 
 -- the lines so far are added
 abbrev pub invariant-loop-at : goal.invariant-loop-at
-invariant-loop-at g l =
-    Adds g.S.Sink.taken g.S.Sink.failures l.initial.writer l.writer
-    (flat_map (kept_line (message_of l.places) (detail_under l.rules (bytes_of l.forms))) (take l.at-index l.faults))
-    × ReadsForm l.rules (bytes_of l.forms) l.form
+invariant-loop-at g l = Adds g.S.Sink.taken g.S.Sink.failures l.initial.writer l.writer
+    (flat_map (kept_line (message_of l.places) (detail_under l.rules)) (take l.at-index l.faults))

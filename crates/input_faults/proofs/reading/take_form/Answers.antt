@@ -1,5 +1,5 @@
 use Rattle.input_faults.proofs.InputBeginsFacts.{begin-one-form}
-use Rattle.input_faults.proofs.TextFacts.{form-read, form-refused, keeps-sized, nothing-more}
+use Rattle.input_faults.proofs.TextFacts.{form-read, form-refused, holds-sized, nothing-more}
 use Rattle.auction_input.specs.declared.refusal.Refusal.TheVariants as refusal
 use Rattle.bid_forms.specs.declared.form_text.FormFault.TheVariants as form
 use Rattle.input_faults.proofs.reading.take_form.Goals as goal
@@ -16,7 +16,7 @@ returns-in_ok-add_form-in-Err c =
     let found = c.in_ok-found-in-Err in
     let f = c.in-Err.fault in
     record {
-      faults = c.in_ok-add_form-in-Err.ensures _ (keeps-sized found.found form.TooLarge text _ found.ensures.too_large found.ensures.all);
+      faults = c.in_ok-add_form-in-Err.ensures _ (holds-sized found.found form.TooLarge text _ found.ensures.too_large found.ensures.all);
       form = (
         refusal.Form c.args.number f,
         form-refused c.args.rules.now c.args.number text f c.in_ok-check_form_fault-in-Err.ensures
