@@ -114,9 +114,10 @@ def measure_pages(pages: dict[str, str], folder: Path) -> dict[str, Measured]:
     """
     path = folder / "measured.html"
     path.write_text(make_frames(pages))
-    command = ["chromium", *OPTIONS, f"--user-data-dir={folder}/profile", f"file://{path}"]
-    # (a browser that doesn't begin on a busy machine is begun anew)
-    for _ in range(5):
+    # (a browser that doesn't begin on a busy machine is begun anew; what is left of it holds its profile)
+    for attempt in range(5):
+        profile = folder / f"profile{attempt}"
+        command = ["chromium", *OPTIONS, f"--user-data-dir={profile}", f"file://{path}"]
         done = subprocess.run(command, capture_output=True, text=True)
         found = dict(re.findall('<pre id="(.*?)">(.+?)</pre>', done.stdout, re.DOTALL))
         if set(found) == set(pages):
