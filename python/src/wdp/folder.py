@@ -134,10 +134,14 @@ class Folder:
             for path in self.where.glob(f"{depth}{files.WRITING}*"):
                 files.remove(path)
         scratch.mkdir(exist_ok=True)
+        before = os.environ.get("TMPDIR")
         os.environ["TMPDIR"] = str(scratch)
         try:
             yield
         finally:
+            os.environ.pop("TMPDIR", None)
+            if before is not None:
+                os.environ["TMPDIR"] = before
             files.remove(scratch)
 
 
