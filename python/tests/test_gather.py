@@ -263,6 +263,37 @@ def test_a_hidden_sheet_is_settled_by_the_name_of_the_one_that_counts(office: Of
     assert office.list_faults("--sheet", "Bids") == [why]
 
 
+@pytest.fixture
+def two_sheets(office: OfficeFolder) -> Callable[..., None]:
+    """Writes a workbook of Fox, whose second sheet has these rows, and what comes after them."""
+
+    def write(rows: list[list[object]], after: str = "") -> None:
+        first = "Bids", workbooks.make_body(SHEET)
+        second = "Final", workbooks.make_body(rows) + after
+        (office.forms / "Fox.csv").unlink()
+        (office.forms / "Fox.xlsx").write_bytes(workbooks.RawWorkbook(first, second).bytes())
+
+    return write
+
+
+def test_a_form_below_a_title_on_another_sheet(
+    office: OfficeFolder, two_sheets: Callable[..., None]
+) -> None:
+    two_sheets([["Final bids"], [], ["Fox", "Low", "High"], [1, 1, 1]])
+    why = "its sheet 'Final' begins as a form does, too; say --sheet NAME for the one that counts"
+    assert office.list_faults() == [f"forms/Fox.xlsx: {why}"]
+    assert office.gather("--sheet", "Bids").out == BY_HAND
+
+
+def test_another_sheet_may_have_what_is_no_form(
+    office: OfficeFolder, two_sheets: Callable[..., None]
+) -> None:
+    """Nothing is said of its cells."""
+    merged = '<mergeCells><mergeCell ref="A1:B1"/></mergeCells>'
+    two_sheets([["Notes", "covered"], ["for Fox"]], merged)
+    assert office.gather().out == BY_HAND
+
+
 PAIRS = parse_rows(read_text("fixtures", "office", "versions.txt"))
 
 

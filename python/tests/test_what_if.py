@@ -7,6 +7,7 @@ from pathlib import Path
 import pytest
 
 import wdp as package
+import workbooks
 from commands import (
     CommandResult,
     list_files,
@@ -242,6 +243,15 @@ def test_another_form_counts(office: Office) -> None:
         ["Beta", f"20 {ONE}", "nothing", "12", "0", "12", ""],
         ["Gamma", "nothing", f"25 {ONE}", "", "20", "", "20"],
     ]
+
+
+def test_a_number_that_a_form_shows_as_another_one_is_named(office: Office) -> None:
+    body = workbooks.make_body([["Gamma", "A"], [25, 1]], ' s="1"')
+    path = office.folder / "gamma.xlsx"
+    path.write_bytes(workbooks.make_one(body, formats=["#,##0,"]))
+    seen = office.begin_from("old", "shown", "--form", path, "--quiet")
+    shown = "2 numbers shown as another number by its format: A2 (#,##0,), B2 (#,##0,)"
+    assert seen.err.splitlines()[0] == f"auction: {path}: {shown}"
 
 
 def test_the_same_form_changes_nothing(office: Office) -> None:

@@ -16,6 +16,7 @@ import sys
 import tempfile
 import zipfile
 from collections.abc import Callable, Iterator, Sequence
+from itertools import zip_longest
 from pathlib import Path
 from typing import Any
 
@@ -233,6 +234,9 @@ def hidden(turn: int, rows: list[list[Any]]) -> bytes:
         lambda: write_rows(
             rows, lambda book, sheet: setattr(sheet.column_dimensions["H"], "hidden", True)
         ),
+        # (LibreOffice reads what is out of order)
+        lambda: make_one(make_body(rows) + '<cols><col min="2" max="2" hidden="1"/></cols>'),
+        lambda: make_one(make_body(rows) + '<sheetFormatPr defaultRowHeight="0.1"/>'),
     ]
     return made[turn % len(made)]()
 
@@ -365,6 +369,51 @@ def formats(turn: int, rows: list[list[Any]]) -> bytes:
     return make_one(make_body(rows, ' s="1"'), formats=[code])
 
 
+STYLES = "xl/styles.xml"
+CONDITION = """<conditionalFormatting sqref="A2:A9 C2">
+<cfRule type="cellIs" dxfId="0" priority="1" operator="greaterThan"><formula>10</formula></cfRule>
+</conditionalFormatting>"""
+
+
+def with_condition(rows: list[list[Any]], code: str) -> bytes:
+    """A workbook of which some numbers get another format by a condition."""
+    dxfs = f'<dxfs count="1"><dxf><numFmt numFmtId="200" formatCode="{code}"/></dxf></dxfs>'
+    book = RawWorkbook(("Bids", make_body(rows, ' s="1"') + CONDITION), formats=["0"])
+    return book.change(STYLES, "</styleSheet>", f"{dxfs}</styleSheet>").bytes()
+
+
+def styles(turn: int, rows: list[list[Any]]) -> bytes:
+    """Formats that cells get from elsewhere, and that show a number as another one in odd ways."""
+    plain_body = make_body(rows)
+    body = make_body(rows, ' s="1"')
+    row = plain_body.replace('<row r="3">', '<row r="3" s="1" customFormat="1">')
+    column = '<cols><col min="1" max="1" width="9" style="1"/></cols>'
+    first = '<cellXfs><xf numFmtId="200"/>'
+    twice = '<numFmt numFmtId="200" formatCode="0"/></numFmts>'
+    dxfs = '<dxfs><dxf><numFmt numFmtId="200" formatCode="0"/></dxf></dxfs></styleSheet>'
+    lists = '<cellXfs><xf numFmtId="0"/></cellXfs></styleSheet>'
+
+    def scaled(inner: str) -> RawWorkbook:
+        return RawWorkbook(("Bids", inner), formats=["#,##0,"])
+
+    made = [
+        lambda: scaled(plain_body).change(STYLES, "<cellXfs><xf/>", first).bytes(),
+        lambda: scaled(column + plain_body).bytes(),
+        lambda: scaled(row).bytes(),
+        lambda: scaled(body).change(STYLES, "</numFmts>", twice).bytes(),
+        lambda: scaled(body).change(STYLES, "</styleSheet>", dxfs).bytes(),
+        lambda: with_condition(rows, "#,##0,"),
+        lambda: make_one(body, formats=["[$1]0"]),
+        lambda: make_one(body, formats=["-0"]),
+        lambda: make_one(body, formats=["0;-0;&quot;5&quot;"]),
+        lambda: with_condition(rows, ";;;"),
+        lambda: scaled(body).change(STYLES, "</styleSheet>", lists).bytes(),
+        lambda: make_one(body, formats=["0\\,0"]),
+        lambda: with_condition(rows, "#,##0"),
+    ]
+    return made[turn % len(made)]()
+
+
 VALUES = [
     '<c r="A2"><v>1_0</v></c>',
     '<c r="A2" t="n"><v> 5000 </v></c>',
@@ -420,7 +469,7 @@ def sheets(turn: int, rows: list[list[Any]]) -> bytes:
 
 
 KINDS = [plain, hidden, merged, sparse, repeated, order, huge, encrypted, bombs, formats, values]
-KINDS += [texts, sheets]
+KINDS += [texts, sheets, styles]
 
 
 def list_names() -> list[str]:
@@ -452,7 +501,11 @@ def read_outcome(data: bytes, sheet: str | None = None) -> str:
     return "; ".join([shown, *file.changes[1:]])
 
 
-SHOWN = "csv:Text - txt - csv (StarCalc):44,34,76,1,,0,false,false,false,false,false,-1"
+# each sheet as a file, with its cells as they are shown
+SHOWN = "csv:Text - txt - csv (StarCalc):44,34,76,1,,0,false,true,true,false,false,-1"
+SHOWN_NUMBER = re.compile(
+    r"[^-(0-9]*([0-9]{1,3}(?:,[0-9]{3})+|[0-9]+)(\.[0-9]+)?(E[+-][0-9]+)?[^0-9]*"
+)
 
 
 def run_libreoffice(folder: Path, kind: str, *paths: Path) -> None:
@@ -468,14 +521,32 @@ def run_libreoffice(folder: Path, kind: str, *paths: Path) -> None:
     )
 
 
-def show_in_libreoffice(folder: Path, name: str) -> dict[str, list[str]]:
+def show_in_libreoffice(folder: Path, name: str) -> dict[str, list[list[str]]]:
     """The rows of each sheet as LibreOffice shows them, without empty ones."""
     found = {}
     for path in folder.glob(f"{name}-*.csv"):
         with open(path, encoding="utf-8", newline="") as file:
-            rows = [",".join(row).rstrip(",") for row in csv.reader(file)]
-        found[path.stem.removeprefix(f"{name}-")] = [row for row in rows if row]
+            found[path.stem.removeprefix(f"{name}-")] = list(filter(any, csv.reader(file)))
     return found
+
+
+def is_shown(value: str, text: str) -> bool:
+    """Whether a text shows a value: with marks between thousands, words beside it, or a line alone
+    for 0, as accountants write it.
+
+    >>> texts = ("300,000.00", "£300,000", "3.0E+05", "300", "300k", "-300,000", "30000,0")
+    >>> [is_shown("300000", text) for text in texts]
+    [True, True, True, False, False, False, False]
+    """
+    if not value.isdecimal():
+        return value == text
+    if not int(value) and text.strip() in ("", "-"):
+        return True
+    found = SHOWN_NUMBER.fullmatch(text)
+    if not found:
+        return False
+    whole, fraction, exponent = found.groups(default="")
+    return float(whole.replace(",", "") + fraction + exponent) == int(value)
 
 
 def read_taken(path: Path) -> tuple[File | None, str]:
@@ -491,15 +562,20 @@ def read_taken(path: Path) -> tuple[File | None, str]:
 
 
 def compare(folder: Path, path: Path, file: File) -> tuple[str, str]:
-    """Whether what is read is what LibreOffice shows of the same sheet, or what the receipt names;
-    and both.
+    """Whether LibreOffice shows what is read of the same sheet, or the receipt names what is shown
+    as another number; and both.
     """
     shown = show_in_libreoffice(folder, path.stem)
     first = next(iter(file.rows)).places[0].rpartition("!")[0] if file.rows else "Bids"
-    read = [",".join(row.values).rstrip(",") for row in file.rows]
+    rows = shown.get(first, [])
+    is_same = len(rows) == len(file.rows) and all(
+        is_shown(value, text)
+        for row, texts in zip(file.rows, rows)
+        for value, text in zip_longest(row.values, texts, fillvalue="")
+    )
     is_named = any("shown as another number" in change for change in file.changes)
-    kind = "same" if shown.get(first) == read else "named" if is_named else "wrong"
-    return kind, f"{read} {shown} {file.changes}"
+    kind = "same" if is_same else "named" if is_named else "wrong"
+    return kind, f"{[row.values for row in file.rows]} {shown} {file.changes}"
 
 
 def main() -> int:
@@ -509,13 +585,15 @@ def main() -> int:
     for name in list_names():
         paths.append(folder / f"{name}.xlsx")
         paths[-1].write_bytes(make_workbook(name))
+    tables = []
     for turn in range(COUNT):
         lines = [["Fox", "Low", "High"], *([turn * 100 + row, row, 1] for row in range(1, 4))]
         lines[2:2] = [[]] * (turn % 3)
         text = "".join(",".join(map(str, line)) + "\n" for line in lines)
-        (folder / f"libreoffice_{turn:02}.csv").write_text(text)
-    run_libreoffice(folder, "xlsx", *folder.glob("libreoffice_*.csv"))
-    paths += sorted(folder.glob("libreoffice_*.xlsx"))
+        tables.append(folder / f"libreoffice_{turn:02}.csv")
+        tables[-1].write_text(text)
+    run_libreoffice(folder, "xlsx", *tables)
+    paths += [path.with_suffix(".xlsx") for path in tables]
     found = {path: read_taken(path) for path in paths}
     read = [path for path, (file, _) in found.items() if file]
     for begin in range(0, len(read), 50):

@@ -138,7 +138,8 @@ class Auction:
         Files are read as `wdp-office gather` reads them: workbooks, of which `sheet` names the
         sheet, CSV with semicolons, UTF-16. Raises what Auction(..) does, NotFound if a file isn't
         there, and Refused if it can't be read, or if its last line has no end, as in a file that
-        was cut off: `allow_unended` says that such files are complete.
+        was cut off: `allow_unended` says that such files are complete. Warns of a workbook's
+        numbers that their formats show as others.
         """
         if isinstance(forms, (str, bytes, os.PathLike)):
             paths = [forms]
@@ -147,7 +148,9 @@ class Auction:
         reader = PartReader(sheet=sheet, allow_unended=allow_unended)
         file = reader.read_rules(rules)
         names = find_names(file)
-        texts = [reader.read_form(path, number, names).text for number, path in enumerate(paths, 1)]
+        texts: list[Text] = []
+        for number, path in enumerate(paths, 1):
+            texts.append(reader.read_form(path, number, names).text)
         lines: Groups = None
         if groups in (_EACH, _WINNERS):
             lines = str(groups)

@@ -283,6 +283,9 @@ def _run_from_origin(options: argparse.Namespace, whole: Run) -> int:
     program = whole.means.program
     origin.check_new(options.folder, data)
     check_new_forms(program, data, forms)
+    for file in forms.values():
+        for warning in file.warnings:
+            whole.means.reporter.say(f"{file.path}: {warning}")
     before = origin.read_report(program)
     status = run_from_origin(whole, origin, data)
     if whole.folder.has(AUDIT):

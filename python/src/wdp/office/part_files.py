@@ -2,6 +2,7 @@
 reads them.
 """
 import os
+import warnings
 from collections.abc import Callable
 from dataclasses import dataclass
 
@@ -11,7 +12,7 @@ from wdp.office.sheets import File
 from wdp.program import StrPath
 from wdp.texts.accepted import AcceptedRules, Category
 from wdp.texts.parts import list_names
-from wdp.texts.refusals import NotFound, Refused, WrongArgument
+from wdp.texts.refusals import NotFound, Refused, WrongArgument, escape
 
 _UNENDED = (
     "the last line has no end, as in a file that was cut off; "
@@ -25,7 +26,8 @@ class PartReader:
     `allow_unended` says that the last line of a file may lack its end.
 
     Each call raises WrongArgument if it isn't given a path, NotFound if there is no such file, and
-    Refused if it can't be read.
+    Refused if it can't be read. What the receipt of `gather` would say of numbers that are shown as
+    others is a warning.
     """
 
     sheet: str | None = None
@@ -62,6 +64,9 @@ class PartReader:
             raise Refused(f"{name}: {file.faults[0]}", head, number)
         if file.rows and not file.is_ended and not self.allow_unended:
             raise Refused(f"{name}: {file.path}: {_UNENDED}", head, number)
+        for warning in file.warnings:
+            # (where the auction is made)
+            warnings.warn(escape(f"{name}: {file.path}: {warning}"), stacklevel=4)
         return file
 
 

@@ -51,6 +51,8 @@ class File:
     data: bytes = field(repr=False)
     rows: list[TableRow] = field(default_factory=list)
     changes: list[str] = field(default_factory=list)
+    # what a person sees in another way than it is read
+    warnings: list[str] = field(default_factory=list)
     faults: list[Fault] = field(default_factory=list)
     # whether the last row ends as a row does, and not perhaps in the middle of a value
     is_ended: bool = True
@@ -73,6 +75,11 @@ class File:
     def add_fault(self, place: str, text: str) -> None:
         """Adds a fault at a place in the file."""
         self.faults.append(Fault(f"{self.path}:{place}", text))
+
+    def add_warning(self, text: str) -> None:
+        """Adds a change that a person has to know of."""
+        self.changes.append(text)
+        self.warnings.append(text)
 
     def add_change(self, text: str, count: int) -> None:
         """Adds a change of so many things, unless there are none."""

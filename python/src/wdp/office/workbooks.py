@@ -12,6 +12,7 @@ from bisect import bisect_left, bisect_right
 from collections.abc import Collection, Iterator, Mapping, Sequence
 from dataclasses import dataclass, field
 from io import BytesIO
+from itertools import islice
 from xml.parsers import expat
 
 from wdp.files import Unreadable
@@ -35,6 +36,7 @@ _MOST_NAMED = 20  # cells in a line of the receipt
 _MOST_SHEETS_NAMED = 9  # in a message
 _LAST_ROW = 1_048_576  # of any sheet
 _LAST_COLUMN = 16_384
+_MOST_OF_A_TITLE = 20  # rows of another sheet, of which one may be the first row of a form
 _SMALLEST = 1  # what a height in points or a width in characters has to be for anything to be seen
 
 _MAIN = (
@@ -55,6 +57,7 @@ _NO_WORKBOOK = "it is no workbook that can be read"
 _PASSWORD = "it is an old workbook, or one with a password; save it as .xlsx without one, or as CSV"
 _TRUTHS = {"1": "TRUE", "0": "FALSE", "true": "TRUE", "false": "FALSE"}
 _OFF = ("0", "false")
+_BEFORE_ROWS = ("sheetFormatPr", "cols")  # what says which rows and columns are hidden
 _TEXTS = ("s", "str", "inlineStr")
 _EPOCHS = {False: datetime.datetime(1899, 12, 30), True: datetime.datetime(1904, 1, 1)}
 
@@ -243,8 +246,67 @@ class _TextPieces:
         return text
 
 
+class _Styles:
+    """The formats of numbers: of each style of cells, and of each style that a condition gives to
+    cells, if it has one.
+    """
+
+    def __init__(self) -> None:
+        self.of_cells: list[NumberFormat] = []
+        self.of_conditions: list[NumberFormat | None] = []
+        self.codes: dict[str, str] = {}
+        self.numbers: list[str] = []
+        self.list_name = ""
+        self.lists_begun: set[str] = set()
+
+    def take(self, element: _Element) -> None:
+        """Takes the beginning or the end of an element."""
+        if element.name in ("numFmts", "cellXfs", "dxfs"):
+            self.list_name = element.name if element.is_begin else ""
+            if element.is_begin and element.name in self.lists_begun:
+                raise _BadWorkbook(f"its styles have the list {quote(element.name)} twice")
+            self.lists_begun.add(element.name)
+        elif element.is_begin:
+            self.take_style(element)
+
+    def take_style(self, element: _Element) -> None:
+        """Takes the beginning of an element within a list."""
+        attributes = element.attributes
+        code = attributes.get("formatCode", "")
+        match self.list_name, element.name:
+            case "numFmts", "numFmt":
+                number = attributes.get("numFmtId", "")
+                if number in self.codes:
+                    raise _BadWorkbook(f"its format of numbers {quote(number)} is there twice")
+                self.codes[number] = code
+            case "cellXfs", "xf":
+                self.numbers.append(attributes.get("numFmtId", "0"))
+            case "dxfs", "dxf":
+                self.of_conditions.append(None)
+            case "dxfs", "numFmt":
+                self.of_conditions[-1:] = [NumberFormat(code)]
+
+    def finish(self) -> None:
+        """Gives each style of cells its format."""
+        codes = BUILT_IN | self.codes
+        formats = {number: NumberFormat(codes.get(number, GENERAL)) for number in set(self.numbers)}
+        self.of_cells = [formats[number] for number in self.numbers] or [NumberFormat(GENERAL)]
+
+    def find_format(self, style: str) -> NumberFormat | None:
+        """The format of a style of cells, by its number; None if there is no such style."""
+        if not _INDEX.fullmatch(style) or int(style) >= len(self.of_cells):
+            return None
+        return self.of_cells[int(style)]
+
+    def find_condition(self, style: str) -> NumberFormat | None:
+        """The format of a style that a condition gives, if there is such a style and it has one."""
+        if not _INDEX.fullmatch(style) or int(style) >= len(self.of_conditions):
+            return None
+        return self.of_conditions[int(style)]
+
+
 class _Workbook:
-    """A workbook: its sheets of cells, its texts, and the format of numbers of each style."""
+    """A workbook: its sheets of cells, its texts, and the formats of numbers."""
 
     def __init__(self, data: bytes) -> None:
         self.package = _Archive(data)
@@ -260,7 +322,7 @@ class _Workbook:
             elif element.is_begin and element.name == "workbookPr":
                 self.is_of_1904 = element.attributes.get("date1904", "0") not in _OFF
         self.texts = self.read_texts()
-        self.formats = self.read_formats()
+        self.styles = self.read_styles()
 
     def add_sheet(self, attributes: Mapping[str, str]) -> None:
         """Adds what the workbook says of a sheet, if that is one of cells."""
@@ -287,22 +349,14 @@ class _Workbook:
                 texts.append(pieces.finish())
         return texts
 
-    def read_formats(self) -> list[NumberFormat]:
-        """The format of numbers of each style."""
+    def read_styles(self) -> _Styles:
+        """The formats of numbers."""
         part = _find_part(self.links, "styles")
-        codes = dict(BUILT_IN)
-        numbers: list[str] = []
-        is_of_cells = False
+        styles = _Styles()
         for element in _parse_xml(self.package.read(part)) if part else ():
-            attributes = element.attributes
-            if element.name == "cellXfs":
-                is_of_cells = element.is_begin
-            elif element.is_begin and element.name == "numFmt":
-                codes[attributes.get("numFmtId", "")] = attributes.get("formatCode", "")
-            elif element.is_begin and element.name == "xf" and is_of_cells:
-                numbers.append(attributes.get("numFmtId", "0"))
-        formats = {number: NumberFormat(codes.get(number, GENERAL)) for number in set(numbers)}
-        return [formats[number] for number in numbers]
+            styles.take(element)
+        styles.finish()
+        return styles
 
 
 def _format_column(column: int) -> str:
@@ -344,14 +398,17 @@ class _Cell:
 
 
 @dataclass
-class _Hidden:
-    """What a sheet says of rows and columns that nobody sees."""
+class _Layout:
+    """What a sheet says of its rows and columns: which of them nobody sees, and their styles."""
 
     columns: set[int] = field(default_factory=set)
     last_column: int = 0
     are_columns_small: bool = False
     are_rows_small: bool = False
     is_row_hidden: bool = False
+    # the styles of columns that have one, and that of the row
+    styles: dict[int, str] = field(default_factory=dict)
+    row_style: str | None = None
 
     def take_sizes(self, attributes: Mapping[str, str]) -> None:
         """Takes the sizes of rows and columns of which nothing else is said."""
@@ -370,14 +427,23 @@ class _Hidden:
             place = f"{_format_column(first)}1"
             raise _BadWorkbook("its column isn't in order, or is there twice", place)
         self.last_column = last
+        columns = range(first, min(last, _MOST_CELLS) + 1)
         if attributes.get("hidden", "0") not in _OFF or _is_small(attributes.get("width")):
-            self.columns.update(range(first, min(last, _MOST_CELLS) + 1))
+            self.columns.update(columns)
+        if style := attributes.get("style"):
+            self.styles.update(dict.fromkeys(columns, style))
 
     def take_row(self, attributes: Mapping[str, str]) -> None:
         """Takes what is said of the next row."""
         height = attributes.get("ht")
         is_row_small = _is_small(height) if height else self.are_rows_small
         self.is_row_hidden = attributes.get("hidden", "0") not in _OFF or is_row_small
+        self.row_style = attributes.get("s")
+
+    def list_styles(self, column: int) -> list[str]:
+        """The styles that a cell of this row may have if it names none: spreadsheets differ."""
+        styles = ["0", self.row_style, self.styles.get(column)]
+        return [style for style in styles if style is not None]
 
     def find_reason(self, column: int) -> str:
         """Why a cell of this row isn't seen; nothing if it is."""
@@ -415,17 +481,20 @@ class _Remarks:
         if self.scaled:
             count = format_count(len(self.scaled), "number")
             cells = ", ".join(self.scaled[:_MOST_NAMED])
-            file.changes.append(f"{count} shown as another number by its format: {cells}")
+            file.add_warning(f"{count} shown as another number by its format: {cells}")
 
 
 @dataclass
 class _SheetReader:
-    """Reads the cells of one sheet. What is wrong with a cell is a fault of `file`."""
+    """Reads the cells of one sheet. What is wrong with a cell is a fault of `file`. What follows the
+    rows isn't looked at with `reads_rows_alone`.
+    """
 
     book: _Workbook
     sheet: _Sheet
     file: File
-    hidden: _Hidden = field(default_factory=_Hidden)
+    reads_rows_alone: bool = False
+    layout: _Layout = field(default_factory=_Layout)
     remarks: _Remarks = field(default_factory=_Remarks)
     # the columns that have a value in each row
     columns: dict[int, list[int]] = field(default_factory=dict)
@@ -436,6 +505,8 @@ class _SheetReader:
     pieces: _TextPieces = field(default_factory=_TextPieces)
     within: list[str] = field(default_factory=list)
     is_begun: bool = False
+    # the cells to which conditions give a format
+    cells_of_conditions: str = ""
 
     def rows(self) -> Iterator[TableRow]:
         """The rows that have a value."""
@@ -452,6 +523,8 @@ class _SheetReader:
                 self.file.empty += self.row - last - 1
                 last = self.row
                 yield self.make_row()
+            elif self.reads_rows_alone and self.is_begun and self.within == ["worksheet"]:
+                return
         if not self.is_begun:
             raise _BadWorkbook("it has no rows")
 
@@ -467,16 +540,37 @@ class _SheetReader:
                     raise _BadWorkbook(f"the sheet {quote(self.sheet.name)} is there twice")
                 self.is_begun = True
             case ["worksheet"], name:
-                if " " in name and not self.is_begun:
-                    why = f"before its rows it has {quote(name)}, which isn't understood"
-                    raise _BadWorkbook(why)
-                self.hidden.take_sizes(attributes)
+                self.check_place(name)
+                self.layout.take_sizes(attributes)
+                self.cells_of_conditions = attributes.get("sqref", "")
             case ["worksheet", "cols"], "col":
-                self.hidden.take_columns(attributes)
+                self.layout.take_columns(attributes)
             case ["worksheet", "mergeCells"], "mergeCell":
                 self.check_merged(attributes.get("ref", ""))
+            case ["worksheet", "conditionalFormatting"], "cfRule":
+                self.check_condition(self.book.styles.find_condition(attributes.get("dxfId", "")))
             case ["worksheet", "sheetData", *within], _:
                 self.begin_within(within, element)
+            case _, "numFmt":
+                self.check_condition(NumberFormat(attributes.get("formatCode", "")))
+
+    def check_place(self, name: str) -> None:
+        """Raises _BadWorkbook if an element, which isn't the rows, may change how they are read
+        where it is.
+        """
+        if " " in name and not self.is_begun:
+            raise _BadWorkbook(f"before its rows it has {quote(name)}, which isn't understood")
+        if name in _BEFORE_ROWS and self.is_begun:
+            raise _BadWorkbook(f"after its rows it has {quote(name)}, which has to be before them")
+
+    def check_condition(self, number_format: NumberFormat | None) -> None:
+        """Raises _BadWorkbook if a condition gives cells a format of numbers."""
+        if number_format is None or not number_format.is_odd(1):
+            return
+        code = quote(number_format.code)
+        cell = _CELL.match(self.cells_of_conditions)
+        why = f"a condition may show its number by the format {code}; remove the condition"
+        raise _BadWorkbook(why, cell[0] if cell else "")
 
     def begin_within(self, within: list[str], element: _Element) -> None:
         """Takes the beginning of an element among the rows."""
@@ -513,7 +607,7 @@ class _SheetReader:
         self.row = int(number)
         self.column = 0
         self.cells = []
-        self.hidden.take_row(attributes)
+        self.layout.take_row(attributes)
 
     def begin_cell(self, attributes: Mapping[str, str]) -> None:
         """Takes the place of a cell, and the kind of its value."""
@@ -589,7 +683,7 @@ class _SheetReader:
             self.remarks.formulas.append(cell.place)
             if cell.value is None:
                 self.file.add_fault(place, NOT_STORED)
-        if reason := self.hidden.find_reason(cell.column):
+        if reason := self.layout.find_reason(cell.column):
             self.remarks.unseen.append((place, reason))
 
     def check_kind(self, cell: _Cell, place: str, value: str) -> None:
@@ -617,24 +711,29 @@ class _SheetReader:
     def format_number(self, cell: _Cell, text: str, place: str) -> str:
         """The number of a cell as a field, as its format shows it."""
         number = float(text)
-        number_format = self.find_format(cell)
+        number_format = self.find_format(cell, number)
         if number_format.is_date:
             return _format_date(number, is_of_1904=self.book.is_of_1904) or text
-        if number and not number_format.is_seen:
+        if number_format.hides(number):
             code = quote(number_format.code)
             self.remarks.unseen.append((place, f"its format {code} doesn't show its number"))
-        elif number and number_format.is_scaled:
+        elif number_format.alters(number):
             self.remarks.scaled.append(f"{cell.place} ({number_format.code})")
         is_exact = number.is_integer() and abs(number) < 2**53
         return str(int(number)) if is_exact else str(number)
 
-    def find_format(self, cell: _Cell) -> NumberFormat:
-        """The format of numbers that a cell has."""
-        if cell.style is None or cell.style == "0" and not self.book.formats:
-            return NumberFormat(GENERAL)
-        if not _INDEX.fullmatch(cell.style) or int(cell.style) >= len(self.book.formats):
-            raise _BadWorkbook(f"its style {quote(cell.style)} isn't there", cell.place)
-        return self.book.formats[int(cell.style)]
+    def find_format(self, cell: _Cell, number: float) -> NumberFormat:
+        """The format of numbers that a cell has; if it names no style, one that shows anything but
+        its number, if it may have such a one.
+        """
+        styles = [cell.style] if cell.style is not None else self.layout.list_styles(cell.column)
+        formats: list[NumberFormat] = []
+        for style in styles:
+            number_format = self.book.styles.find_format(style)
+            if number_format is None:
+                raise _BadWorkbook(f"its style {quote(style)} isn't there", cell.place)
+            formats.append(number_format)
+        return next((each for each in formats if each.is_odd(number)), formats[0])
 
     def check_merged(self, ref: str) -> None:
         """A value that merged cells cover is a fault of its cell."""
@@ -666,10 +765,12 @@ def _format_date(number: float, *, is_of_1904: bool) -> str:
     return str(date.date() if date.time() == datetime.time() else date)
 
 
-def _read_first_value(book: _Workbook, sheet: _Sheet) -> str:
-    """The first value of a sheet."""
-    rows = _SheetReader(book, sheet, File("", b"")).rows()
-    return next((value for value in next(rows, TableRow([], 0)).values if value), "")
+def _begins_as_form(book: _Workbook, sheet: _Sheet, heads: Collection[str]) -> bool:
+    """Whether one of the first rows of a sheet begins with one of these words."""
+    reader = _SheetReader(book, sheet, File("", b""), reads_rows_alone=True)
+    rows = islice(reader.rows(), _MOST_OF_A_TITLE)
+    first_values = (next(filter(None, row.values), "") for row in rows)
+    return any(value.strip().lower() in heads for value in first_values)
 
 
 def _choose_sheet(book: _Workbook, name: str | None, heads: Collection[str]) -> _Sheet:
@@ -687,7 +788,7 @@ def _choose_sheet(book: _Workbook, name: str | None, heads: Collection[str]) -> 
             raise _BadWorkbook(f"its sheet {quote(sheet.name)} is hidden; delete it, or {hint}")
     known = {head.lower() for head in heads}
     for sheet in book.sheets[1:]:
-        if _read_first_value(book, sheet).strip().lower() in known:
+        if _begins_as_form(book, sheet, known):
             raise _BadWorkbook(f"its sheet {quote(sheet.name)} begins as a form does, too; {hint}")
     return book.sheets[0]
 
