@@ -150,6 +150,18 @@ def test_files_of_the_kernel_or_that_are_no_text(
         assert said.count("\n") == 1
 
 
+KERNEL = "explain @; solve @; certify @ @; prices @ --output out; results @ --output out; form @ --output out"
+KERNEL += "; auction new --input @; gather @ forms groups.txt --output out"
+
+
+@pytest.mark.parametrize("words", KERNEL.split("; "))
+def test_a_file_of_the_kernel_that_is_named(tmp_path: Path, wdp: str, words: str) -> None:
+    """Nobody waits for what the kernel may say; what it says is no input."""
+    named = words.replace("@", "/proc/kmsg").split()
+    seen = run(*named, cwd=tmp_path, env=make_environment(WDP=wdp))
+    assert seen.status == 1, seen
+
+
 @pytest.mark.parametrize("number", [signal.SIGTERM, signal.SIGKILL])
 def test_a_killed_solve_leaves_no_folder(tmp_path: Path, wdp: str, mark: str, number: int) -> None:
     where = tmp_path / "temporary"

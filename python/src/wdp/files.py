@@ -52,10 +52,13 @@ def read(path: str, most: int, regular: bool = False) -> bytes:
                 raise Unreadable(path, "standard input is closed")
             return read_rest(sys.stdin.buffer, path, most)
         flags = os.O_RDONLY
-        if regular:
-            # (a pipe is opened without waiting for a writer)
+        status = os.stat(path)
+        if regular or stat.S_ISREG(status.st_mode):
+            # (nothing is waited for: not the writer of a pipe, and not the kernel, which has files
+            # like /proc/kmsg)
             flags |= os.O_NONBLOCK | os.O_NOCTTY
-            check_kind(path, os.stat(path))
+        if regular:
+            check_kind(path, status)
         with open(os.open(path, flags), "rb") as file:
             if regular:
                 check_kind(path, os.fstat(file.fileno()))
