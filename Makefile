@@ -46,8 +46,8 @@ install:
 	mkdir -p "$$to/$$PYTHON" "$$to/share/doc/wdp"
 	(cd python/src && tar -c --exclude=__pycache__ wdp) | tar -x --no-same-owner -C "$$to/$$PYTHON"
 	tar -c --exclude='.git*' README.md CHANGELOG.md bench/README.md docs examples | tar -x --no-same-owner -C "$$to/share/doc/wdp"
-	# (documents name commands and the manual as they are installed, and have no links to the sources)
-	find "$$to/share/doc/wdp" -name '*.md' -exec sed -i -e 's#\./wdp#wdp#g' -e 's#\(man \)*docs/wdp\.1#man wdp#g' \
+	# (documents name the manual and, in their blocks, the commands as they are installed, and have no links to the sources)
+	find "$$to/share/doc/wdp" -name '*.md' -exec sed -i -e '/^```/,/^```/s#\./wdp#wdp#g' -e 's#\(man \)*docs/wdp\.1#man wdp#g' \
 		-e 's#\[\([^]]*\)\]([./]*crates/[^)]*)#\1#g' {} +
 	ln -s "../$$PYTHON/wdp/__main__.py" "$$to/bin/wdp-office"
 	install -D -m 644 -t "$$to/share/man/man1" "$$made"/man/*

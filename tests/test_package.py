@@ -112,6 +112,18 @@ def test_documents_name_what_is_installed(there):
     assert "`man wdp`" in (there / "share/doc/wdp/README.md").read_text()
 
 
+def test_documents_show_the_installed_commands_and_speak_of_the_clone(there):
+    """In their blocks commands are those that were installed; what is said of a clone stays."""
+    documents = there / "share/doc/wdp"
+    texts = [path.read_text() for path in documents.rglob("*.md")]
+    blocks = [block for text in texts for block in re.findall(r"(?ms)^```.*?^```", text)]
+    assert not [block for block in blocks if "./wdp" in block]
+    assert "\nwdp-office auction worked" in (documents / "README.md").read_text()
+    office = (documents / "docs/OFFICE.md").read_text()
+    assert "In a clone, the command is `./wdp-office`." in office
+    assert re.search(r"apt-get install \.\./wdp_[\d.]+_amd64\.deb", office)
+
+
 def test_what_was_installed_runs_from_another_folder(there, folder, tmp_path):
     """An office's files are joined, and faults of another's told; an auction, its page and the module of Python find the program."""
     moved = shutil.copytree(there, folder / "moved", symlinks=True)
