@@ -1,4 +1,4 @@
-"""Inputs of `wdp verify` whose certificate is true, and chosen to take long.
+"""Inputs of `wdp verify` whose certificate is chosen to take long. It is true, but for the last line of `unique` and `ties`.
 
 again: a leaf that names the row of a category once for each column, of which that row has all; so many forms of 4,000 bids.
 split: a split that names two columns so often, above a tree with a leaf for each 100 of them.
@@ -6,6 +6,9 @@ small: so many forms of 4,000 bids, and a tree with 100 leaves for each form tha
 dense: 32 forms of 4,000 bids, and a tree with so many leaves that each name the row of the category, of which all columns have an
 entry.
 wide: the same forms, and leaves that each name that row and one of a bidder, where the last column's number alone leaves 64 bits.
+unique: 32 forms of 4,000 bids, and a `%unique` with so many leaves, that each name the row of the category and give a number to the
+inequality that excludes the solution, which has an entry for each column. Its last line shows nothing, since others win as much.
+ties: the same beside 63 `%tie`, whose inequalities get a number from each leaf, too.
 groupsolutions: 40 forms of 4,000 bids, and so many groups of the first ten bidders, each with a certificate of one leaf.
 plain: so many forms of 4,000 bids, and a certificate of one leaf.
 
@@ -103,6 +106,46 @@ def wide(leaves):
     rows = "C1 %d B32 %d" % (of_lots, of_bidder)
     below = tree(depth_for(leaves), lambda depth: "split 0", lambda ys: " ".join(["bound 0 24", *map(str, ys), rows]))
     return text_of(auction(32) + ["%certificate", "split %d" % (10 ** 18 - 1), leaf(32, (0,)), *below])
+
+
+TIES = 63
+
+
+def awards(count):
+    """So many allocations of greatest total: in each the third bidder leaves one lot more to the fourth."""
+    first = winners(32)
+    return [[*first[:2], first[2] - more, first[3] + more, *first[4:]] for more in range(count)]
+
+
+def excluded(leaves, ties):
+    """No point is on the first side of a split without columns, which outweighs the row of the category and all inequalities."""
+    lines = auction(32) + ["%certificate", leaf(32)]
+    for award in awards(1 + ties)[1:]:
+        lines += ["%tie"] + ["X%d_%d 1" % (bidder, won) for bidder, won in enumerate(award, 1)]
+    numbers = [1] * (1 + ties) + [200 * LOTS]
+    below = tree(depth_for(leaves), lambda depth: "split 0", lambda ys: " ".join(["bound 0", *map(str, numbers + list(ys)), "C1 100"]))
+    return text_of(lines + ["%unique", "split -1", *below, leaf(32, [0] * len(numbers))])
+
+
+def excluded_entries(leaves, ties):
+    """How many entries have the row of the category and the inequalities, each time that a leaf names them."""
+    return 32 * BIDS * dense_leaves(leaves) * (2 + ties)
+
+
+def unique(leaves):
+    return excluded(leaves, 0)
+
+
+def unique_entries(leaves):
+    return excluded_entries(leaves, 0)
+
+
+def ties(leaves):
+    return excluded(leaves, TIES)
+
+
+def ties_entries(leaves):
+    return excluded_entries(leaves, TIES)
 
 
 FEW, MANY = 10, 40  # of so many bidders groups are made, and so many are there
