@@ -13,6 +13,7 @@ from collections.abc import Collection, Iterator, Mapping, Sequence
 from dataclasses import dataclass, field
 from io import BytesIO
 from itertools import islice
+from typing import NamedTuple
 from xml.parsers import expat
 
 from wdp.files import Unreadable
@@ -71,8 +72,7 @@ class _BadWorkbook(Exception):
         self.cell = cell
 
 
-@dataclass(frozen=True, slots=True)
-class _Element:
+class _Element(NamedTuple):
     """The beginning of an element with its attributes, or its end with the text since the tag
     before. Names are without the namespace of workbooks; those of others have theirs before them.
     """
@@ -96,6 +96,7 @@ class _XmlParser:
 
     def __init__(self, namespaces: tuple[str, ...]) -> None:
         self.namespaces = namespaces
+        self.local_names: dict[str, str] = {}
         self.found: list[_Element] = []
         self.texts: list[str] = []
         self.count = 0
@@ -115,7 +116,7 @@ class _XmlParser:
             most = f"{_MOST_ELEMENTS:,} elements, or {_MOST_NESTED} within each other"
             raise _BadWorkbook(f"its XML has more than {most}")
         self.texts.clear()
-        local_name = _strip_namespace(name, self.namespaces)
+        local_name = self.find_local_name(name)
         self.found.append(_Element(is_begin=True, name=local_name, attributes=attributes))
 
     def end(self, name: str) -> None:
@@ -123,8 +124,14 @@ class _XmlParser:
         self.depth -= 1
         text = "".join(self.texts)
         self.texts.clear()
-        local_name = _strip_namespace(name, self.namespaces)
+        local_name = self.find_local_name(name)
         self.found.append(_Element(is_begin=False, name=local_name, attributes={}, text=text))
+
+    def find_local_name(self, name: str) -> str:
+        """The name of an element without its namespace, which is looked up once for each name."""
+        if name not in self.local_names:
+            self.local_names[name] = _strip_namespace(name, self.namespaces)
+        return self.local_names[name]
 
     def refuse_type(self, *_: object) -> None:
         """Refuses a document type, by which a small text may become a large one."""
