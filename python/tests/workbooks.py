@@ -276,6 +276,7 @@ def repeated(turn: int, rows: list[list[Any]]) -> bytes:
     two = RawWorkbook(("Bids", make_body(rows)), ("bids", make_body(rows)))
     other = ("xl/worksheets/sheet1.xml", make_sheet(make_body([rows[0], [1, 1, 1]])))
     upper = ("xl/Worksheets/Sheet1.xml", other[1])
+    other_marks = ("xl\\worksheets\\sheet1.xml", other[1])
     made = [
         lambda: make_one(f"<sheetData>{twice}</sheetData>"),
         lambda: make_one(f"<sheetData>{''.join(lines)}{cells}</sheetData>"),
@@ -287,6 +288,7 @@ def repeated(turn: int, rows: list[list[Any]]) -> bytes:
         lambda: make_one(
             '<cols><col min="1" max="3"/><col min="2" max="2" hidden="1"/></cols>' + make_body(rows)
         ),
+        lambda: RawWorkbook(("Bids", make_body(rows))).bytes(again=[other_marks]),
     ]
     return made[turn % len(made)]()
 

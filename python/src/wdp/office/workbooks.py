@@ -174,8 +174,8 @@ class _Archive:
             raise _BadWorkbook(f"it is a workbook of more than {_MOST_UNPACKED:,} bytes, unpacked")
         self.entries: dict[str, zipfile.ZipInfo] = {}
         for entry in entries:
-            # (names differ in more than case)
-            name = entry.filename.lower()
+            # (names differ in more than case and the marks between folders)
+            name = entry.filename.lower().replace("\\", "/")
             if name in self.entries:
                 raise _BadWorkbook(f"its archive has {quote(entry.filename)} twice")
             self.entries[name] = entry
