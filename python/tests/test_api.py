@@ -161,6 +161,7 @@ def write_files(folder: Path) -> None:
     lines = [[int(x) if x.isdecimal() else x for x in line.split(",")] for line in parts[1].split()]
     (folder / "Alpha.xlsx").write_bytes(workbooks.write_rows(lines))
     (folder / "hidden.xlsx").write_bytes(workbooks.write_rows(lines, workbooks.hide_row))
+    (folder / "sheets.xlsx").write_bytes(workbooks.make_workbook("hidden_00"))
     os.mkfifo(folder / "pipe")
     (folder / "loop").symlink_to("loop")
 

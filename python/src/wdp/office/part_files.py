@@ -59,7 +59,9 @@ class PartReader:
             file = read(os.fsdecode(path))
         except files.Unreadable as error:
             kind = NotFound if isinstance(error.__cause__, FileNotFoundError) else Refused
-            raise kind(f"{name}: {error.text}", head, number) from None
+            # (the option's name is that of the argument)
+            text = error.text.replace("--sheet NAME", "sheet=NAME")
+            raise kind(f"{name}: {text}", head, number) from None
         if file.faults:
             raise Refused(f"{name}: {file.faults[0]}", head, number)
         if file.rows and not file.is_ended and not self.allow_unended:
