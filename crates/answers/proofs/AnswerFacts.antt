@@ -1,9 +1,9 @@
 -- What is answered to a request, by the auction that its input describes.
-use Rattle.std.proofs.Common.{◌≡◌, ◌≢◌, ◌∙◌, ℕ, List, Option, Result, Ok, Err, ap, inl, inr, refl, subst, sym, IfErr, OnOk}
+use Rattle.std.proofs.Common.{◌≡◌, ◌≢◌, ◌∙◌, Result, Ok, Err, ap, inl, inr, refl, subst, sym, IfErr, OnOk}
 use Rattle.auction_input.specs.Input.{Input}
 use Rattle.answers.specs.Answer.{answer, output_of}
 use Rattle.answers.specs.Exact.{Ends, IsUnwritten, MeetsLimit, Writes, by_refusal}
-use Rattle.answers.specs.Outside.{SinkState}
+use Rattle.byte_sinks.specs.Sinks.{Outlet}
 use Rattle.answers.specs.Sold.{HasSold}
 use Rattle.answers.specs.Output.{IsBeyondLimit, IsWithoutOutput}
 use Rattle.answers.proofs.FaithfulFacts.{faithful-without}
@@ -36,7 +36,7 @@ has-sold asked input auction sold = (auction, sold, faithful-without asked input
 
 module _ (asked : Request) (input : Input) (some : asked ≢ request.Check) (settled : asked ≢ request.Forms) where
   -- the auction isn't there
-  pub no-auction : (before : SinkState) (r : Refusal) → RefusesAuction asked input r → IsUnwritten asked input before before r
+  pub no-auction : (before : Outlet) (r : Refusal) → RefusesAuction asked input r → IsUnwritten asked input before before r
   no-auction before r (inl refused) =
       inl (by_refusal (refuses-as _ _ r (by-auction asked input some settled) (stop (parsed_auction asked input) (output_of asked) r refused)) refl)
   no-auction before r (inr unsettled) = inr (inl unsettled, refl)
@@ -46,11 +46,11 @@ module _ (asked : Request) (input : Input) (some : asked ≢ request.Check) (set
     is-parsed : answer asked input ≡ output_of asked auction
     is-parsed = by-auction asked input some settled ∙ ap (λ (t : Result Auction Refusal). and_then t (output_of asked)) parsed
 
-    pub written : {T E : Type 0} (result : Result T E) (taken taken' : Option (List ℕ))
-        → OnOk result (Writes (output_of asked auction) taken taken') → OnOk result (Writes (answer asked input) taken taken')
-    written result taken taken' writes = subst (λ x. OnOk result (Writes x taken taken')) (sym is-parsed) writes
+    pub written : {T E : Type 0} (result : Result T E) (before after : Outlet)
+        → OnOk result (Writes (output_of asked auction) before after) → OnOk result (Writes (answer asked input) before after)
+    written result before after writes = subst (λ x. OnOk result (Writes x before after)) (sym is-parsed) writes
 
-    pub unwritten : {T : Type 0} (result : Result T Refusal) (before after : SinkState) → IfErr result (IsWithoutOutput asked auction before after)
+    pub unwritten : {T : Type 0} (result : Result T Refusal) (before after : Outlet) → IfErr result (IsWithoutOutput asked auction before after)
         → IfErr result (IsUnwritten asked input before after)
     unwritten (Ok x) before after ends = tt
     unwritten (Err r) before after (inl ends) = inl (subst (λ x. Ends x before after r) (sym is-parsed) ends)

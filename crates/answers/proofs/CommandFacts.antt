@@ -5,7 +5,7 @@ use Rattle.std.proofs.lemmas.Bool.Decides.{leb_tells}
 use Rattle.auction_terms.specs.declared.choices.Choice.{Choice}
 use Rattle.bid_desk.specs.Closing.{Closing}
 use Rattle.group_compiler.specs.Compiled.{GroupProgram, compiled, program_without}
-use Rattle.byte_sinks.specs.Sinks.{HasFailed, SentFront, written_of}
+use Rattle.byte_sinks.specs.Sinks.{GoesInPart, Outlet, SentFront, written_of}
 use Rattle.byte_sinks.specs.declared.write_fault.WriteFault.{WriteFault}
 use Rattle.byte_sinks.specs.declared.write_fault.WriteFault.TheVariants as write
 use Rattle.outcome.specs.Report.{allocation_text, in_turn}
@@ -14,7 +14,6 @@ use Rattle.program_rows.specs.Program.{Table}
 use Rattle.auction_input.specs.Refused.{Refuses}
 use Rattle.auction_input.specs.Settled.{held}
 use Rattle.answers.specs.Exact.{Ends, by_put}
-use Rattle.answers.specs.Outside.{SinkState}
 use Rattle.answers.specs.GroupTexts.{EndsIn, program_bytes, programs_bytes, program_text}
 use Rattle.answers.specs.Answer.{output_of}
 use Rattle.auction_input.specs.declared.refusal.Refusal.{Refusal}
@@ -27,14 +26,10 @@ use Rattle.auction_input.specs.declared.refusal.Refusal.TheVariants as refusal
 use Rattle.auction_input.specs.declared.request.Request.TheVariants as request
 use Rattle.auction_input.proofs.StageFacts.{next, refuses-as, stop}
 
--- the state of a sink, by what it took and how many puts failed
-abbrev pub state : Option (List ℕ) → ℕ → SinkState
-state taken failures = record { taken = taken; failures = failures }
-
 -- a put failed
-pub cut-short : (parsed : Result (List ℕ) Refusal) (out : List ℕ) (before after : SinkState) (f : WriteFault) → parsed ≡ Ok out
-    → SentFront before.taken after.taken out (written_of f) → HasFailed before.failures after.failures → Ends parsed before after (refusal.Write f)
-cut-short parsed out before after (write.Sink written) whole sent failed = by_put out whole sent failed
+pub cut-short : (parsed : Result (List ℕ) Refusal) (out : List ℕ) (before after : Outlet) (f : WriteFault) → parsed ≡ Ok out
+    → GoesInPart before after out (written_of f) → Ends parsed before after (refusal.Write f)
+cut-short parsed out before after (write.Sink written) whole part = by_put out whole part
 
 -- the programs of groups are made of their groups
 pub of-groups : (book : Closing) (k : ℕ) (groups : List (List ℕ))

@@ -6,6 +6,7 @@ use Rattle.std.proofs.lemmas.Bool.{leb-true}
 use Rattle.std.specs.Prelude.{⊤, if◌then◌else◌, nat_le, not, slice_index_or}
 use Rattle.std.specs.List.{zip}
 use Rattle.std.specs.Option.{option_map, option_or}
+use Rattle.byte_sinks.specs.Sinks.{Outlet}
 use Rattle.answers.specs.Answer.{answer, output_of}
 use Rattle.answers.specs.Exact.{Writes}
 use Rattle.answers.specs.ExplainedFor.{ExplainsFor, IsNamed, IsOfParts, IsRefusedBy, IsTakenBy, RefusesSo}
@@ -509,7 +510,7 @@ has-taken bids (Some command) (Ok auction) out is = by (first_failed (refused_un
     by (Some r) e = cc
 has-taken bids command (Err r) out is = cc
 
-pub taken-for : (asked : Request) (input : Input) (before after : Option (List ℕ)) → Writes (answer asked input) before after → IsTakenFor asked input
+pub taken-for : (asked : Request) (input : Input) (before after : Outlet) → Writes (answer asked input) before after → IsTakenFor asked input
 taken-for (Explain bids None) input before after (out, parsed, sent) = λ asked never r answered of. never
 taken-for (Explain bids (Some command)) input before after (out, parsed, sent) =
     let (auction, has) = has-taken bids (Some command) (parsed_auction (Explain bids (Some command)) input) out parsed in

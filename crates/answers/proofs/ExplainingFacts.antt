@@ -3,10 +3,9 @@ use Rattle.std.specs.Prelude.{if◌then◌else◌}
 use Rattle.std.proofs.Common.{◌≡◌, ◌⊎◌, ◌∙◌, ℕ, Bool, true, false, List, [], Option, None, Some, Result, Ok, Err, ap, inl}
 use Rattle.std.proofs.Common.{inr, refl, subst, sym, ◌↔◌, IfErr, IfOk, IsErr, IsOk, IsTrue, MatchBool, true≢false}
 use Rattle.auction_input.specs.Input.{Input}
-use Rattle.std.specs.Io.KnownBytes.{Appends}
 use Rattle.answers.specs.Exact.{IsUnwritten, Writes}
 use Rattle.answers.specs.Answer.{answer, output_of}
-use Rattle.answers.specs.Outside.{SinkState}
+use Rattle.byte_sinks.specs.Sinks.{GoesWhole, Outlet}
 use Rattle.answers.specs.Runs.{AsksAnswer}
 use Rattle.auction_input.specs.Auction.{Auction, parsed_auction}
 use Rattle.auction_input.specs.declared.refusal.Refusal.{Refusal}
@@ -38,24 +37,24 @@ found-answer None (Err r) auction is = cc
 found-answer (Some command) (Err r) auction is = cc
 
 -- where nothing is wrong, and bids aren't asked for, nothing is written
-nothing-written : (command : Option Target) (text : Input) (parsed : Result Auction Refusal) (taken taken' : Option (List ℕ))
+nothing-written : (command : Option Target) (text : Input) (parsed : Result Auction Refusal) (before after : Outlet)
     → parsed_taken (Explain false command) text ≡ parsed → (IsErr parsed → IsTrue false)
-    → Appends taken taken' (explanation (Explain false command) text)
-    → Writes (answer (Explain false command) text) taken taken'
-nothing-written command text (Ok auction) taken taken' is sound written = (
+    → GoesWhole before after (explanation (Explain false command) text)
+    → Writes (answer (Explain false command) text) before after
+nothing-written command text (Ok auction) before after is sound written = (
   [],
   found-answer command (parsed_auction (Explain false command) text) auction is,
-  subst (Appends taken taken') (nothing-explained
+  subst (GoesWhole before after) (nothing-explained
       (Explain false command) text auction is) written,
 )
-nothing-written command text (Err r) taken taken' is sound written = (let never = sound refl in cc)
+nothing-written command text (Err r) before after is sound written = (let never = sound refl in cc)
 
-pub unasked : (bids faulty : Bool) (command : Option Target) (text : Input) (taken taken' : Option (List ℕ)) → bids ≡ false → faulty ≡ false
+pub unasked : (bids faulty : Bool) (command : Option Target) (text : Input) (before after : Outlet) → bids ≡ false → faulty ≡ false
     → IsTrue faulty ↔ IsErr (parsed_taken (Explain bids command) text)
-    → Appends taken taken' (explanation (Explain bids command) text) → Writes (answer (Explain bids command) text) taken taken'
-unasked true faulty command text taken taken' off sound both written = absurd (true≢false off)
-unasked false faulty command text taken taken' off sound both written =
-    nothing-written command text (parsed_taken (Explain false command) text) taken taken' refl (λ wrong. sym sound ∙ both.1 wrong) written
+    → GoesWhole before after (explanation (Explain bids command) text) → Writes (answer (Explain bids command) text) before after
+unasked true faulty command text before after off sound both written = absurd (true≢false off)
+unasked false faulty command text before after off sound both written =
+    nothing-written command text (parsed_taken (Explain false command) text) before after refl (λ wrong. sym sound ∙ both.1 wrong) written
 
 -- where no fault is found, an auction is parsed
 no-fault : {A E : Type 0} (parsed : Result A E) → (IsErr parsed → ⊥) → IsOk parsed
@@ -68,19 +67,19 @@ asks-bids bids faulty command text asked sound both =
     (asked, no-fault (parsed_taken (Explain bids command) text) (λ wrong. true≢false (sym (both.1 wrong) ∙ sound)))
 
 -- where nothing was put before
-pub unreported : (asked : Request) (text : Input) (explained before after : SinkState) (r : Refusal) → explained ≡ before
+pub unreported : (asked : Request) (text : Input) (explained before after : Outlet) (r : Refusal) → explained ≡ before
     → IsUnwritten asked text explained after r → IsUnwritten asked text before after r
-unreported asked text explained before after r same unwritten = subst (λ (s : SinkState). IsUnwritten asked text s after r) same unwritten
+unreported asked text explained before after r same unwritten = subst (λ (s : Outlet). IsUnwritten asked text s after r) same unwritten
 
 -- what a text is explained by
-abbrev pub IsTextExplained : Bool → Option Target → Input → Option (List ℕ) → Option (List ℕ) → Bool → Type 0
-IsTextExplained bids command text taken taken' faulty =
-    MatchBool faulty (IsErr (parsed_taken (Explain bids command) text) × Appends taken taken' (explanation (Explain bids command) text))
-    (Writes (answer (Explain bids command) text) taken taken')
+abbrev pub IsTextExplained : Bool → Option Target → Input → Outlet → Outlet → Bool → Type 0
+IsTextExplained bids command text before after faulty =
+    MatchBool faulty (IsErr (parsed_taken (Explain bids command) text) × GoesWhole before after (explanation (Explain bids command) text))
+    (Writes (answer (Explain bids command) text) before after)
 
-abbrev pub IsTextUnexplained : Bool → Option Target → Input → SinkState → SinkState → Refusal → Type 0
+abbrev pub IsTextUnexplained : Bool → Option Target → Input → Outlet → Outlet → Refusal → Type 0
 IsTextUnexplained bids command text before after r =
-    IsCutShort (explanation (Explain bids command) text) before.taken after.taken before.failures after.failures r
+    IsCutShort (explanation (Explain bids command) text) before after r
     ⊎ (AsksAnswer (Explain bids command) text × IsUnwritten (Explain bids command) text before after r)
 
 -- ---- what is written of an auction

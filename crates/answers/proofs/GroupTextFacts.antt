@@ -3,10 +3,10 @@ use Rattle.std.proofs.Common.{◌≡◌, ◌<◌, ◌≤◌, ◌+◌, ◌-◌, �
 use Rattle.std.proofs.Common.{drop, get_or, refl, sym, ap, subst, arith, append_assoc, length-append, MutBor, min, ◌^◌, map}
 use Rattle.std.specs.Io.KnownBytes.{Appends, append_known}
 use Rattle.std.proofs.lemmas.List.{append-nil, get_or-map, length-map, length-take, take-append-drop, take-append-le, take_more}
-use Rattle.byte_sinks.specs.Sinks.{Counts, HasFailed, IsFront, SentFront}
+use Rattle.byte_sinks.specs.Sinks.{Counts, HasFailed, IsFront, Outlet, SentFront}
 use Rattle.byte_sinks.specs.declared.writer.Writer.{Writer}
 use Rattle.byte_sinks.specs.Adds.{Adds, IsBroken, IsNew, IsSent}
-use Rattle.byte_sinks.proofs.AddingFacts.{Adds-then, counts-new, fails-new, front-after, sent-whole}
+use Rattle.byte_sinks.proofs.AddingFacts.{Adds-then, counts-new, front-after, goes-in-part, sent-whole}
 use Rattle.byte_sinks.proofs.KnownByteFacts.{Counts-then, IsFront-piece, SentFront-from}
 use Rattle.bid_desk.specs.Closing.{Closing}
 use Rattle.group_compiler.specs.Compiled.{GroupProgram, compiled}
@@ -76,21 +76,23 @@ ends-within (Some o) (Some m) (Some u) done b later sent sent' gone count front 
     ends-known o m u done b later sent' gone more.0 (SentFront-from (Some o) (Some u) (done ++ b) sent' all counts)
 
 -- the same, of a writer that had sent what is done, to a sink that ends as x
-pub ends-parsed : {X : Type 0} {taken : X → Option (List ℕ)} {failures : X → ℕ} {s : MutBor X} {a b c : Writer X} {written : ℕ} (x : X)
+pub ends-parsed : {X : Type 0} {state : X → Outlet} {s : MutBor X} {a b c : Writer X} {written : ℕ} (x : X)
     (done bytes later : List ℕ)
-    → IsNew s a → Adds taken failures a b done → IsSent b → Adds taken failures b c bytes → IsBroken c written → x ≡ c.sink.now
-    → EndsWithin (taken s.now) (taken x) ((done ++ bytes) ++ later) done (done ++ bytes) written
-ends-parsed {X} {taken} {failures} {s} {a} {b} {c} {written} x done bytes later new before sent added broken end =
-    let ends = ends-within (taken s.now) (taken b.sink.now) (taken c.sink.now) done bytes later b.sent c.sent (sent-whole new before sent)
+    → IsNew s a → Adds state a b done → IsSent b → Adds state b c bytes → IsBroken c written → x ≡ c.sink.now
+    → EndsWithin (state s.now).taken (state x).taken ((done ++ bytes) ++ later) done (done ++ bytes) written
+ends-parsed {X} {state} {s} {a} {b} {c} {written} x done bytes later new before sent added broken end =
+    let ends = ends-within (state s.now).taken (state b.sink.now).taken (state c.sink.now).taken done bytes later b.sent c.sent (sent-whole new before sent)
     (counts-new new before) (front-after sent added broken) added.counted in
-    subst (λ (y : X). EndsWithin (taken s.now) (taken y) ((done ++ bytes) ++ later) done (done ++ bytes) written) (sym end)
-    (subst (λ (n : ℕ). EndsWithin (taken s.now) (taken c.sink.now) ((done ++ bytes) ++ later) done (done ++ bytes) n) (sym broken.1) ends)
+    subst (λ (y : X). EndsWithin (state s.now).taken (state y).taken ((done ++ bytes) ++ later) done (done ++ bytes) written) (sym end)
+    (subst (λ (n : ℕ). EndsWithin (state s.now).taken (state c.sink.now).taken ((done ++ bytes) ++ later) done (done ++ bytes) n) (sym broken.1) ends)
 
--- the sink counts the put that failed
-pub fails-parsed : {X : Type 0} {taken : X → Option (List ℕ)} {failures : X → ℕ} {s : MutBor X} {a b c : Writer X} {done bytes : List ℕ} {written : ℕ} (x : X)
-    → IsNew s a → Adds taken failures a b done → Adds taken failures b c bytes → IsBroken c written → x ≡ c.sink.now → HasFailed (failures s.now) (failures x)
-fails-parsed {X} {taken} {failures} {s} x new before added broken end =
-    subst (λ (y : X). HasFailed (failures s.now) (failures y)) (sym end) (fails-new new (Adds-then before added) broken)
+-- the sink stays in its place, and counts the put that failed
+pub fails-parsed : {X : Type 0} {state : X → Outlet} {s : MutBor X} {a b c : Writer X} {done bytes : List ℕ} {written : ℕ} (x : X)
+    → IsNew s a → Adds state a b done → Adds state b c bytes → IsBroken c written → x ≡ c.sink.now
+    → HasFailed (state s.now).failures (state x).failures × ((state x).place ≡ (state s.now).place)
+fails-parsed {X} {state} {s} x new before added broken end =
+    let part = goes-in-part new (Adds-then before added) broken in
+    subst (λ (y : X). HasFailed (state s.now).failures (state y).failures × ((state y).place ≡ (state s.now).place)) (sym end) (part.failed, part.place)
 
 -- the same, of the programs of all groups
 pub ends-in : (book : Closing) (programs : List GroupProgram) (place written : ℕ) (t t' : Option (List ℕ)) (whole done upto : List ℕ)

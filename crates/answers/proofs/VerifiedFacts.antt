@@ -28,6 +28,7 @@ use Rattle.program_rows.proofs.FaithfulFacts.{presolved_is_faithful}
 use Rattle.program_rows.specs.Faithful.{IsGreatest}
 use Rattle.program_rows.specs.Program.{Table}
 use Rattle.auction_input.specs.Auction.{Auction, parsed_auction}
+use Rattle.byte_sinks.specs.Sinks.{Outlet}
 use Rattle.answers.specs.Programs.{program_for}
 use Rattle.answers.specs.Certified.{bound_of, bounds_of, certified, shown}
 use Rattle.answers.specs.Answer.{answer, output_of}
@@ -265,9 +266,10 @@ no-other-is-so auction before report =
     }
 
 -- what is written of an input at Ok is a true report
-pub writes-true-on : {T E : Type 0} (workers : ℕ) (input : Input) (result : Result T E) (taken taken' : Option (List ℕ))
-    → OnOk result (Writes (answer (request.Verify workers) input) taken taken') → OnOk result (WritesTrueReportOn workers input taken taken')
-writes-true-on workers input (Ok x) taken taken' (out, parsed, sent) =
+pub writes-true-on : {T E : Type 0} (workers : ℕ) (input : Input) (result : Result T E) (before after : Outlet)
+    → OnOk result (Writes (answer (request.Verify workers) input) before after)
+    → OnOk result (WritesTrueReportOn workers input before.taken after.taken)
+writes-true-on workers input (Ok x) before after (out, parsed, sent) =
     let (auction, auction_is, report) = verified-is-true workers input out parsed in
-    (auction, auction_is, record { out = out; is_true = report; sent = sent })
-writes-true-on workers input (Err e) taken taken' written = tt
+    (auction, auction_is, record { out = out; is_true = report; sent = sent.taken })
+writes-true-on workers input (Err e) before after written = tt

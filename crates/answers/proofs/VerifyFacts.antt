@@ -8,7 +8,7 @@ use Rattle.answers.specs.Answer.{output_of}
 use Rattle.auction_input.specs.Refused.{Refuses}
 use Rattle.auction_input.specs.declared.refusal.Refusal.{Refusal}
 use Rattle.answers.specs.Claimed.{IsTooWideClaim, parsed_claims}
-use Rattle.answers.specs.Outside.{SinkState}
+use Rattle.byte_sinks.specs.Sinks.{Outlet}
 use Rattle.answers.specs.Pricing.{IsTooWidePricing, parsed_pricing}
 use Rattle.outcome.specs.Others.{Others}
 use Rattle.answers.specs.Exact.{Ends, IsBeyondSums, by_refusal}
@@ -16,27 +16,27 @@ use Rattle.auction_input.specs.declared.request.Request.TheVariants as request
 use Rattle.auction_input.proofs.StageFacts.{after-ok, next, stop}
 
 -- solutions that are taken, and a certificate that isn't
-pub unshown : (workers : ℕ) (auction : Auction) (won : List (List Choice)) (before : SinkState) (r : Refusal) → winners_of_groups auction ≡ Ok won
+pub unshown : (workers : ℕ) (auction : Auction) (won : List (List Choice)) (before : Outlet) (r : Refusal) → winners_of_groups auction ≡ Ok won
     → Refuses (certified auction won) r ⊎ ((length auction.certificates ≡ length auction.groups) × IsTooWide (bounds_of auction won) r)
-    → Ends (output_of (request.Verify workers) auction) before before r ⊎ (IsBeyondSums auction r × (before.taken ≡ before.taken))
+    → Ends (output_of (request.Verify workers) auction) before before r ⊎ (IsBeyondSums auction r × (before ≡ before))
 unshown workers auction won before r parsed (inl refused) = inl (by_refusal (stop _ _ r (after-ok _ won _ r parsed refused)) refl)
 unshown workers auction won before r parsed (inr (each, wide)) = inr ((won, parsed, inl (each, wide)), refl)
 
 -- solutions and certificates that are taken, and claims that aren't
-pub unclaimed : (workers : ℕ) (auction : Auction) (won : List (List Choice)) (before : SinkState) (r : Refusal)
+pub unclaimed : (workers : ℕ) (auction : Auction) (won : List (List Choice)) (before : Outlet) (r : Refusal)
     → winners_of_groups auction ≡ Ok won → certified auction won ≡ Ok won
     → Refuses (parsed_claims auction (slice_index_or won 0 [])) r ⊎ IsTooWideClaim auction (slice_index_or won 0 []) r
-    → Ends (output_of (request.Verify workers) auction) before before r ⊎ (IsBeyondSums auction r × (before.taken ≡ before.taken))
+    → Ends (output_of (request.Verify workers) auction) before before r ⊎ (IsBeyondSums auction r × (before ≡ before))
 unclaimed workers auction won before r parsed certifies (inl refused) =
     inl (by_refusal (after-ok _ won _ r (next _ won _ _ parsed certifies) (stop _ _ r refused)) refl)
 unclaimed workers auction won before r parsed certifies (inr wide) = inr ((won, parsed, inr (certifies, inl wide)), refl)
 
 -- solutions, certificates and claims that are taken, and prices that aren't
-pub unpriced : (workers : ℕ) (auction : Auction) (won : List (List Choice)) (others : Others) (before : SinkState) (r : Refusal)
+pub unpriced : (workers : ℕ) (auction : Auction) (won : List (List Choice)) (others : Others) (before : Outlet) (r : Refusal)
     → winners_of_groups auction ≡ Ok won → certified auction won ≡ Ok won
     → parsed_claims auction (slice_index_or won 0 []) ≡ Ok others
     → Refuses (parsed_pricing auction won) r ⊎ IsTooWidePricing auction won r
-    → Ends (output_of (request.Verify workers) auction) before before r ⊎ (IsBeyondSums auction r × (before.taken ≡ before.taken))
+    → Ends (output_of (request.Verify workers) auction) before before r ⊎ (IsBeyondSums auction r × (before ≡ before))
 unpriced workers auction won others before r parsed certifies claims (inl refused) =
     inl (by_refusal (after-ok _ won _ r (next _ won _ _ parsed certifies) (after-ok _ others _ r claims (stop _ _ r refused))) refl)
 unpriced workers auction won others before r parsed certifies claims (inr wide) = inr ((won, parsed, inr (certifies, inr (others, claims, wide))), refl)

@@ -1,7 +1,6 @@
 -- What a command leaves, by what is reported: the whole output, or the first refusal.
-use Rattle.std.specs.Prelude.{◌≡◌, ◌⊎◌, ℕ, List, [], Option, Result, Ok, length, slice_index_or}
+use Rattle.std.specs.Prelude.{◌≡◌, ◌⊎◌, ℕ, List, [], Result, Ok, length, slice_index_or}
 use Rattle.auction_input.specs.Input.{Input}
-use Rattle.std.specs.Io.KnownBytes.{Appends}
 use Rattle.auction_input.specs.Auction.{Auction, parsed_auction}
 use Rattle.auction_input.specs.Refused.{Refuses}
 use Rattle.auction_input.specs.declared.refusal.Refusal.{Refusal}
@@ -10,25 +9,24 @@ use Rattle.auction_input.specs.declared.refusal.Refusal.TheVariants as refusal
 use Rattle.auction_input.specs.declared.request.Request.TheVariants as request
 use Rattle.auction_input.specs.declared.request.Request.{Request}
 use Rattle.auction_terms.specs.declared.choices.Choice.{Choice}
-use Rattle.byte_sinks.specs.Sinks.{HasFailed, SentFront}
+use Rattle.byte_sinks.specs.Sinks.{GoesInPart, GoesWhole, Outlet}
 use Rattle.byte_sinks.specs.declared.write_fault.WriteFault.TheVariants as write
 use Rattle.answers.specs.Answer.{answer}
 use Rattle.answers.specs.Certified.{IsTooWide, bounds_of, certified}
 use Rattle.answers.specs.Claimed.{IsTooWideClaim, parsed_claims}
 use Rattle.outcome.specs.Others.{Others}
-use Rattle.answers.specs.Outside.{SinkState}
 use Rattle.answers.specs.Pricing.{IsTooWidePricing}
 use Rattle.answers.specs.SolutionWinners.{winners_of_groups}
 
 -- the output that is reported was written, and nothing else
-abbrev pub Writes : Result (List ℕ) Refusal → Option (List ℕ) → Option (List ℕ) → Type 0
-Writes parsed taken taken' = (out : List ℕ) × (parsed ≡ Ok out) × Appends taken taken' out
+abbrev pub Writes : Result (List ℕ) Refusal → Outlet → Outlet → Type 0
+Writes parsed before after = (out : List ℕ) × (parsed ≡ Ok out) × GoesWhole before after out
 
 -- how a command ends without its output: it is refused; or a put failed, after the first bytes of the output, as many as the refusal says
-pub data Ends (parsed : Result (List ℕ) Refusal) (before after : SinkState) : Refusal → Type 0 where
-  by_refusal : {r : Refusal} → Refuses parsed r → after.taken ≡ before.taken → Ends parsed before after r
-  by_put : {written : ℕ} → (out : List ℕ) → parsed ≡ Ok out → SentFront before.taken after.taken out written
-      → HasFailed before.failures after.failures → Ends parsed before after (refusal.Write (write.Sink written))
+pub data Ends (parsed : Result (List ℕ) Refusal) (before after : Outlet) : Refusal → Type 0 where
+  by_refusal : {r : Refusal} → Refuses parsed r → after ≡ before → Ends parsed before after r
+  by_put : {written : ℕ} → (out : List ℕ) → parsed ≡ Ok out → GoesInPart before after out written
+      → Ends parsed before after (refusal.Write (write.Sink written))
 
 -- a text isn't judged, since one of its leaves has a size of 2^126 or more: a certificate of the groups, once the solutions are accepted; or, once
 -- the certificates are, the text that is to show that there is no other award; or, once the claims on other awards are, the cover of prices
@@ -45,6 +43,6 @@ MeetsLimit (request.Verify workers) input r = (auction : Auction) × (parsed_auc
 MeetsLimit asked input r = ⊥
 
 -- why a request is refused, or its output cut short; what the input doesn't settle is a wrong answer of the desk, and the limit of sums
-abbrev pub IsUnwritten : Request → Input → SinkState → SinkState → Refusal → Type 0
+abbrev pub IsUnwritten : Request → Input → Outlet → Outlet → Refusal → Type 0
 IsUnwritten asked input before after r =
-    Ends (answer asked input) before after r ⊎ ((IsUnsettled asked input r ⊎ MeetsLimit asked input r) × (after.taken ≡ before.taken))
+    Ends (answer asked input) before after r ⊎ ((IsUnsettled asked input r ⊎ MeetsLimit asked input r) × (after ≡ before))

@@ -2,7 +2,7 @@
 use Rattle.std.specs.Prelude.{◌≡◌, ◌≤◌, ◌<◌, ◌-◌, ⊤, ℕ, List, ◌++◌, Option, None, Some, codes, length, take, min, ◌^◌}
 use Rattle.bid_desk.specs.Closing.{Closing}
 use Rattle.group_compiler.specs.Compiled.{GroupProgram}
-use Rattle.byte_sinks.specs.Sinks.{HasFailed}
+use Rattle.byte_sinks.specs.Sinks.{HasFailed, Outlet}
 use Rattle.mps_text.specs.Text.{text}
 use Rattle.outcome.specs.Report.{heading, in_turn}
 use Rattle.answers.specs.Programs.{program_for}
@@ -34,12 +34,8 @@ EndsIn book programs group written (Some before) (Some after) =
     × (length (programs_bytes book (take (group - 1) programs)) ≤ n) × (n < length (programs_bytes book (take group programs)))
 
 -- a fault after which the output ends as it says
-abbrev pub StopsAsReported : Closing → List GroupProgram → Option (List ℕ) → Option (List ℕ) → RunFault → Type 0
+abbrev pub StopsAsReported : Closing → List GroupProgram → Outlet → Outlet → RunFault → Type 0
 StopsAsReported book programs before after (fault.OutOfMemory written) = (written ≡ 0) × (after ≡ before)
 StopsAsReported book programs before after (fault.Sink group written) =
-    (1 ≤ group) × (group ≤ length programs) × EndsIn book programs group written before after
-
--- a put failed where that is reported
-abbrev pub FailsAsReported : ℕ → ℕ → RunFault → Type 0
-FailsAsReported before after (fault.OutOfMemory written) = ⊤
-FailsAsReported before after (fault.Sink group written) = HasFailed before after
+    (1 ≤ group) × (group ≤ length programs) × EndsIn book programs group written before.taken after.taken
+    × HasFailed before.failures after.failures × (after.place ≡ before.place)

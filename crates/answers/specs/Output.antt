@@ -6,7 +6,7 @@ use Rattle.auction_input.specs.declared.request.Request.TheVariants.{Verify}
 use Rattle.auction_input.specs.declared.request.Request.{Request}
 use Rattle.answers.specs.Answer.{output_of}
 use Rattle.answers.specs.Exact.{Ends, IsBeyondSums}
-use Rattle.answers.specs.Outside.{SinkState}
+use Rattle.byte_sinks.specs.Sinks.{Outlet}
 
 -- `verify` alone adds up in 128 bits
 abbrev pub IsBeyondLimit : Request → Auction → Refusal → Type 0
@@ -14,6 +14,6 @@ IsBeyondLimit (Verify workers) auction r = IsBeyondSums auction r
 IsBeyondLimit asked auction r = ⊥
 
 -- what is asked for of an auction is refused, or its output cut short; what the auction doesn't settle is the limit of sums
-abbrev pub IsWithoutOutput : Request → Auction → SinkState → SinkState → Refusal → Type 0
+abbrev pub IsWithoutOutput : Request → Auction → Outlet → Outlet → Refusal → Type 0
 IsWithoutOutput asked auction before after r =
-    Ends (output_of asked auction) before after r ⊎ (IsBeyondLimit asked auction r × (after.taken ≡ before.taken))
+    Ends (output_of asked auction) before after r ⊎ (IsBeyondLimit asked auction r × (after ≡ before))

@@ -1,6 +1,6 @@
 //! The commands. The auction that the input describes is read here, for all of them, and handed to the command that is asked for.
 
-ghost use Rattle.std.specs.Prelude.{◌≡◌, ◌≢◌, Bool, IfErr, OnOk, Option};
+ghost use Rattle.std.specs.Prelude.{◌≢◌, Bool, IfErr, OnOk, Option};
 ghost use Rattle.auction_input.specs.declared.request.Target.{Target};
 ghost use Rattle.answers.specs.Answer.{answer, output_of};
 ghost use Rattle.answers.specs.Exact.{IsUnwritten, Writes};
@@ -44,14 +44,12 @@ pub fn answer<R: Threads + Wait + Sync + AllocGlobal, S: Sink>(
 ) -> Result<(), Refusal>
     requires limits { IsRequestWithinLimits request }
     requires answered { (bids : Bool) (command : Option Target) → request ≢ Request.Explain bids command }
-    ensures written { OnOk result (Writes (answer request input.now) (S.taken out.old)
-        (S.taken out.new)) }
+    ensures written { OnOk result (Writes (answer request input.now) (S.state out.old)
+        (S.state out.new)) }
     ensures sold { OnOk result (HasSold request input.now) }
-    ensures succeeded { OnOk result (S.failures out.new ≡ S.failures out.old) }
     ensures asks { AsksAnswer request input.now }
     ensures refused { IfErr result (IsUnwritten request input.now
-        (record { taken = S.taken out.old; failures = S.failures out.old })
-        (record { taken = S.taken out.new; failures = S.failures out.new })) }
+        (S.state out.old) (S.state out.new)) }
 {
     match request {
         Request::Check => check(rt.alloc(), input, out),
@@ -71,13 +69,11 @@ fn answer_auction<R: Threads + Wait + Sync + AllocGlobal, S: Sink>(
     requires limits { IsRequestWithinLimits request.now }
     requires auction { request.now ≢ Request.Check }
     requires not_forms { request.now ≢ Request.Forms }
-    ensures written { OnOk result (Writes (answer request.now input.now) (S.taken out.old)
-        (S.taken out.new)) }
+    ensures written { OnOk result (Writes (answer request.now input.now) (S.state out.old)
+        (S.state out.new)) }
     ensures sold { OnOk result (HasSold request.now input.now) }
-    ensures succeeded { OnOk result (S.failures out.new ≡ S.failures out.old) }
     ensures refused { IfErr result (IsUnwritten request.now input.now
-        (record { taken = S.taken out.old; failures = S.failures out.old })
-        (record { taken = S.taken out.new; failures = S.failures out.new })) }
+        (S.state out.old) (S.state out.new)) }
 {
     let auction = read_auction(rt, request, input)?;
     write_output(rt, request, &auction, out)
@@ -95,11 +91,9 @@ fn write_output<R: Threads + Wait + Sync + AllocGlobal, S: Sink>(
     requires auction { request.now ≢ Request.Check }
     requires not_forms { request.now ≢ Request.Forms }
     ensures written { OnOk result (Writes (output_of request.now (held auction.now))
-        (S.taken out.old) (S.taken out.new)) }
-    ensures succeeded { OnOk result (S.failures out.new ≡ S.failures out.old) }
+        (S.state out.old) (S.state out.new)) }
     ensures refused { IfErr result (IsWithoutOutput request.now (held auction.now)
-        (record { taken = S.taken out.old; failures = S.failures out.old })
-        (record { taken = S.taken out.new; failures = S.failures out.new })) }
+        (S.state out.old) (S.state out.new)) }
 {
     match *request {
         Request::Text => write_program_of_all(rt, auction, out),

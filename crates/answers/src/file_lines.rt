@@ -15,7 +15,7 @@ use input_faults::add_file_name;
 
 // Adds the words on a file, without another one.
 fn add_words<S: Sink>(writer: &mut Writer<'_, S>, fault: FileFault)
-    ensures { Adds S.taken S.failures writer.old writer.new (fault_words fault) }
+    ensures { Adds S.state writer.old writer.new (fault_words fault) }
 {
     let [first, second, third] = fault.words();
     let pieces: [&[u8]; 3] = [first.as_bytes(), second.as_bytes(), third.as_bytes()];
@@ -24,7 +24,7 @@ fn add_words<S: Sink>(writer: &mut Writer<'_, S>, fault: FileFault)
 
 // Adds the words on a file, and after them the other one, where it is read already.
 fn add_words_with<S: Sink>(writer: &mut Writer<'_, S>, fault: FileFault, other: &[u8])
-    ensures { Adds S.taken S.failures writer.old writer.new (words_with fault other.now) }
+    ensures { Adds S.state writer.old writer.new (words_with fault other.now) }
 {
     add_words(writer, fault);
     match fault {
@@ -35,7 +35,7 @@ fn add_words_with<S: Sink>(writer: &mut Writer<'_, S>, fault: FileFault, other: 
 
 // Adds what is reported of a file.
 fn add_file<S: Sink>(writer: &mut Writer<'_, S>, name: &[u8], fault: FileFault, other: &[u8])
-    ensures { Adds S.taken S.failures writer.old writer.new (file_text name.now fault other.now) }
+    ensures { Adds S.state writer.old writer.new (file_text name.now fault other.now) }
 {
     match fault {
         FileFault::OutOfMemory => writer.add(b"out of memory"),
@@ -49,8 +49,7 @@ fn add_file<S: Sink>(writer: &mut Writer<'_, S>, name: &[u8], fault: FileFault, 
 
 /// Puts the line on a file, which may name another one. It takes no memory.
 pub fn print_file_line<F: Sink>(name: &[u8], fault: FileFault, other: &[u8], faults: &mut F)
-    ensures { Puts (file_line name.now fault other.now) (F.taken faults.old) (F.taken faults.new)
-        (F.failures faults.old) (F.failures faults.new) }
+    ensures { Puts (file_line name.now fault other.now) (F.state faults.old) (F.state faults.new) }
 {
     let mut writer = Writer::new(faults);
     writer.add(b"wdp: ");
@@ -90,8 +89,7 @@ fn other_file(command: &Command, fault: FileFault) -> &[u8]
 
 /// Puts the line on a file of a command line. It takes no memory.
 pub fn print_file_refusal<F: Sink>(command: &Command, refusal: FileRefusal, faults: &mut F)
-    ensures { Puts (refusal_line (command_line_of command.now) refusal) (F.taken faults.old)
-        (F.taken faults.new) (F.failures faults.old) (F.failures faults.new) }
+    ensures { Puts (refusal_line (command_line_of command.now) refusal) (F.state faults.old) (F.state faults.new) }
 {
     let name = name_of(command, refusal.file);
     let other = other_file(command, refusal.fault);
@@ -100,8 +98,7 @@ pub fn print_file_refusal<F: Sink>(command: &Command, refusal: FileRefusal, faul
 
 /// Puts the line on what a command line reads. It takes no memory.
 pub fn print_unread<F: Sink>(command: &Command, unread: Unread, faults: &mut F)
-    ensures { Puts (unread_line (command_line_of command.now) unread) (F.taken faults.old)
-        (F.taken faults.new) (F.failures faults.old) (F.failures faults.new) }
+    ensures { Puts (unread_line (command_line_of command.now) unread) (F.state faults.old) (F.state faults.new) }
 {
     match unread {
         Unread::Input(fault) => print_refusal(&[], &Refusal::Input(fault), faults),

@@ -1,18 +1,17 @@
 //! The programs of all groups as one output, and why not all of it went out.
 
-ghost use Rattle.std.specs.Prelude.{◌≡◌, ◌∷◌, ◌++◌, [], IfErr, OnErr, OnOk, codes, decimal, map};
-ghost use Rattle.std.specs.Io.KnownBytes.{Appends};
+ghost use Rattle.std.specs.Prelude.{◌≡◌, ◌∷◌, ◌++◌, [], IfErr, OnOk, codes, decimal, map};
 ghost use Rattle.auction_terms.specs.Terms.{lots_in};
 ghost use Rattle.bid_desk.specs.Closing.{book_of};
 ghost use Rattle.group_compiler.specs.Compiled.{compiled, program_without};
 ghost use Rattle.group_compiler.specs.Pages.{pages_of};
 ghost use Rattle.byte_sinks.specs.Adds.{Adds};
-ghost use Rattle.byte_sinks.specs.Sinks.{HasFailed, SentFront, written_of};
+ghost use Rattle.byte_sinks.specs.Sinks.{GoesWhole, Sends, written_of};
 ghost use Rattle.mps_text.specs.Text.{text};
 ghost use Rattle.outcome.specs.Report.{heading};
 ghost use Rattle.bid_desk.specs.Sale.{sale_of};
 ghost use Rattle.answers.specs.declared.group_texts.RunFault.TheVariants.{Sink as FaultOfSink};
-ghost use Rattle.answers.specs.GroupTexts.{FailsAsReported, StopsAsReported, program_bytes, programs_bytes};
+ghost use Rattle.answers.specs.GroupTexts.{StopsAsReported, program_bytes, programs_bytes};
 
 use auction_terms::{Group, Groups};
 use bid_desk::ClosedBook;
@@ -32,7 +31,7 @@ pub enum RunFault {
 
 // Adds what comes before the names in the line of group k.
 fn add_number<S: Sink>(writer: &mut Writer<'_, S>, k: usize)
-    ensures { Adds S.taken S.failures writer.old writer.new (codes "* program " ++ (decimal k ++ 32 ∷ [])) }
+    ensures { Adds S.state writer.old writer.new (codes "* program " ++ (decimal k ++ 32 ∷ [])) }
 {
     let mut digits = Buffer::new();
     let pieces: [&[u8]; 3] = [b"* program ", digits.format(k).as_bytes(), b" "];
@@ -41,7 +40,7 @@ fn add_number<S: Sink>(writer: &mut Writer<'_, S>, k: usize)
 
 // Adds the line of group k.
 fn add_line<S: Sink>(writer: &mut Writer<'_, S>, book: &ClosedBook, k: usize, group: &Group)
-    ensures { Adds S.taken S.failures writer.old writer.new
+    ensures { Adds S.state writer.old writer.new
         (heading (codes "* program ") (sale_of book.now).names k group.now) }
 {
     add_number(writer, k);
@@ -51,7 +50,7 @@ fn add_line<S: Sink>(writer: &mut Writer<'_, S>, book: &ClosedBook, k: usize, gr
 // Adds the text of the program without a group.
 fn add_program<S: Sink>(writer: &mut Writer<'_, S>, book: &ClosedBook, pages: &Pages, group: &Group)
     requires pages { pages.now ≡ pages_of (lots_in book.now.rules) (book_of book.now) }
-    ensures { Adds S.taken S.failures writer.old writer.new
+    ensures { Adds S.state writer.old writer.new
         (text (program_without book.now group.now)) }
 {
     book.within_limits();
@@ -66,12 +65,7 @@ pub fn write_program_without<S: Sink>(
     out: &mut S,
 ) -> Result<(), WriteFault>
     requires pages { pages.now ≡ pages_of (lots_in book.now.rules) (book_of book.now) }
-    ensures ok { OnOk result (Appends (S.taken out.old) (S.taken out.new)
-        (text (program_without book.now group.now))) }
-    ensures err { IfErr result (λ e. SentFront (S.taken out.old) (S.taken out.new)
-        (text (program_without book.now group.now)) (written_of e)) }
-    ensures failed { OnErr result (HasFailed (S.failures out.old) (S.failures out.new)) }
-    ensures succeeded { OnOk result (S.failures out.new ≡ S.failures out.old) }
+    ensures { Sends (S.state out.old) (S.state out.new) result (text (program_without book.now group.now)) }
 {
     let mut writer = Writer::new(out);
     add_program(&mut writer, book, pages, group);
@@ -87,7 +81,7 @@ fn add_group<S: Sink>(
     group: &Group,
 )
     requires pages { pages.now ≡ pages_of (lots_in book.now.rules) (book_of book.now) }
-    ensures { Adds S.taken S.failures writer.old writer.new
+    ensures { Adds S.state writer.old writer.new
         (program_bytes book.now k (compiled book.now group.now)) }
 {
     add_line(writer, book, k, group);
@@ -111,12 +105,10 @@ pub fn write_programs<S: Sink>(
     out: &mut S,
 ) -> Result<(), RunFault>
     requires pages { pages.now ≡ pages_of (lots_in book.now.rules) (book_of book.now) }
-    ensures ok { OnOk result (Appends (S.taken out.old) (S.taken out.new)
+    ensures ok { OnOk result (GoesWhole (S.state out.old) (S.state out.new)
         (programs_bytes book.now (map (compiled book.now) groups.now))) }
     ensures stopped { IfErr result (StopsAsReported book.now (map (compiled book.now) groups.now)
-        (S.taken out.old) (S.taken out.new)) }
-    ensures failed { IfErr result (FailsAsReported (S.failures out.old) (S.failures out.new)) }
-    ensures succeeded { OnOk result (S.failures out.new ≡ S.failures out.old) }
+        (S.state out.old) (S.state out.new)) }
 {
     let mut writer = Writer::new(out);
     for place in 0..groups.count() {

@@ -10,8 +10,7 @@ use input_faults::{add_hint, add_message};
 /// Puts the line of a refusal of these texts, with the name of its file where there are several. It takes no memory. What
 /// a sink of such lines doesn't take changes nothing.
 pub fn print_refusal<F: Sink>(texts: &[Given], refusal: &Refusal, faults: &mut F)
-    ensures { Puts (placed_line texts.now refusal.now) (F.taken faults.old) (F.taken faults.new)
-        (F.failures faults.old) (F.failures faults.new) }
+    ensures { Puts (placed_line texts.now refusal.now) (F.state faults.old) (F.state faults.new) }
 {
     let mut writer = Writer::new(faults);
     writer.add(b"wdp: ");

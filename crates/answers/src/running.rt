@@ -1,7 +1,7 @@
 //! The program on its words, its input and two sinks.
 
 ghost use Rattle.std.specs.Prelude.{◌≡◌, ◌≢◌, ◌⊎◌, ◌<◌, ◌≤◌, IfErr, IfOk, IfSome, IsSome, List, OnErr, OnOk, Ok, codes, flat_map, length, ℕ};
-ghost use Rattle.std.specs.Io.KnownBytes.{Appends};
+ghost use Rattle.byte_sinks.specs.Sinks.{GoesWhole};
 ghost use Rattle.std.specs.IoError.{error_kind};
 ghost use Rattle.std.specs.declared.io.ErrorKind.TheVariants as io_kind;
 ghost use Rattle.clap.specs.Words.{kind_of};
@@ -10,10 +10,11 @@ ghost use Rattle.auction_input.specs.declared.refusal.Refusal.TheVariants as ref
 ghost use Rattle.answers.specs.Asked.{asked_of, by_fault, command_line_of, for_answer, for_nothing};
 ghost use Rattle.answers.specs.Answer.{answer};
 ghost use Rattle.answers.specs.Exact.{Ends, Writes};
+ghost use Rattle.answers.specs.Outside.{outside_of};
 ghost use Rattle.auction_input.specs.Requests.{IsRequestWithinLimits};
-ghost use Rattle.answers.specs.Runs.{IsRun, NamesFiles, Reads};
+ghost use Rattle.answers.specs.Runs.{HasLooked, IsRun, Reads, begun};
 ghost use Rattle.auction_input.specs.FileTexts.{IsUnread};
-ghost use Rattle.answers.specs.inside.Runs.{HasExplainedInput, HasShown, IsReportedSo, IsReported, IsLeftUnanswered, IsUnreported};
+ghost use Rattle.answers.specs.inside.Runs.{HasExplainedInput, HasShown, IsReportedSo, IsReported, IsLeftUnanswered, IsUnprepared, IsUnreported};
 
 use crate::commands::{answer, explain_input};
 use crate::file_lines::{print_file_refusal, print_unread};
@@ -46,24 +47,13 @@ pub fn run<R: Threads + Wait + Sync + AllocGlobal, D: Files, I: Read, S: Output,
     faults: &mut F,
 ) -> u8
     ensures status { result ≤ 2 }
-    ensures outside { IsRun (D.content files.now) (asked_of words) result
-        (record {
-          left = I.remaining input.old.reader;
-          failed_reads = input.old.failures;
-          output = record { taken = S.taken out.old; failures = S.failures out.old };
-          faults = record { taken = F.taken faults.old; failures = F.failures faults.old };
-        })
-        (record {
-          left = I.remaining input.new.reader;
-          failed_reads = input.new.failures;
-          output = record { taken = S.taken out.new; failures = S.failures out.new };
-          faults = record { taken = F.taken faults.new; failures = F.failures faults.new };
-        }) }
+    ensures outside { IsRun (D.shelf files.now) (asked_of words) result
+        (outside_of (I.remaining input.old.reader) input.old.failures (S.state out.old) (F.state faults.old))
+        (outside_of (I.remaining input.new.reader) input.new.failures (S.state out.new) (F.state faults.new)) }
     // Where std gives no words, memory was short, or one of them isn't UTF-8.
     ensures wordless { IfErr words (λ e. (error_kind e ≡ io_kind.OutOfMemory → result ≡ 1)
         × (error_kind e ≢ io_kind.OutOfMemory → (result ≡ 2)
-        × Puts (codes "wdp: a word is no text\n") (F.taken faults.old) (F.taken faults.new)
-        (F.failures faults.old) (F.failures faults.new))) }
+        × Puts (codes "wdp: a word is no text\n") (F.state faults.old) (F.state faults.new))) }
 {
     let words = match words {
         Ok(words) => words,
@@ -81,10 +71,8 @@ fn without_words<F: Sink>(error: &io::Error, faults: &mut F) -> u8
     ensures other { error_kind error.now ≢ io_kind.OutOfMemory → result ≡ 2 }
     ensures some { 1 ≤ result }
     ensures status { result ≤ 2 }
-    ensures refused { result ≡ 1 → Puts (line refusal.OutOfMemory) (F.taken faults.old)
-        (F.taken faults.new) (F.failures faults.old) (F.failures faults.new) }
-    ensures reported { result ≡ 2 → Puts (codes "wdp: a word is no text\n") (F.taken faults.old)
-        (F.taken faults.new) (F.failures faults.old) (F.failures faults.new) }
+    ensures refused { result ≡ 1 → Puts (line refusal.OutOfMemory) (F.state faults.old) (F.state faults.new) }
+    ensures reported { result ≡ 2 → Puts (codes "wdp: a word is no text\n") (F.state faults.old) (F.state faults.new) }
 {
     if error.kind() == io::ErrorKind::OutOfMemory {
         print_refusal(&[], &Refusal::OutOfMemory, faults);
@@ -96,8 +84,7 @@ fn without_words<F: Sink>(error: &io::Error, faults: &mut F) -> u8
 // Puts what is reported of words that ask for nothing.
 fn put_fault<F: Sink>(text: &[u8], faults: &mut F) -> u8
     ensures status { result ≡ 2 }
-    ensures reported { Puts text.now (F.taken faults.old) (F.taken faults.new) (F.failures faults.old)
-        (F.failures faults.new) }
+    ensures reported { Puts text.now (F.state faults.old) (F.state faults.new) }
 {
     let pieces: [&[u8]; 1] = [text];
     let _ = write_pieces(&pieces, faults);
@@ -110,17 +97,21 @@ fn prepare<D: Files, S: Output>(
     command: &Command,
     out: &mut S,
 ) -> Result<(), FileRefusal>
-    ensures taken { S.taken out.new ≡ S.taken out.old }
-    ensures failures { S.failures out.new ≡ S.failures out.old }
-    ensures named { OnErr result (NamesFiles (command_line_of command.now)) }
+    ensures looked { OnOk result (HasLooked (D.shelf files.now) (command_line_of command.now)) }
+    ensures begun { OnOk result (S.state out.new
+        ≡ begun (command_line_of command.now).output (S.state out.old)) }
+    ensures refused { IfErr result (IsUnprepared (D.shelf files.now) (command_line_of command.now)) }
+    ensures kept { OnErr result (S.state out.new ≡ S.state out.old) }
 {
-    let output = match &command.output {
-        Some(name) => name.as_str(),
-        None if command.files.is_empty() => return Ok(()),
-        None => return files.look(command.files.as_slice(), None),
+    let names = command.files.as_slice();
+    let Some(output) = &command.output else {
+        if names.is_empty() {
+            return Ok(());
+        }
+        return files.look(names, None);
     };
-    files.look(command.files.as_slice(), Some(output))?;
-    match out.open(output) {
+    files.look(names, Some(output.as_str()))?;
+    match out.open(output.as_str()) {
         Ok(()) => Ok(()),
         Err(fault) => Err(FileRefusal {
             file: FilePlace::Written,
@@ -136,7 +127,7 @@ fn read_input<D: Files, I: Read>(
     files: &D,
     input: &mut Source<I>,
 ) -> Result<Input, Unread>
-    ensures read { IfOk result (Reads (D.content files.now) (command_line_of command.now)
+    ensures read { IfOk result (Reads (D.shelf files.now) (command_line_of command.now)
         (I.remaining input.old.reader) (I.remaining input.new.reader)) }
     ensures unfailed { OnOk result (input.new.failures ≡ input.old.failures) }
     ensures unread { IfErr result (λ f. IsUnread (command_line_of command.now).files f
@@ -160,20 +151,10 @@ fn answer_command<R: Threads + Wait + Sync + AllocGlobal, D: Files, I: Read, S: 
 ) -> u8
     requires { IsRequestWithinLimits command.now.request }
     ensures status { result ≤ 1 }
-    ensures outside { IsRun (D.content files.now)
+    ensures outside { IsRun (D.shelf files.now)
         (for_answer (command_line_of command.now)) result
-        (record {
-          left = I.remaining input.old.reader;
-          failed_reads = input.old.failures;
-          output = record { taken = S.taken out.old; failures = S.failures out.old };
-          faults = record { taken = F.taken faults.old; failures = F.failures faults.old };
-        })
-        (record {
-          left = I.remaining input.new.reader;
-          failed_reads = input.new.failures;
-          output = record { taken = S.taken out.new; failures = S.failures out.new };
-          faults = record { taken = F.taken faults.new; failures = F.failures faults.new };
-        }) }
+        (outside_of (I.remaining input.old.reader) input.old.failures (S.state out.old) (F.state faults.old))
+        (outside_of (I.remaining input.new.reader) input.new.failures (S.state out.new) (F.state faults.new)) }
 {
     if let Err(refusal) = prepare(files, command, out) {
         print_file_refusal(command, refusal, faults);
@@ -198,19 +179,13 @@ fn answer_input<R: Threads + Wait + Sync + AllocGlobal, S: Sink, F: Sink>(
 ) -> u8
     requires { IsRequestWithinLimits request }
     ensures status { result ≤ 1 }
-    ensures written { result ≡ 0 → Writes (answer request input.now) (S.taken out.old)
-        (S.taken out.new) }
-    ensures quiet { result ≡ 0 → (F.taken faults.new ≡ F.taken faults.old)
-        × (F.failures faults.new ≡ F.failures faults.old) }
-    ensures succeeded { result ≡ 0 → S.failures out.new ≡ S.failures out.old }
+    ensures written { result ≡ 0 → Writes (answer request input.now) (S.state out.old) (S.state out.new) }
+    ensures quiet { result ≡ 0 → F.state faults.new ≡ F.state faults.old }
     ensures refused { result ≡ 1 → IsReportedSo (IsLeftUnanswered request input.now
-        (record { taken = S.taken out.old; failures = S.failures out.old })
-        (record { taken = S.taken out.new; failures = S.failures out.new })) (F.taken faults.old)
-        (F.taken faults.new) (F.failures faults.old) (F.failures faults.new)
+        (S.state out.old) (S.state out.new)) (F.state faults.old) (F.state faults.new)
         ⊎ (HasExplainedInput request input.now
-        (record { taken = S.taken out.old; failures = S.failures out.old })
-        (record { taken = S.taken out.new; failures = S.failures out.new })
-        × (F.taken faults.new ≡ F.taken faults.old) × (F.failures faults.new ≡ F.failures faults.old)) }
+        (S.state out.old) (S.state out.new)
+        × (F.state faults.new ≡ F.state faults.old)) }
 {
     match request {
         Request::Explain { bids, target } => explain_request(rt, bids, target, input, out, faults),
@@ -236,18 +211,13 @@ fn explain_request<R: Threads + Wait + Sync + AllocGlobal, S: Sink, F: Sink>(
 ) -> u8
     ensures status { result ≤ 1 }
     ensures written { result ≡ 0 → Writes (answer (Request.Explain bids target) input.now)
-        (S.taken out.old) (S.taken out.new) }
-    ensures quiet { result ≡ 0 → (F.taken faults.new ≡ F.taken faults.old)
-        × (F.failures faults.new ≡ F.failures faults.old) }
-    ensures succeeded { result ≡ 0 → S.failures out.new ≡ S.failures out.old }
+        (S.state out.old) (S.state out.new) }
+    ensures quiet { result ≡ 0 → F.state faults.new ≡ F.state faults.old }
     ensures refused { result ≡ 1 → IsReportedSo (IsLeftUnanswered (Request.Explain bids target) input.now
-        (record { taken = S.taken out.old; failures = S.failures out.old })
-        (record { taken = S.taken out.new; failures = S.failures out.new })) (F.taken faults.old)
-        (F.taken faults.new) (F.failures faults.old) (F.failures faults.new)
+        (S.state out.old) (S.state out.new)) (F.state faults.old) (F.state faults.new)
         ⊎ (HasExplainedInput (Request.Explain bids target) input.now
-        (record { taken = S.taken out.old; failures = S.failures out.old })
-        (record { taken = S.taken out.new; failures = S.failures out.new })
-        × (F.taken faults.new ≡ F.taken faults.old) × (F.failures faults.new ≡ F.failures faults.old)) }
+        (S.state out.old) (S.state out.new)
+        × (F.state faults.new ≡ F.state faults.old)) }
 {
     match explain_input(rt, bids, target, input, out) {
         Ok(false) => 0,
@@ -279,19 +249,15 @@ fn print_help_or_fault<S: Sink, F: Sink>(
     faults: &mut F,
 ) -> u8
     ensures status { result ≤ 2 }
-    ensures shown { result ≡ 0 → HasShown (by_fault (kind_of error.now)) (S.taken out.old)
-        (S.taken out.new) }
-    ensures quiet { result ≡ 0 → (F.taken faults.new ≡ F.taken faults.old)
-        × (F.failures faults.new ≡ F.failures faults.old) }
-    ensures succeeded { result ≢ 1 → S.failures out.new ≡ S.failures out.old }
+    ensures shown { result ≡ 0 → HasShown (by_fault (kind_of error.now)) (S.state out.old) (S.state out.new) }
+    ensures quiet { result ≡ 0 → F.state faults.new ≡ F.state faults.old }
     ensures refused { result ≡ 1 → IsReported (IsUnreported (by_fault (kind_of error.now))
-        (record { taken = S.taken out.old; failures = S.failures out.old })
-        (record { taken = S.taken out.new; failures = S.failures out.new }))
-        (F.taken faults.old) (F.taken faults.new) (F.failures faults.old) (F.failures faults.new) }
+        (S.state out.old) (S.state out.new))
+        (F.state faults.old) (F.state faults.new) }
     ensures unasked { result ≡ 2 → (by_fault (kind_of error.now) ≡ for_nothing)
-        × (kind_of error.now ≢ ErrorKind.OutOfMemory) × (S.taken out.new ≡ S.taken out.old) }
+        × (kind_of error.now ≢ ErrorKind.OutOfMemory) × (S.state out.new ≡ S.state out.old) }
     ensures reported { result ≡ 2 → ((text : List ℕ) × (0 < length text) × Puts text
-        (F.taken faults.old) (F.taken faults.new) (F.failures faults.old) (F.failures faults.new)) }
+        (F.state faults.old) (F.state faults.new)) }
 {
     if error.kind() == ErrorKind::DisplayVersion {
         return show(&[b"wdp ", VERSION.as_bytes(), b"\n"], out, faults);
@@ -309,15 +275,12 @@ fn print_help_or_fault<S: Sink, F: Sink>(
 // Writes help, or the version.
 fn show<S: Sink, F: Sink>(pieces: &[&[u8]], out: &mut S, faults: &mut F) -> u8
     ensures status { result ≤ 1 }
-    ensures shown { result ≡ 0 → Appends (S.taken out.old) (S.taken out.new)
+    ensures shown { result ≡ 0 → GoesWhole (S.state out.old) (S.state out.new)
         (flat_map (λ p. p.now) pieces.now) }
-    ensures quiet { result ≡ 0 → (F.taken faults.new ≡ F.taken faults.old)
-        × (F.failures faults.new ≡ F.failures faults.old) }
-    ensures succeeded { result ≡ 0 → S.failures out.new ≡ S.failures out.old }
+    ensures quiet { result ≡ 0 → F.state faults.new ≡ F.state faults.old }
     ensures refused { result ≡ 1 → IsReported (Ends (Ok (flat_map (λ p. p.now) pieces.now))
-        (record { taken = S.taken out.old; failures = S.failures out.old })
-        (record { taken = S.taken out.new; failures = S.failures out.new }))
-        (F.taken faults.old) (F.taken faults.new) (F.failures faults.old) (F.failures faults.new) }
+        (S.state out.old) (S.state out.new))
+        (F.state faults.old) (F.state faults.new) }
 {
     match write_pieces(pieces, out) {
         Ok(()) => 0,

@@ -1,19 +1,43 @@
 -- What is read of files by their names.
-use Rattle.std.specs.Prelude.{◌≡◌, ◌≤◌, ◌-◌, ◌||◌, ⊤, ℕ, Bool, List, [], ◌∷◌, Option, None, Some, String, codes, length, map, not, sum_by}
+use Rattle.std.specs.Prelude.{◌≡◌, ◌≤◌, ◌-◌, ◌||◌, if◌then◌else◌, ⊤, ℕ, Bool, List, [], ◌∷◌, Option, None, Some, Result, String, codes, length, map, not, sum_by}
 use Rattle.std.specs.Bool.{MatchBool}
+use Rattle.std.specs.Option.{option_map}
 use Rattle.std.specs.Io.KnownBytes.{Consumes, IsAtEnd}
 use Rattle.std.specs.Str.{bytes_eq}
 use Rattle.auction_input.specs.Input.{Given, unnamed}
 use Rattle.auction_input.specs.ReadInput.{IsUntaken, IsWhole}
+use Rattle.auction_input.specs.declared.files.FileRefusal.{FileRefusal}
 use Rattle.auction_input.specs.declared.input.Unread.{Unread}
 use Rattle.auction_input.specs.declared.input.Unread.TheVariants as unread
 use Rattle.auction_input.specs.declared.input.InputFault.TheVariants as input
 use Rattle.auction_input.specs.declared.input.TheConstants.{INPUT_LIMIT}
-use Rattle.byte_sinks.specs.Sinks.{HasFailed}
+use Rattle.byte_sinks.specs.Sinks.{HasFailed, Outlet}
+
+-- files by their names, as contracts see them; nothing is known of those of a device
+pub record Shelf : Type 0 where
+  -- the bytes of the file of a name
+  pub content : List ℕ → Option (List ℕ)
+  -- what a look at the files that are read, and at the one that is written, finds: nothing against them, or the first refusal
+  pub looked : List (List ℕ) → Option (List ℕ) → Option (Result (Unit {0}) FileRefusal)
+
+-- what was found is what there is, where that is known
+abbrev pub IsFound : {A : Type 0} → Option A → A → Type 0
+IsFound None found = ⊤
+IsFound (Some known) found = found ≡ known
 
 -- the names that stand for standard input
 abbrev pub is_standard_input : List ℕ → Bool
 is_standard_input name = bytes_eq name (codes "-") || bytes_eq name (codes "/dev/stdin")
+
+-- the names that stand for standard output
+abbrev pub is_standard_output : List ℕ → Bool
+is_standard_output name = bytes_eq name (codes "-") || bytes_eq name (codes "/dev/stdout")
+
+-- a sink that is sent to a file, by its name: nothing is taken there yet
+abbrev pub sent_to : List ℕ → Outlet → Outlet
+sent_to name sink =
+    if is_standard_output name then sink
+    else record { place = Some name; taken = option_map (λ bytes. []) sink.taken; failures = sink.failures }
 
 -- bytes are those of a file, if the file's bytes are known
 abbrev pub IsContent : Option (List ℕ) → List ℕ → Type 0

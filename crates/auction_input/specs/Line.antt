@@ -1,6 +1,5 @@
 -- The line on standard error for a refusal: the words of its part, the message of the fault, and the name of what is broken.
 use Rattle.std.specs.Prelude.{◌⊎◌, ◌++◌, ℕ, List, [], ◌∷◌, Option, None, Some, codes, decimal}
-use Rattle.std.specs.Io.KnownBytes.{Appends}
 use Rattle.auction_input.specs.declared.input.InputFault.TheVariants as input
 use Rattle.auction_input.specs.declared.parts.PartFault.TheVariants as part
 use Rattle.auction_input.specs.declared.part_kind.PartKind.TheVariants as kind_of_part
@@ -13,7 +12,7 @@ use Rattle.auction_terms.specs.GroupFaultText.{group_fault_text}
 use Rattle.auction_terms.specs.RulesFaultText.{rules_fault_text}
 use Rattle.bid_forms.specs.FormFaultText.{form_fault_text}
 use Rattle.program_rows.specs.MpsFaultText.{mps_fault_text}
-use Rattle.byte_sinks.specs.Sinks.{HasFailed, SentFront}
+use Rattle.byte_sinks.specs.Sinks.{GoesInPart, GoesWhole, Outlet}
 use Rattle.byte_sinks.specs.declared.write_fault.WriteFault.TheVariants as write
 use Rattle.program_rows.specs.CertificateFaultText.{certificate_fault_text}
 use Rattle.auction_input.specs.PriceFaultText.{price_fault_text}
@@ -101,6 +100,6 @@ refusal_text (refusal.Write (write.Sink written)) = codes "write failed after " 
 abbrev pub line : Refusal → List ℕ
 line r = codes "wdp: " ++ (refusal_text r ++ 10 ∷ [])
 
--- bytes went out, or the first of them and a put failed
-abbrev pub Puts : List ℕ → Option (List ℕ) → Option (List ℕ) → ℕ → ℕ → Type 0
-Puts bytes taken taken' failures failures' = Appends taken taken' bytes ⊎ ((n : ℕ) × SentFront taken taken' bytes n × HasFailed failures failures')
+-- a text is put: all of it goes out, or the first of it and a put fails
+abbrev pub Puts : List ℕ → Outlet → Outlet → Type 0
+Puts text before after = GoesWhole before after text ⊎ ((written : ℕ) × GoesInPart before after text written)

@@ -1,6 +1,8 @@
 //! Files, as a run sees them.
 
-ghost use Rattle.std.specs.Prelude.{◌≡◌, ℕ, IfOk, List, Option, flat_map};
+ghost use Rattle.std.specs.Prelude.{◌≡◌, IfOk, OnErr, OnOk, flat_map};
+ghost use Rattle.std.specs.Option.{option_map};
+ghost use Rattle.auction_input.specs.FileTexts.{IsFound, Shelf, is_standard_output, named_files, sent_to};
 ghost use Rattle.auction_input.specs.FileWords.{fault_words, kind_words};
 
 use byte_sinks::{LimitSink, MemorySink, Sink, StdSink};
@@ -123,27 +125,36 @@ impl FileFault {
     }
 }
 
+/// Whether a name given to -o means standard output.
+pub fn is_standard_output(name: &str) -> bool
+    ensures { result ≡ is_standard_output name.now }
+{
+    name == "-" || name == "/dev/stdout"
+}
+
 /// Files by their names.
 pub trait Files {
-    /// The bytes of the file of a name, where they are known.
-    ghost content: { Self → List ℕ → Option (List ℕ) };
+    /// What contracts see of them: their bytes, and what a look at them finds, where that is known.
+    ghost shelf: { Self → Shelf };
 
     type File: Read + Drop;
 
     /// Looks at all files before any is opened. Without names standard input alone is read.
-    fn look(&self, names: &[String], output: Option<&str>) -> Result<(), FileRefusal>;
+    fn look(&self, names: &[String], output: Option<&str>) -> Result<(), FileRefusal>
+        ensures { IsFound ((shelf self.now).looked (named_files names.now)
+            (option_map (λ name. name.now) output.entry)) result };
 
     /// Opens a file that isn't standard input.
     fn open(&self, name: &str) -> Result<Self::File, FileFault>
-        ensures { IfOk result (λ file. Self.File.remaining file ≡ content self.now name.now) };
+        ensures { IfOk result (λ file. Self.File.remaining file ≡ (shelf self.now).content name.now) };
 }
 
 /// A sink that may be sent to a file.
 pub trait Output: Sink {
     /// From here on the bytes go to the file of that name. A sink that knows no files refuses.
     fn open(&mut self, name: &str) -> Result<(), FileFault>
-        ensures taken { Self.taken self.new ≡ Self.taken self.old }
-        ensures failures { Self.failures self.new ≡ Self.failures self.old }
+        ensures sent { OnOk result (Self.state self.new ≡ sent_to name.now (Self.state self.old)) }
+        ensures kept { OnErr result (Self.state self.new ≡ Self.state self.old) }
     {
         let _ = name;
         Err(FileFault::Unopened)

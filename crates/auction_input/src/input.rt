@@ -96,7 +96,7 @@ fn read_file<D: Files>(
 ) -> Result<Vec<u8>, Unread>
     requires { limit ≤ INPUT_LIMIT }
     ensures within { IfOk result (λ text. length text.items ≤ limit) }
-    ensures content { IfOk result (λ text. IsContent (D.content files.now name.now) text.items) }
+    ensures content { IfOk result (λ text. IsContent ((D.shelf files.now).content name.now) text.items) }
     ensures unread { IfErr result (λ f. f ≢ Unread.Input InputFault.ReadFailed) }
 {
     let file = match files.open(name) {
@@ -128,7 +128,7 @@ fn read_named<D: Files, I: Read>(
 ) -> Result<Vec<u8>, Unread>
     requires { limit ≤ INPUT_LIMIT }
     ensures within { IfOk result (λ text. length text.items ≤ limit) }
-    ensures text { IfOk result (λ text. IsTextOf (D.content files.now) name.now
+    ensures text { IfOk result (λ text. IsTextOf (D.shelf files.now).content name.now
         (I.remaining input.old.reader) (I.remaining input.new.reader) text.items) }
     ensures unfailed { OnOk result (input.new.failures ≡ input.old.failures) }
     ensures unread { IfErr result (λ f. IsUnreadOf f (I.remaining input.old.reader)
@@ -174,7 +174,7 @@ fn read_given<D: Files, I: Read>(
     requires limit { limit ≤ INPUT_LIMIT }
     ensures within { IfOk result (λ given. length given.bytes ≤ limit) }
     ensures name { IfOk result (λ given. given.name ≡ name.now) }
-    ensures text { IfOk result (λ given. IsTextOf (D.content files.now) given.name
+    ensures text { IfOk result (λ given. IsTextOf (D.shelf files.now).content given.name
         (I.remaining input.old.reader) (I.remaining input.new.reader) given.bytes) }
     ensures sound { IfOk result (λ given. fault_among given.bytes place count ≡ None) }
     ensures unfailed { OnOk result (input.new.failures ≡ input.old.failures) }
@@ -208,7 +208,7 @@ fn read_each<D: Files, I: Read>(
     names: &[String],
     input: &mut Source<I>,
 ) -> Result<Vec<Given>, Unread>
-    ensures read { IfOk result (λ texts. AreRead (D.content files.now) (named_files names.now)
+    ensures read { IfOk result (λ texts. AreRead (D.shelf files.now).content (named_files names.now)
         (I.remaining input.old.reader) (I.remaining input.new.reader) texts.items) }
     ensures within { IfOk result (λ texts. sum_by (λ given. length given.bytes) texts.items
         ≤ INPUT_LIMIT) }
@@ -253,7 +253,7 @@ pub fn read_inputs<D: Files, I: Read>(
     names: &[String],
     input: &mut Source<I>,
 ) -> Result<Input, Unread>
-    ensures read { IfOk result (λ read. IsInputRead (D.content files.now) (named_files names.now)
+    ensures read { IfOk result (λ read. IsInputRead (D.shelf files.now).content (named_files names.now)
         (I.remaining input.old.reader) (I.remaining input.new.reader) read.texts) }
     ensures unfailed { OnOk result (input.new.failures ≡ input.old.failures) }
     ensures unread { IfErr result (λ f. IsUnread (named_files names.now) f

@@ -34,7 +34,7 @@ mod wanted;
 pub use auction::{Auction, read_auction};
 pub use bidder_name::BidderName;
 pub use calls::Calls;
-pub use files::{FileFault, FileKind, FilePlace, FileRefusal, Files, Output};
+pub use files::{FileFault, FileKind, FilePlace, FileRefusal, Files, Output, is_standard_output};
 pub use form_texts::{AnotherForm, FormTexts};
 pub use given::{Given, Input};
 pub use input::{INPUT_LIMIT, InputFault, Unread, is_standard_input, read_inputs};

@@ -1,6 +1,6 @@
-ghost use Rattle.std.specs.Prelude.{◌≡◌, ◌+◌, ◌<◌, ◌≤◌, [], Some, min, length, take, IfOk, OnOk, OnErr};
+ghost use Rattle.std.specs.Prelude.{◌≡◌, ◌+◌, ◌<◌, ◌≤◌, [], None, Some, min, length, take, IfOk, OnOk, OnErr};
 ghost use Rattle.std.specs.Io.KnownBytes.{Appends, Keeps};
-ghost use Rattle.byte_sinks.specs.Sinks.{one_more};
+ghost use Rattle.byte_sinks.specs.Sinks.{one_more, unused};
 
 use crate::sink::{Sink, SinkFailed};
 use std::alloc::{AllocError, Global};
@@ -32,8 +32,7 @@ impl Model for LimitSink {
 impl LimitSink {
     /// A sink without bytes, with room for so many, of which a put takes at most `most`.
     pub fn new(alloc: Global, room: usize, most: usize) -> Result<Self, AllocError>
-        ensures taken { IfOk result (λ sink. ⟦<LimitSink as Sink>⟧.taken sink ≡ Some []) }
-        ensures failures { IfOk result (λ sink. ⟦<LimitSink as Sink>⟧.failures sink ≡ 0) }
+        ensures unused { IfOk result (λ sink. ⟦<LimitSink as Sink>⟧.state sink ≡ unused (Some [])) }
         ensures room { IfOk result (λ sink. sink.room ≡ room) }
         ensures most { IfOk result (λ sink. sink.most ≡ most) }
     {
@@ -47,7 +46,7 @@ impl LimitSink {
 
     /// The bytes that it has taken.
     pub fn bytes(&self) -> &[u8]
-        ensures { ⟦<LimitSink as Sink>⟧.taken self.now ≡ Some result.now }
+        ensures { (⟦<LimitSink as Sink>⟧.state self.now).taken ≡ Some result.now }
     {
         self.bytes.as_slice()
     }
@@ -61,21 +60,21 @@ fn share(piece: usize, most: usize, room: usize) -> usize
 }
 
 impl Sink for LimitSink {
-    ghost taken = { λ s. Some s.taken };
-
-    ghost failures = { λ s. s.failures };
+    ghost state = { λ s. record { place = None; taken = Some s.taken; failures = s.failures } };
 
     fn put(&mut self, bytes: &[u8]) -> Result<usize, SinkFailed>
         ensures within { IfOk result (λ n. n ≤ length bytes.now) }
         ensures some { IfOk result (λ n. 0 < length bytes.now → 0 < n) }
-        ensures took { IfOk result (λ n. Appends (⟦<LimitSink as Sink>⟧.taken self.old)
-            (⟦<LimitSink as Sink>⟧.taken self.new) (take n bytes.now)) }
-        ensures kept { OnErr result (Keeps (⟦<LimitSink as Sink>⟧.taken self.old)
-            (⟦<LimitSink as Sink>⟧.taken self.new)) }
-        ensures succeeded { OnOk result (⟦<LimitSink as Sink>⟧.failures self.new
-            ≡ ⟦<LimitSink as Sink>⟧.failures self.old) }
-        ensures failed { OnErr result (⟦<LimitSink as Sink>⟧.failures self.new
-            ≡ one_more (⟦<LimitSink as Sink>⟧.failures self.old)) }
+        ensures took { IfOk result (λ n. Appends (⟦<LimitSink as Sink>⟧.state self.old).taken
+            (⟦<LimitSink as Sink>⟧.state self.new).taken (take n bytes.now)) }
+        ensures kept { OnErr result (Keeps (⟦<LimitSink as Sink>⟧.state self.old).taken
+            (⟦<LimitSink as Sink>⟧.state self.new).taken) }
+        ensures placed { (⟦<LimitSink as Sink>⟧.state self.new).place
+            ≡ (⟦<LimitSink as Sink>⟧.state self.old).place }
+        ensures succeeded { OnOk result ((⟦<LimitSink as Sink>⟧.state self.new).failures
+            ≡ (⟦<LimitSink as Sink>⟧.state self.old).failures) }
+        ensures failed { OnErr result ((⟦<LimitSink as Sink>⟧.state self.new).failures
+            ≡ one_more (⟦<LimitSink as Sink>⟧.state self.old).failures) }
         ensures share { IfOk result (λ n. n ≡ min (length bytes.now)
             (min self.old.most self.old.room)) }
         ensures room { IfOk result (λ n. self.new.room + n ≡ self.old.room) }

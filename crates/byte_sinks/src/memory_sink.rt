@@ -1,6 +1,6 @@
-ghost use Rattle.std.specs.Prelude.{◌≡◌, ◌+◌, ◌<◌, ◌≤◌, [], Some, length, take, IfOk, OnOk, OnErr};
+ghost use Rattle.std.specs.Prelude.{◌≡◌, ◌+◌, ◌<◌, ◌≤◌, [], None, Some, length, take, IfOk, OnOk, OnErr};
 ghost use Rattle.std.specs.Io.KnownBytes.{Appends, Keeps};
-ghost use Rattle.byte_sinks.specs.Sinks.{one_more};
+ghost use Rattle.byte_sinks.specs.Sinks.{one_more, unused};
 
 use crate::sink::{Sink, SinkFailed};
 use std::alloc::Global;
@@ -26,8 +26,7 @@ impl Model for MemorySink {
 impl MemorySink {
     /// A sink without bytes, which grows by this allocator.
     pub fn new(alloc: Global) -> Self
-        ensures taken { ⟦<MemorySink as Sink>⟧.taken result ≡ Some [] }
-        ensures failures { ⟦<MemorySink as Sink>⟧.failures result ≡ 0 }
+        ensures { ⟦<MemorySink as Sink>⟧.state result ≡ unused (Some []) }
     {
         MemorySink {
             bytes: Vec::new(alloc),
@@ -37,14 +36,14 @@ impl MemorySink {
 
     /// The bytes that it has taken.
     pub fn bytes(&self) -> &[u8]
-        ensures { ⟦<MemorySink as Sink>⟧.taken self.now ≡ Some result.now }
+        ensures { (⟦<MemorySink as Sink>⟧.state self.now).taken ≡ Some result.now }
     {
         self.bytes.as_slice()
     }
 
     /// Those bytes, once no more are to come.
     pub fn into_bytes(self) -> Vec<u8>
-        ensures { ⟦<MemorySink as Sink>⟧.taken self ≡ Some result.items }
+        ensures { (⟦<MemorySink as Sink>⟧.state self).taken ≡ Some result.items }
     {
         let MemorySink { bytes, .. } = self;
         bytes
@@ -52,21 +51,21 @@ impl MemorySink {
 }
 
 impl Sink for MemorySink {
-    ghost taken = { λ s. Some s.taken };
-
-    ghost failures = { λ s. s.failures };
+    ghost state = { λ s. record { place = None; taken = Some s.taken; failures = s.failures } };
 
     fn put(&mut self, bytes: &[u8]) -> Result<usize, SinkFailed>
         ensures within { IfOk result (λ n. n ≤ length bytes.now) }
         ensures some { IfOk result (λ n. 0 < length bytes.now → 0 < n) }
-        ensures took { IfOk result (λ n. Appends (⟦<MemorySink as Sink>⟧.taken self.old)
-            (⟦<MemorySink as Sink>⟧.taken self.new) (take n bytes.now)) }
-        ensures kept { OnErr result (Keeps (⟦<MemorySink as Sink>⟧.taken self.old)
-            (⟦<MemorySink as Sink>⟧.taken self.new)) }
-        ensures succeeded { OnOk result (⟦<MemorySink as Sink>⟧.failures self.new
-            ≡ ⟦<MemorySink as Sink>⟧.failures self.old) }
-        ensures failed { OnErr result (⟦<MemorySink as Sink>⟧.failures self.new
-            ≡ one_more (⟦<MemorySink as Sink>⟧.failures self.old)) }
+        ensures took { IfOk result (λ n. Appends (⟦<MemorySink as Sink>⟧.state self.old).taken
+            (⟦<MemorySink as Sink>⟧.state self.new).taken (take n bytes.now)) }
+        ensures kept { OnErr result (Keeps (⟦<MemorySink as Sink>⟧.state self.old).taken
+            (⟦<MemorySink as Sink>⟧.state self.new).taken) }
+        ensures placed { (⟦<MemorySink as Sink>⟧.state self.new).place
+            ≡ (⟦<MemorySink as Sink>⟧.state self.old).place }
+        ensures succeeded { OnOk result ((⟦<MemorySink as Sink>⟧.state self.new).failures
+            ≡ (⟦<MemorySink as Sink>⟧.state self.old).failures) }
+        ensures failed { OnErr result ((⟦<MemorySink as Sink>⟧.state self.new).failures
+            ≡ one_more (⟦<MemorySink as Sink>⟧.state self.old).failures) }
         ensures whole { IfOk result (λ n. n ≡ length bytes.now) }
         ensures full { OnErr result (self.old.room < length self.old.taken + length bytes.now) }
     {

@@ -18,12 +18,14 @@ fn front_piece(bytes: &[u8]) -> &[u8]
 /// Puts all the bytes, and counts those that go out.
 #[inline(never)]
 pub(crate) fn put_all<S: Sink>(sink: &mut S, bytes: &[u8], sent: &mut u64) -> Result<(), SinkFailed>
-    ensures ok { OnOk result (Appends (S.taken sink.old) (S.taken sink.new) bytes.now) }
-    ensures err { OnErr result (IsFront (S.taken sink.new)
-        (append_known (S.taken sink.old) bytes.now)) }
-    ensures counted { Counts (S.taken sink.old) (S.taken sink.new) sent.old sent.new }
-    ensures failed { OnErr result (HasFailed (S.failures sink.old) (S.failures sink.new)) }
-    ensures succeeded { OnOk result (S.failures sink.new ≡ S.failures sink.old) }
+    ensures ok { OnOk result (Appends (S.state sink.old).taken (S.state sink.new).taken bytes.now) }
+    ensures err { OnErr result (IsFront (S.state sink.new).taken
+        (append_known (S.state sink.old).taken bytes.now)) }
+    ensures counted { Counts (S.state sink.old).taken (S.state sink.new).taken sent.old sent.new }
+    ensures placed { (S.state sink.new).place ≡ (S.state sink.old).place }
+    ensures failed { OnErr result (HasFailed (S.state sink.old).failures
+        (S.state sink.new).failures) }
+    ensures succeeded { OnOk result ((S.state sink.new).failures ≡ (S.state sink.old).failures) }
 {
     let before = *sent;
     let mut from = 0;

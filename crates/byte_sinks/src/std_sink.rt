@@ -1,4 +1,5 @@
-ghost use Rattle.std.specs.Prelude.{◌≡◌, ◌⊎◌, ◌<◌, IfOk, IsErr, Ok, OnErr};
+ghost use Rattle.std.specs.Prelude.{◌≡◌, ◌⊎◌, ◌<◌, IfOk, IsErr, None, Ok, OnErr};
+ghost use Rattle.byte_sinks.specs.Sinks.{unused};
 
 use crate::sink::{Sink, SinkFailed};
 use std::io;
@@ -14,8 +15,7 @@ pub struct StdSink<W> {
 impl<W: Write + Drop> StdSink<W> {
     /// The sink that hands its bytes to this writer, and shows them if the writer does.
     pub fn new(writer: W) -> Self
-        ensures taken { ⟦<StdSink<W> as Sink>⟧.taken result ≡ W.contents writer }
-        ensures failures { ⟦<StdSink<W> as Sink>⟧.failures result ≡ 0 }
+        ensures { ⟦<StdSink<W> as Sink>⟧.state result ≡ unused (W.contents writer) }
     {
         StdSink {
             writer,
@@ -36,9 +36,7 @@ fn judged(answer: io::Result<usize>, offered: usize) -> Result<usize, SinkFailed
 }
 
 impl<W: Write + Drop> Sink for StdSink<W> {
-    ghost taken = { λ s. W.contents s.writer };
-
-    ghost failures = { λ s. s.failures };
+    ghost state = { λ s. record { place = None; taken = W.contents s.writer; failures = s.failures } };
 
     fn put(&mut self, bytes: &[u8]) -> Result<usize, SinkFailed> {
         let put = judged(self.writer.write(bytes), bytes.len());

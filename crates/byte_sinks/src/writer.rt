@@ -44,7 +44,7 @@ impl<'s, S: Sink> Writer<'s, S> {
     /// Puts what waits.
     #[inline(never)]
     fn send(&mut self)
-        ensures adds { Adds S.taken S.failures self.old self.new [] }
+        ensures adds { Adds S.state self.old self.new [] }
         ensures empty { self.new.has_failed ≡ false → self.new.waiting.items ≡ [] }
     {
         if self.has_failed {
@@ -59,7 +59,7 @@ impl<'s, S: Sink> Writer<'s, S> {
     /// Puts bytes if nothing waits.
     fn put(&mut self, bytes: &[u8])
         requires { self.old.has_failed ≡ false → self.old.waiting.items ≡ [] }
-        ensures { Adds S.taken S.failures self.old self.new bytes.now }
+        ensures { Adds S.state self.old self.new bytes.now }
     {
         if !self.has_failed && put_all(self.sink, bytes, &mut self.sent).is_err() {
             self.has_failed = true;
@@ -69,7 +69,7 @@ impl<'s, S: Sink> Writer<'s, S> {
     /// Adds bytes that find no room: after what waits, which is sent, or to the sink itself if they are longer than a block.
     #[inline(never)]
     fn add_after(&mut self, bytes: &[u8])
-        ensures { Adds S.taken S.failures self.old self.new bytes.now }
+        ensures { Adds S.state self.old self.new bytes.now }
     {
         self.send();
         if self.waiting.try_extend_from_slice(bytes).is_ok() {
@@ -81,7 +81,7 @@ impl<'s, S: Sink> Writer<'s, S> {
     /// Adds bytes at the end, and first sends what waits if there is no room for them.
     #[inline(always)]
     pub fn add(&mut self, bytes: &[u8])
-        ensures { Adds S.taken S.failures self.old self.new bytes.now }
+        ensures { Adds S.state self.old self.new bytes.now }
     {
         if self.waiting.try_extend_from_slice(bytes).is_ok() {
             return;
@@ -91,7 +91,7 @@ impl<'s, S: Sink> Writer<'s, S> {
 
     /// Adds the pieces in order.
     pub fn add_pieces(&mut self, pieces: &[&[u8]])
-        ensures { Adds S.taken S.failures self.old self.new (flat_map (λ p. p.now) pieces.now) }
+        ensures { Adds S.state self.old self.new (flat_map (λ p. p.now) pieces.now) }
     {
         for piece in pieces {
             self.add(piece);
@@ -100,7 +100,7 @@ impl<'s, S: Sink> Writer<'s, S> {
 
     /// Sends what waits, and reports whether a put has failed, and how many bytes had gone out by then.
     pub fn flush(&mut self) -> Result<(), WriteFault>
-        ensures adds { Adds S.taken S.failures self.old self.new [] }
+        ensures adds { Adds S.state self.old self.new [] }
         ensures ok { OnOk result (IsSent self.new) }
         ensures err { IfErr result (λ e. IsBroken self.new (written_of e)) }
     {

@@ -22,9 +22,8 @@ impl<'g> Model for Compiled<'g> {
 }
 
 impl<'g> Compiled<'g> {
-    ghost use Rattle.std.specs.Prelude.{◌≡◌, OnOk, OnErr, IfErr};
-    ghost use Rattle.std.specs.Io.KnownBytes.{Appends};
-    ghost use Rattle.byte_sinks.specs.Sinks.{HasFailed, SentFront, written_of};
+    ghost use Rattle.std.specs.Prelude.{◌≡◌};
+    ghost use Rattle.byte_sinks.specs.Sinks.{Sends};
     ghost use Rattle.mps_text.specs.Text.{text};
     ghost use Rattle.group_compiler.specs.Compiled.{group_program};
 
@@ -50,12 +49,7 @@ impl<'g> Compiled<'g> {
 
     /// Writes the text of the program. It takes no memory.
     pub fn write_to<S: Sink>(&self, sink: &mut S) -> Result<(), WriteFault>
-        ensures ok { OnOk result (Appends (S.taken sink.old) (S.taken sink.new)
-            (text self.now.program)) }
-        ensures err { IfErr result (λ e. SentFront (S.taken sink.old) (S.taken sink.new)
-            (text self.now.program) (written_of e)) }
-        ensures failed { OnErr result (HasFailed (S.failures sink.old) (S.failures sink.new)) }
-        ensures succeeded { OnOk result (S.failures sink.new ≡ S.failures sink.old) }
+        ensures { Sends (S.state sink.old) (S.state sink.new) result (text self.now.program) }
     {
         write_program(&self.program, sink)
     }

@@ -19,7 +19,7 @@ fn add_lines<S: Sink>(
     columns: &Columns,
     section: Section,
 )
-    ensures { Adds S.taken S.failures writer.old writer.new
+    ensures { Adds S.state writer.old writer.new
         (section_lines section (page_with (map shown_row all.now) (map shown_row rows.now)
         columns.now)) }
 {

@@ -74,7 +74,7 @@ fn closing(section: Section, any: bool) -> &'static [u8]
 
 // Adds the lines of a page in a section, unless its bidder is left out.
 fn add_page<S: Sink>(writer: &mut Writer<'_, S>, page: &Page, is_out: bool, section: Section)
-    ensures { Adds S.taken S.failures writer.old writer.new
+    ensures { Adds S.state writer.old writer.new
         (cond is_out [] (section_lines section page.now)) }
 {
     if is_out {
@@ -86,7 +86,7 @@ fn add_page<S: Sink>(writer: &mut Writer<'_, S>, page: &Page, is_out: bool, sect
 // Adds the lines of bidders outside the group in a section.
 fn add_joined<S: Sink>(writer: &mut Writer<'_, S>, pages: &[Page], group: &Group, section: Section)
     requires { length pages.now ≤ MOST_BIDDERS }
-    ensures { Adds S.taken S.failures writer.old writer.new
+    ensures { Adds S.state writer.old writer.new
         (joined section (outside (has group.now) 1 pages.now)) }
 {
     for (place, page) in pages.iter().enumerate() {
@@ -97,7 +97,7 @@ fn add_joined<S: Sink>(writer: &mut Writer<'_, S>, pages: &[Page], group: &Group
 
 // Adds the lines of a group's text in a section: those of bidders, then those of lots.
 fn add_lines<S: Sink>(writer: &mut Writer<'_, S>, pages: &Pages, group: &Group, section: Section)
-    ensures { Adds S.taken S.failures writer.old writer.new
+    ensures { Adds S.state writer.old writer.new
         (joined section (pages_for (has group.now) pages.now)) }
 {
     add_joined(writer, pages.forms(), group, section);
@@ -106,7 +106,7 @@ fn add_lines<S: Sink>(writer: &mut Writer<'_, S>, pages: &Pages, group: &Group, 
 
 // Adds a section of a group's text.
 fn add_section<S: Sink>(writer: &mut Writer<'_, S>, pages: &Pages, group: &Group, section: Section)
-    ensures { Adds S.taken S.failures writer.old writer.new
+    ensures { Adds S.state writer.old writer.new
         (section_text section (joined section (pages_for (has group.now) pages.now))) }
 {
     let any = text_has_lines(pages, group, section);
@@ -118,7 +118,7 @@ fn add_section<S: Sink>(writer: &mut Writer<'_, S>, pages: &Pages, group: &Group
 /// Adds the text of a group: the lines of the pages of bidders outside it, and of that of the lots,
 /// section by section. It takes no memory. Lines that a writer has no room for go out from their own place.
 pub fn add_group_text<S: Sink>(writer: &mut Writer<'_, S>, pages: &Pages, group: &Group)
-    ensures { Adds S.taken S.failures writer.old writer.new (group_text (has group.now) pages.now) }
+    ensures { Adds S.state writer.old writer.new (group_text (has group.now) pages.now) }
 {
     add_section(writer, pages, group, Section::Rows);
     add_section(writer, pages, group, Section::Columns);

@@ -22,8 +22,8 @@ use Rattle.input_faults.specs.InputFaults.{input_faults, refusal_of}
 use Rattle.input_faults.specs.TextDetails.{detail}
 use Rattle.input_faults.specs.declared.fault.Fault.{Fault}
 use Rattle.input_faults.specs.inside.HeldLines.{held_lines, kept_line}
-use Rattle.byte_sinks.proofs.KnownByteFacts.{Appends-nothing}
-use Rattle.byte_sinks.specs.Sinks.{HasFailed, SentFront, written_of}
+use Rattle.byte_sinks.proofs.AddingFacts.{goes-nothing}
+use Rattle.byte_sinks.specs.Sinks.{GoesInPart, GoesWhole, Outlet, written_of}
 use Rattle.byte_sinks.specs.declared.write_fault.WriteFault.{WriteFault}
 use Rattle.byte_sinks.specs.declared.write_fault.WriteFault.TheVariants as write
 use Rattle.auction_input.specs.declared.request.Request.{Request}
@@ -40,10 +40,9 @@ pub held-lines : (reported : Fault → List ℕ) (detail_of : Judged Fault → L
 held-lines reported detail_of held faults holds =
     rw (kept-lines reported detail_of held.kept.items, holds.kept, holds.more) refl
 
-pub cut-short : (lines : List ℕ) (taken taken' : Option (List ℕ)) (failures failures' : ℕ) (f : WriteFault)
-    → SentFront taken taken' lines (written_of f) → HasFailed failures failures'
-    → IsCutShort lines taken taken' failures failures' (refusal.Write f)
-cut-short lines taken taken' failures failures' (write.Sink written) sent failed = by_put sent failed
+pub cut-short : (lines : List ℕ) (before after : Outlet) (f : WriteFault) → GoesInPart before after lines (written_of f)
+    → IsCutShort lines before after (refusal.Write f)
+cut-short lines before after (write.Sink written) part = by_put part
 
 -- there is a fault just where no auction is parsed, or it hasn't got what is wanted
 faulty : {A : Type 0} (held : All Fault) (faults : List (Judged Fault)) (reported : Result A Refusal) (empty : Bool) → Holds MOST_FAULTS held faults
@@ -58,11 +57,11 @@ faulty held (at ∷ more) (Err r) false keeps are none some = (λ _. refl, λ _.
 faulty held (at ∷ more) (Err r) true keeps are none some = (let nothing = none-held MOST_FAULTS held (at ∷ more) (omega arith) keeps (none refl) in cc)
 
 -- where none is kept, there is none, and nothing is reported
-pub nothing-found : (asked : Request) (input : Input) (held : All Fault) (taken : Option (List ℕ))
-    → Holds MOST_FAULTS held (input_faults asked input) → length held.kept.items ≡ 0 → Appends taken taken (explanation asked input)
-nothing-found asked input held taken keeps none =
-    subst (λ (bytes : List ℕ). Appends taken taken bytes) (sym (ap (fault_lines (message_of input.texts) (detail asked input))
-    (none-held MOST_FAULTS held (input_faults asked input) (omega arith) keeps none))) (Appends-nothing taken)
+pub nothing-found : (asked : Request) (input : Input) (held : All Fault) (sink : Outlet)
+    → Holds MOST_FAULTS held (input_faults asked input) → length held.kept.items ≡ 0 → GoesWhole sink sink (explanation asked input)
+nothing-found asked input held sink keeps none =
+    subst (λ (bytes : List ℕ). GoesWhole sink sink bytes) (sym (ap (fault_lines (message_of input.texts) (detail asked input))
+    (none-held MOST_FAULTS held (input_faults asked input) (omega arith) keeps none))) (goes-nothing sink)
 
 pub is-faulty : (asked : Request) (input : Input) (held : All Fault) (empty : Bool) → Holds MOST_FAULTS held (input_faults asked input)
     → (empty ≡ true → length held.kept.items ≡ 0) → (empty ≡ false → length held.kept.items ≡ 0 → ⊥)

@@ -55,7 +55,7 @@ fn add_place<S: Sink>(
     value: &[u8],
     cause: Wording,
 )
-    ensures { Adds S.taken S.failures writer.old writer.new
+    ensures { Adds S.state writer.old writer.new
         (place_message words.now number value.now (wording_text cause)) }
 {
     add_wording(writer, Wording::Between(words, number as u64, ": "));
@@ -72,7 +72,7 @@ fn add_column<S: Sink>(
     cause: Wording,
     name: &[u8],
 )
-    ensures { Adds S.taken S.failures writer.old writer.new
+    ensures { Adds S.state writer.old writer.new
         (place_message (codes ", field ") number value.now
         (wording_text cause ++ (codes " " ++ name.now))) }
 {
@@ -83,7 +83,7 @@ fn add_column<S: Sink>(
 
 // Adds the first line of a text, which heads no part.
 fn add_beginning<S: Sink>(writer: &mut Writer<'_, S>, line: &[u8])
-    ensures { Adds S.taken S.failures writer.old writer.new (beginning_message line.now) }
+    ensures { Adds S.state writer.old writer.new (beginning_message line.now) }
 {
     writer.add(b": the text begins with ");
     add_shown(writer, line);
@@ -92,7 +92,7 @@ fn add_beginning<S: Sink>(writer: &mut Writer<'_, S>, line: &[u8])
 
 /// Adds a detail.
 pub fn add_detail<S: Sink>(writer: &mut Writer<'_, S>, detail: &Detail<'_>)
-    ensures { Adds S.taken S.failures writer.old writer.new (detail_text detail.now) }
+    ensures { Adds S.state writer.old writer.new (detail_text detail.now) }
 {
     match *detail {
         Detail::Nothing => writer.add(b""),

@@ -1,7 +1,7 @@
 //! Telling all faults of an input.
 
 ghost use Rattle.std.specs.Prelude.{◌≡◌, ◌↔◌, IfErr, IfOk, IsErr, IsTrue, OnOk, false};
-ghost use Rattle.std.specs.Io.KnownBytes.{Appends};
+ghost use Rattle.byte_sinks.specs.Sinks.{GoesWhole};
 ghost use Rattle.auction_input.specs.Wanted.{parsed_taken};
 ghost use Rattle.input_faults.specs.Explained.{IsCutShort};
 ghost use Rattle.input_faults.specs.FaultLines.{explanation};
@@ -20,14 +20,13 @@ pub fn explain<S: Sink>(
     input: &Input,
     out: &mut S,
 ) -> Result<bool, Refusal>
-    ensures written { OnOk result (Appends (S.taken out.old) (S.taken out.new)
+    ensures written { OnOk result (GoesWhole (S.state out.old) (S.state out.new)
         (explanation request.now input.now)) }
     ensures faulty { IfOk result (λ faulty. IsTrue faulty
         ↔ IsErr (parsed_taken request.now input.now)) }
     ensures untouched { IfOk result (λ faulty. faulty ≡ false → out.new ≡ out.old) }
-    ensures succeeded { OnOk result (S.failures out.new ≡ S.failures out.old) }
     ensures refused { IfErr result (IsCutShort (explanation request.now input.now)
-        (S.taken out.old) (S.taken out.new) (S.failures out.old) (S.failures out.new)) }
+        (S.state out.old) (S.state out.new)) }
 {
     let faults = input_faults(alloc, request, input)?;
     if faults.kept.is_empty() {

@@ -1,7 +1,6 @@
 //! The lines of faults.
 
-ghost use Rattle.std.specs.Prelude.{◌≡◌, ◌++◌, ◌∷◌, [], ℕ, List, IfErr, IfOk, OnErr, OnOk, flat_map};
-ghost use Rattle.std.specs.Io.KnownBytes.{Appends};
+ghost use Rattle.std.specs.Prelude.{◌≡◌, ◌++◌, ◌∷◌, [], IfOk, OnOk, flat_map};
 ghost use Rattle.auction_input.specs.Parts.{parts_held};
 ghost use Rattle.auction_input.specs.Plan.{miscounted};
 ghost use Rattle.auction_input.specs.ParsedTexts.{parsed_terms};
@@ -11,7 +10,7 @@ ghost use Rattle.input_faults.specs.TextDetails.{detail, detail_in_rules, detail
 ghost use Rattle.input_faults.specs.inside.DetailText.{detail_text};
 ghost use Rattle.input_faults.specs.inside.HeldLines.{held_lines, kept_line};
 ghost use Rattle.byte_sinks.specs.Adds.{Adds};
-ghost use Rattle.byte_sinks.specs.Sinks.{HasFailed, SentFront, written_of};
+ghost use Rattle.byte_sinks.specs.Sinks.{Sends};
 
 use crate::detail::{Detail, add_detail, fault_detail};
 use crate::fault::Fault;
@@ -35,7 +34,7 @@ fn add_line<S: Sink>(
     fault: Fault,
     detail: &Detail<'_>,
 )
-    ensures { Adds S.taken S.failures writer.old writer.new
+    ensures { Adds S.state writer.old writer.new
         (message_of places.now fault ++ (detail_text detail.now ++ 10 ∷ [])) }
 {
     let refusal = fault.refusal();
@@ -66,7 +65,7 @@ fn add_lines_of_rules<S: Sink>(
     places: &Places<'_>,
     faults: &[FaultAt<Fault>],
 )
-    ensures { Adds S.taken S.failures writer.old writer.new
+    ensures { Adds S.state writer.old writer.new
         (flat_map (kept_line (message_of places.now) detail_in_rules) faults.now) }
 {
     for at in faults {
@@ -81,7 +80,7 @@ fn add_line_under<S: Sink>(
     rules: &Rules,
     at: &FaultAt<Fault>,
 )
-    ensures { Adds S.taken S.failures writer.old writer.new
+    ensures { Adds S.state writer.old writer.new
         (kept_line (message_of places.now) (detail_under rules.now) at.now) }
 {
     match at.fault {
@@ -111,7 +110,7 @@ fn add_lines_under<S: Sink>(
     rules: &Rules,
     faults: &[FaultAt<Fault>],
 )
-    ensures { Adds S.taken S.failures writer.old writer.new
+    ensures { Adds S.state writer.old writer.new
         (flat_map (kept_line (message_of places.now) (detail_under rules.now)) faults.now) }
 {
     for at in faults {
@@ -126,7 +125,7 @@ fn add_lines_alike<S: Sink>(
     faults: &[FaultAt<Fault>],
     detail: &Detail<'_>,
 )
-    ensures { Adds S.taken S.failures writer.old writer.new
+    ensures { Adds S.state writer.old writer.new
         (flat_map (kept_line (message_of places.now) (λ at. detail_text detail.now))
         faults.now) }
 {
@@ -143,7 +142,7 @@ fn add_lines_in<S: Sink>(
     rules: &[u8],
     faults: &[FaultAt<Fault>],
 ) -> Result<(), AllocError>
-    ensures { OnOk result (Adds S.taken S.failures writer.old writer.new
+    ensures { OnOk result (Adds S.state writer.old writer.new
         (flat_map (kept_line (message_of places.now) (detail_in_texts (parsed_terms rules.now)))
         faults.now)) }
 {
@@ -168,7 +167,7 @@ fn add_lines_of_parts<S: Sink>(
     parts: &[Part<'_>],
     faults: &[FaultAt<Fault>],
 ) -> Result<(), AllocError>
-    ensures { OnOk result (Adds S.taken S.failures writer.old writer.new
+    ensures { OnOk result (Adds S.state writer.old writer.new
         (flat_map (kept_line (message_of places.now) (detail_of_counted request.now
         (miscounted request.now (parts_held parts.now)) (parts_held parts.now)))
         faults.now)) }
@@ -192,7 +191,7 @@ fn add_lines<S: Sink>(
     input: &Input,
     faults: &[FaultAt<Fault>],
 ) -> Result<(), AllocError>
-    ensures { OnOk result (Adds S.taken S.failures writer.old writer.new
+    ensures { OnOk result (Adds S.state writer.old writer.new
         (flat_map (kept_line (message_of places.now) (detail request.now input.now))
         faults.now)) }
 {
@@ -211,7 +210,7 @@ fn add_lines<S: Sink>(
 
 // Adds the line that counts the faults that have none.
 fn add_more<S: Sink>(writer: &mut Writer<'_, S>, more: u64)
-    ensures { Adds S.taken S.failures writer.old writer.new (more_line more) }
+    ensures { Adds S.state writer.old writer.new (more_line more) }
 {
     let wording = if more == 0 {
         Wording::Words("")
@@ -266,11 +265,7 @@ pub fn lines_of(
 
 /// Puts lines. It takes no memory.
 pub fn put_lines<S: Sink>(lines: &[u8], out: &mut S) -> Result<(), WriteFault>
-    ensures ok { OnOk result (Appends (S.taken out.old) (S.taken out.new) lines.now) }
-    ensures err { IfErr result (λ e. SentFront (S.taken out.old) (S.taken out.new)
-        lines.now (written_of e)) }
-    ensures failed { OnErr result (HasFailed (S.failures out.old) (S.failures out.new)) }
-    ensures succeeded { OnOk result (S.failures out.new ≡ S.failures out.old) }
+    ensures { Sends (S.state out.old) (S.state out.new) result lines.now }
 {
     let mut writer = Writer::new(out);
     writer.add(lines);

@@ -14,7 +14,7 @@ use byte_sinks::{Sink, Writer};
 
 // Adds words on a refusal.
 fn add_words<S: Sink>(writer: &mut Writer<'_, S>, reported: &Message<'_>)
-    ensures { Adds S.taken S.failures writer.old writer.new (message_text reported.now) }
+    ensures { Adds S.state writer.old writer.new (message_text reported.now) }
 {
     add_wording(writer, reported.part);
     add_wording(writer, reported.fault);
@@ -23,7 +23,7 @@ fn add_words<S: Sink>(writer: &mut Writer<'_, S>, reported: &Message<'_>)
 
 /// Adds the name of a file, whose bytes are shown as those of a text; of `-` what it stands for.
 pub fn add_file_name<S: Sink>(writer: &mut Writer<'_, S>, name: &[u8])
-    ensures { Adds S.taken S.failures writer.old writer.new (shown_name name.now) }
+    ensures { Adds S.state writer.old writer.new (shown_name name.now) }
 {
     if name == b"-".as_slice() {
         writer.add(b"standard input");
@@ -46,7 +46,7 @@ fn file_name(texts: &[Given], text: usize) -> &[u8]
 
 // Adds after what is reported of a form, if it is in another text than its bidder's first form, the name of that text's file.
 fn add_other<S: Sink>(writer: &mut Writer<'_, S>, texts: &[Given], refusal: &Refusal)
-    ensures { Adds S.taken S.failures writer.old writer.new
+    ensures { Adds S.state writer.old writer.new
         (with_other texts.now refusal.now []) }
 {
     match refusal {
@@ -66,7 +66,7 @@ fn add_words_at<S: Sink>(
     spot: Option<Spot>,
     refusal: &Refusal,
 )
-    ensures { Adds S.taken S.failures writer.old writer.new
+    ensures { Adds S.state writer.old writer.new
         (words_at texts.now spot refusal.now) }
 {
     match spot {
@@ -86,7 +86,7 @@ pub fn add_message<S: Sink>(
     spot: Option<Spot>,
     refusal: &Refusal,
 )
-    ensures { Adds S.taken S.failures writer.old writer.new
+    ensures { Adds S.state writer.old writer.new
         (message_at texts.now spot refusal.now) }
 {
     add_words_at(writer, texts, spot, refusal);
@@ -95,7 +95,7 @@ pub fn add_message<S: Sink>(
 
 // Adds what makes an input of files, if the first one has this name, and one of them doesn't begin with a head.
 fn add_gather<S: Sink>(writer: &mut Writer<'_, S>, name: &[u8])
-    ensures { Adds S.taken S.failures writer.old writer.new (hint_on name.now part.BeforeFirst) }
+    ensures { Adds S.state writer.old writer.new (hint_on name.now part.BeforeFirst) }
 {
     if name == b"".as_slice() {
         writer.add(b"");
@@ -105,7 +105,7 @@ fn add_gather<S: Sink>(writer: &mut Writer<'_, S>, name: &[u8])
 }
 
 fn add_hint_on<S: Sink>(writer: &mut Writer<'_, S>, name: &[u8], fault: PartFault)
-    ensures { Adds S.taken S.failures writer.old writer.new (hint_on name.now fault) }
+    ensures { Adds S.state writer.old writer.new (hint_on name.now fault) }
 {
     match fault {
         PartFault::BeforeFirst => add_gather(writer, name),
@@ -116,7 +116,7 @@ fn add_hint_on<S: Sink>(writer: &mut Writer<'_, S>, name: &[u8], fault: PartFaul
 /// Adds what comes after what is reported of a refusal on standard error: for files that are no parts of an input, what makes one of
 /// them.
 pub fn add_hint<S: Sink>(writer: &mut Writer<'_, S>, texts: &[Given], refusal: &Refusal)
-    ensures { Adds S.taken S.failures writer.old writer.new (hint texts.now refusal.now) }
+    ensures { Adds S.state writer.old writer.new (hint texts.now refusal.now) }
 {
     match refusal {
         Refusal::Parts(fault) => add_hint_on(writer, file_name(texts, 0), *fault),

@@ -23,7 +23,7 @@ fn hex_digit(number: u8) -> u8
 
 // Adds a byte as it is shown.
 fn add_shown_byte<S: Sink>(writer: &mut Writer<'_, S>, byte: u8)
-    ensures { Adds S.taken S.failures writer.old writer.new (shown_byte byte) }
+    ensures { Adds S.state writer.old writer.new (shown_byte byte) }
 {
     if byte == b'\'' || byte == b'\\' {
         writer.add(&[b'\\', byte]);
@@ -36,7 +36,7 @@ fn add_shown_byte<S: Sink>(writer: &mut Writer<'_, S>, byte: u8)
 
 /// Adds bytes as they are shown.
 pub(crate) fn add_shown_bytes<S: Sink>(writer: &mut Writer<'_, S>, bytes: &[u8])
-    ensures { Adds S.taken S.failures writer.old writer.new (flat_map shown_byte bytes.now) }
+    ensures { Adds S.state writer.old writer.new (flat_map shown_byte bytes.now) }
 {
     for byte in bytes {
         add_shown_byte(writer, *byte);
@@ -67,7 +67,7 @@ fn closing(text: &[u8]) -> &'static [u8]
 
 /// Adds a text between quotation marks; of one of more than 40 bytes the first 40.
 pub fn add_shown<S: Sink>(writer: &mut Writer<'_, S>, text: &[u8])
-    ensures { Adds S.taken S.failures writer.old writer.new (shown_text text.now) }
+    ensures { Adds S.state writer.old writer.new (shown_text text.now) }
 {
     writer.add(b"'");
     add_shown_bytes(writer, front(text));

@@ -9,7 +9,7 @@ use itoa::Buffer;
 
 /// Adds words, with the numbers among them.
 pub fn add_wording<S: Sink>(writer: &mut Writer<'_, S>, wording: Wording)
-    ensures { Adds S.taken S.failures writer.old writer.new (wording_text wording) }
+    ensures { Adds S.state writer.old writer.new (wording_text wording) }
 {
     let mut digits = Buffer::new();
     let mut more_digits = Buffer::new();

@@ -10,7 +10,7 @@ use program_rows::ProgramParts;
 
 /// Adds the lines of the columns between those of the markers.
 fn add_marked_columns<S: Sink>(writer: &mut Writer<'_, S>, parts: &ProgramParts)
-    ensures { Adds S.taken S.failures writer.old writer.new (columns_bytes parts.now) }
+    ensures { Adds S.state writer.old writer.new (columns_bytes parts.now) }
 {
     if parts.columns.len() == 0 {
         return;
@@ -27,7 +27,7 @@ fn add_marked_columns<S: Sink>(writer: &mut Writer<'_, S>, parts: &ProgramParts)
 
 /// Adds the section of the bounds.
 fn add_bounds_section<S: Sink>(writer: &mut Writer<'_, S>, parts: &ProgramParts)
-    ensures { Adds S.taken S.failures writer.old writer.new (bounds_bytes parts.now) }
+    ensures { Adds S.state writer.old writer.new (bounds_bytes parts.now) }
 {
     if parts.columns.len() == 0 {
         return;
@@ -38,7 +38,7 @@ fn add_bounds_section<S: Sink>(writer: &mut Writer<'_, S>, parts: &ProgramParts)
 
 /// Adds the lines of a program.
 pub fn add_parts<S: Sink>(writer: &mut Writer<'_, S>, parts: &ProgramParts)
-    ensures { Adds S.taken S.failures writer.old writer.new (parts_bytes parts.now) }
+    ensures { Adds S.state writer.old writer.new (parts_bytes parts.now) }
 {
     writer.add(b"NAME wdp\nROWS\n");
     add_two(writer, b"N", parts.objective_name.as_slice());

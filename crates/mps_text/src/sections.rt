@@ -55,7 +55,7 @@ fn name_at(rows: &[Row], place: usize) -> &[u8]
 }
 
 fn add_number<S: Sink>(writer: &mut Writer<'_, S>, a: &[u8], b: &[u8], n: i64)
-    ensures { Adds S.taken S.failures writer.old writer.new
+    ensures { Adds S.state writer.old writer.new
         (written (Data (a.now ∷ b.now ∷ signed_decimal n ∷ []))) }
 {
     let mut buffer = Buffer::new();
@@ -64,19 +64,19 @@ fn add_number<S: Sink>(writer: &mut Writer<'_, S>, a: &[u8], b: &[u8], n: i64)
 }
 
 fn add_row<S: Sink>(writer: &mut Writer<'_, S>, row: &Row)
-    ensures { Adds S.taken S.failures writer.old writer.new (row_bytes (shown_row row.now)) }
+    ensures { Adds S.state writer.old writer.new (row_bytes (shown_row row.now)) }
 {
     add_two(writer, letter(row.kind), row.name.as_slice());
 }
 
 fn add_right_side<S: Sink>(writer: &mut Writer<'_, S>, row: &Row)
-    ensures { Adds S.taken S.failures writer.old writer.new (right_side_bytes (shown_row row.now)) }
+    ensures { Adds S.state writer.old writer.new (right_side_bytes (shown_row row.now)) }
 {
     add_number(writer, b"RHS", row.name.as_slice(), row.right_side);
 }
 
 fn add_bound<S: Sink>(writer: &mut Writer<'_, S>, column: &Column<'_>)
-    ensures { Adds S.taken S.failures writer.old writer.new
+    ensures { Adds S.state writer.old writer.new
         (bound_bytes (shown_column column.now)) }
 {
     writer.add(before_bound(column.bounds));
@@ -91,7 +91,7 @@ fn add_long_entry<S: Sink>(
     name: &[u8],
     entry: &(usize, i64),
 )
-    ensures { Adds S.taken S.failures writer.old writer.new
+    ensures { Adds S.state writer.old writer.new
         (entry_bytes (map shown_row rows.now) name.now entry.now) }
 {
     add_number(writer, name, name_at(rows, entry.0), entry.1);
@@ -151,7 +151,7 @@ fn write_entries(
 
 /// Adds the lines of the rows.
 pub fn add_rows<S: Sink>(writer: &mut Writer<'_, S>, rows: &[Row])
-    ensures { Adds S.taken S.failures writer.old writer.new
+    ensures { Adds S.state writer.old writer.new
         (flat_map (λ r. row_bytes (shown_row r)) rows.now) }
 {
     for row in rows {
@@ -161,7 +161,7 @@ pub fn add_rows<S: Sink>(writer: &mut Writer<'_, S>, rows: &[Row])
 
 /// Adds the lines of the right sides.
 pub fn add_right_sides<S: Sink>(writer: &mut Writer<'_, S>, rows: &[Row])
-    ensures { Adds S.taken S.failures writer.old writer.new
+    ensures { Adds S.state writer.old writer.new
         (flat_map (λ r. right_side_bytes (shown_row r)) rows.now) }
 {
     for row in rows {
@@ -171,7 +171,7 @@ pub fn add_right_sides<S: Sink>(writer: &mut Writer<'_, S>, rows: &[Row])
 
 /// Adds the lines of the bounds.
 pub fn add_bounds<S: Sink>(writer: &mut Writer<'_, S>, columns: &Columns)
-    ensures { Adds S.taken S.failures writer.old writer.new (flat_map bound_bytes columns.now) }
+    ensures { Adds S.state writer.old writer.new (flat_map bound_bytes columns.now) }
 {
     for place in 0..columns.len() {
         add_bound(writer, &columns.column(place));
@@ -185,7 +185,7 @@ fn add_long_entries<S: Sink>(
     name: &[u8],
     entries: &[(usize, i64)],
 )
-    ensures { Adds S.taken S.failures writer.old writer.new
+    ensures { Adds S.state writer.old writer.new
         (flat_map (entry_bytes (map shown_row rows.now) name.now) entries.now) }
 {
     for entry in entries {
@@ -201,7 +201,7 @@ pub fn add_entries<S: Sink>(
     name: &[u8],
     entries: &[(usize, i64)],
 )
-    ensures { Adds S.taken S.failures writer.old writer.new
+    ensures { Adds S.state writer.old writer.new
         (flat_map (entry_bytes (map shown_row rows.now) name.now) entries.now) }
 {
     if name.len() <= FRONT_NAME_LEN {
@@ -214,7 +214,7 @@ pub fn add_entries<S: Sink>(
 }
 
 fn add_cost<S: Sink>(writer: &mut Writer<'_, S>, objective: &[u8], column: &Column<'_>)
-    ensures { Adds S.taken S.failures writer.old writer.new
+    ensures { Adds S.state writer.old writer.new
         (cost_bytes objective.now (shown_column column.now)) }
 {
     add_number(writer, column.name, objective, column.cost);
@@ -228,7 +228,7 @@ pub fn add_column<S: Sink>(
     rows: &[Row],
     column: &Column<'_>,
 )
-    ensures { Adds S.taken S.failures writer.old writer.new
+    ensures { Adds S.state writer.old writer.new
         (column_bytes objective.now (map shown_row rows.now) (shown_column column.now)) }
 {
     add_cost(writer, objective, column);
@@ -242,7 +242,7 @@ pub fn add_columns<S: Sink>(
     rows: &[Row],
     columns: &Columns,
 )
-    ensures { Adds S.taken S.failures writer.old writer.new
+    ensures { Adds S.state writer.old writer.new
         (flat_map (column_bytes objective.now (map shown_row rows.now)) columns.now) }
 {
     let mut lines = [0; LINES_LEN];

@@ -119,7 +119,7 @@ pub fn others_of(
 
 /// Adds the line of a tie, and the award.
 fn add_tie<S: Sink>(writer: &mut Writer<'_, S>, book: &ClosedBook, award: &Allocation)
-    ensures { Adds S.taken S.failures writer.old writer.new (tie_text (sale_of book.now) award.now) }
+    ensures { Adds S.state writer.old writer.new (tie_text (sale_of book.now) award.now) }
 {
     writer.add(b"tie\n");
     add_allocation(writer, book, award.choices());
@@ -127,7 +127,7 @@ fn add_tie<S: Sink>(writer: &mut Writer<'_, S>, book: &ClosedBook, award: &Alloc
 
 /// Adds each tie.
 fn add_ties<S: Sink>(writer: &mut Writer<'_, S>, book: &ClosedBook, awards: &[Allocation])
-    ensures { Adds S.taken S.failures writer.old writer.new
+    ensures { Adds S.state writer.old writer.new
         (flat_map (tie_text (sale_of book.now)) awards.now) }
 {
     for award in awards {
@@ -149,7 +149,7 @@ fn last_line(awards: &[Allocation], further: Further) -> &'static [u8]
 
 /// Adds what is known of other awards.
 pub fn add_others<S: Sink>(writer: &mut Writer<'_, S>, book: &ClosedBook, others: &OtherAwards)
-    ensures { Adds S.taken S.failures writer.old writer.new
+    ensures { Adds S.state writer.old writer.new
         (others_text (sale_of book.now) others.now) }
 {
     let awards = others.awards();

@@ -126,7 +126,7 @@ fn is_exact(parts: u64, pounds: u128, exact: u128) -> bool
 
 /// Adds the denominator of a fraction that isn't whole.
 fn add_denominator<S: Sink>(writer: &mut Writer<'_, S>, denominator: u64)
-    ensures { Adds S.taken S.failures writer.old writer.new
+    ensures { Adds S.state writer.old writer.new
         (if denominator == 1 then [] else 47 ∷ decimal denominator) }
 {
     if denominator == 1 {
@@ -140,7 +140,7 @@ fn add_denominator<S: Sink>(writer: &mut Writer<'_, S>, denominator: u64)
 
 /// Adds a whole number.
 fn add_whole<S: Sink>(writer: &mut Writer<'_, S>, number: u128)
-    ensures { Adds S.taken S.failures writer.old writer.new (decimal number) }
+    ensures { Adds S.state writer.old writer.new (decimal number) }
 {
     let mut buffer = Buffer::new();
     let pieces: [&[u8]; 1] = [buffer.format(number).as_bytes()];
@@ -150,7 +150,7 @@ fn add_whole<S: Sink>(writer: &mut Writer<'_, S>, number: u128)
 /// Adds a number of parts, in pounds, as a fraction in lowest terms.
 fn add_fraction<S: Sink>(writer: &mut Writer<'_, S>, parts: u64, exact: u128)
     requires { 1 ≤ parts }
-    ensures { Adds S.taken S.failures writer.old writer.new (fraction_text parts exact) }
+    ensures { Adds S.state writer.old writer.new (fraction_text parts exact) }
 {
     let divisor = gcd(exact, parts);
     add_whole(writer, exact / u128::from(divisor));
@@ -160,7 +160,7 @@ fn add_fraction<S: Sink>(writer: &mut Writer<'_, S>, parts: u64, exact: u128)
 /// Adds the exact amount, if it is another one than what is paid.
 fn add_exact<S: Sink>(writer: &mut Writer<'_, S>, parts: u64, pounds: u128, exact: u128)
     requires { 1 ≤ parts }
-    ensures { Adds S.taken S.failures writer.old writer.new (exact_text parts pounds exact) }
+    ensures { Adds S.state writer.old writer.new (exact_text parts pounds exact) }
 {
     if is_exact(parts, pounds, exact) {
         writer.add(b"");
@@ -173,7 +173,7 @@ fn add_exact<S: Sink>(writer: &mut Writer<'_, S>, parts: u64, pounds: u128, exac
 /// Adds what is paid, the exact amount if it is another one, and the end of the line.
 fn add_amount<S: Sink>(writer: &mut Writer<'_, S>, parts: u64, pounds: u128, exact: u128)
     requires { 1 ≤ parts }
-    ensures { Adds S.taken S.failures writer.old writer.new
+    ensures { Adds S.state writer.old writer.new
         (amount_text parts pounds exact ++ 10 ∷ []) }
 {
     add_whole(writer, pounds);
@@ -183,7 +183,7 @@ fn add_amount<S: Sink>(writer: &mut Writer<'_, S>, parts: u64, pounds: u128, exa
 
 /// Adds the name of a bidder, and a space.
 fn add_name<S: Sink>(writer: &mut Writer<'_, S>, book: &ClosedBook, bidder: u16)
-    ensures { Adds S.taken S.failures writer.old writer.new
+    ensures { Adds S.state writer.old writer.new
         (bidder_name (sale_of book.now).names bidder ++ 32 ∷ []) }
 {
     let pieces: [&[u8]; 2] = [name_of(book, bidder), b" "];
@@ -197,7 +197,7 @@ fn add_price<S: Sink>(
     pricing: &Pricing,
     choice: Choice,
 )
-    ensures { Adds S.taken S.failures writer.old writer.new
+    ensures { Adds S.state writer.old writer.new
         (price_line (sale_of book.now) pricing.now choice) }
 {
     let exact = price_of(pricing.prices(), choice.bidder);
@@ -218,7 +218,7 @@ fn add_prices<S: Sink>(
     pricing: &Pricing,
     choices: &[Choice],
 )
-    ensures { Adds S.taken S.failures writer.old writer.new
+    ensures { Adds S.state writer.old writer.new
         (flat_map (price_line (sale_of book.now) pricing.now) choices.now) }
 {
     for choice in choices {
@@ -228,7 +228,7 @@ fn add_prices<S: Sink>(
 
 /// Adds the line of the sum.
 fn add_sum<S: Sink>(writer: &mut Writer<'_, S>, pricing: &Pricing, choices: &[Choice])
-    ensures { Adds S.taken S.failures writer.old writer.new (sum_line pricing.now choices.now) }
+    ensures { Adds S.state writer.old writer.new (sum_line pricing.now choices.now) }
 {
     let pounds = paid_in_pounds(pricing, choices);
     let exact = paid(pricing.prices(), choices);
@@ -238,7 +238,7 @@ fn add_sum<S: Sink>(writer: &mut Writer<'_, S>, pricing: &Pricing, choices: &[Ch
 
 /// Adds the last line, if these are the prices of the rule.
 fn add_rule<S: Sink>(writer: &mut Writer<'_, S>, by_rule: bool)
-    ensures { Adds S.taken S.failures writer.old writer.new (rule_line by_rule) }
+    ensures { Adds S.state writer.old writer.new (rule_line by_rule) }
 {
     if by_rule {
         writer.add(b"by the rule\n");
@@ -254,7 +254,7 @@ fn add_winning_prices<S: Sink>(
     choices: &[Choice],
     pricing: &Pricing,
 )
-    ensures { Adds S.taken S.failures writer.old writer.new
+    ensures { Adds S.state writer.old writer.new
         (pricing_text (sale_of book.now) choices.now (Some pricing.now)) }
 {
     writer.add(b"prices\n");
@@ -270,7 +270,7 @@ pub fn add_pricing<S: Sink>(
     first: &Allocation,
     pricing: &Option<Pricing>,
 )
-    ensures { Adds S.taken S.failures writer.old writer.new
+    ensures { Adds S.state writer.old writer.new
         (pricing_text (sale_of book.now) first.now pricing.now) }
 {
     match pricing {

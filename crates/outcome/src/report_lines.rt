@@ -17,7 +17,7 @@ use itoa::Buffer;
 
 /// Adds the name of a further bidder.
 fn add_further<S: Sink>(writer: &mut Writer<'_, S>, book: &ClosedBook, bidder: u16)
-    ensures { Adds S.taken S.failures writer.old writer.new
+    ensures { Adds S.state writer.old writer.new
         (43 ∷ bidder_name (sale_of book.now).names bidder) }
 {
     let pieces: [&[u8]; 2] = [b"+", name_of(book, bidder)];
@@ -26,7 +26,7 @@ fn add_further<S: Sink>(writer: &mut Writer<'_, S>, book: &ClosedBook, bidder: u
 
 /// Adds the names of further bidders.
 fn add_more_names<S: Sink>(writer: &mut Writer<'_, S>, book: &ClosedBook, bidders: &[u16])
-    ensures { Adds S.taken S.failures writer.old writer.new
+    ensures { Adds S.state writer.old writer.new
         (flat_map (λ further. 43 ∷ bidder_name (sale_of book.now).names further) bidders.now) }
 {
     for bidder in bidders {
@@ -36,7 +36,7 @@ fn add_more_names<S: Sink>(writer: &mut Writer<'_, S>, book: &ClosedBook, bidder
 
 /// Adds the names of a group that isn't empty.
 fn add_first_names<S: Sink>(writer: &mut Writer<'_, S>, book: &ClosedBook, first: u16, more: &[u16])
-    ensures { Adds S.taken S.failures writer.old writer.new
+    ensures { Adds S.state writer.old writer.new
         (group_names (sale_of book.now).names (first ∷ more.now)) }
 {
     writer.add(name_of(book, first));
@@ -45,7 +45,7 @@ fn add_first_names<S: Sink>(writer: &mut Writer<'_, S>, book: &ClosedBook, first
 
 /// Adds the names of a group.
 fn add_names<S: Sink>(writer: &mut Writer<'_, S>, book: &ClosedBook, group: &[u16])
-    ensures { Adds S.taken S.failures writer.old writer.new
+    ensures { Adds S.state writer.old writer.new
         (group_names (sale_of book.now).names group.now) }
 {
     match group.split_first() {
@@ -56,7 +56,7 @@ fn add_names<S: Sink>(writer: &mut Writer<'_, S>, book: &ClosedBook, group: &[u1
 
 /// Adds the names of a group by rising number, joined by plus signs, or a dash if nobody is in it, and ends the line.
 pub fn add_names_line<S: Sink>(writer: &mut Writer<'_, S>, book: &ClosedBook, group: &[u16])
-    ensures { Adds S.taken S.failures writer.old writer.new
+    ensures { Adds S.state writer.old writer.new
         (group_names (sale_of book.now).names group.now ++ 10 ∷ []) }
 {
     add_names(writer, book, group);
@@ -65,7 +65,7 @@ pub fn add_names_line<S: Sink>(writer: &mut Writer<'_, S>, book: &ClosedBook, gr
 
 /// Adds what comes before the names.
 fn add_number<S: Sink>(writer: &mut Writer<'_, S>, k: usize)
-    ensures { Adds S.taken S.failures writer.old writer.new
+    ensures { Adds S.state writer.old writer.new
         (codes "group " ++ (decimal k ++ 32 ∷ [])) }
 {
     let mut buffer = Buffer::new();
@@ -75,7 +75,7 @@ fn add_number<S: Sink>(writer: &mut Writer<'_, S>, k: usize)
 
 /// Adds the heading of group k.
 fn add_heading<S: Sink>(writer: &mut Writer<'_, S>, book: &ClosedBook, k: usize, group: &[u16])
-    ensures { Adds S.taken S.failures writer.old writer.new
+    ensures { Adds S.state writer.old writer.new
         (heading (codes "group ") (sale_of book.now).names k group.now) }
 {
     add_number(writer, k);
@@ -84,7 +84,7 @@ fn add_heading<S: Sink>(writer: &mut Writer<'_, S>, book: &ClosedBook, k: usize,
 
 /// Adds the line of a winner.
 fn add_winner<S: Sink>(writer: &mut Writer<'_, S>, book: &ClosedBook, choice: Choice)
-    ensures { Adds S.taken S.failures writer.old writer.new
+    ensures { Adds S.state writer.old writer.new
         (winner_line (sale_of book.now) choice) }
 {
     let mut bid = Buffer::new();
@@ -102,7 +102,7 @@ fn add_winner<S: Sink>(writer: &mut Writer<'_, S>, book: &ClosedBook, choice: Ch
 
 /// Adds the lines of the winners.
 fn add_winners<S: Sink>(writer: &mut Writer<'_, S>, book: &ClosedBook, choices: &[Choice])
-    ensures { Adds S.taken S.failures writer.old writer.new
+    ensures { Adds S.state writer.old writer.new
         (flat_map (winner_line (sale_of book.now)) choices.now) }
 {
     for choice in choices {
@@ -112,7 +112,7 @@ fn add_winners<S: Sink>(writer: &mut Writer<'_, S>, book: &ClosedBook, choices: 
 
 /// Adds the line of a total.
 fn add_total<S: Sink>(writer: &mut Writer<'_, S>, amount: u128)
-    ensures { Adds S.taken S.failures writer.old writer.new
+    ensures { Adds S.state writer.old writer.new
         (codes "total " ++ (decimal amount ++ 10 ∷ [])) }
 {
     let mut buffer = Buffer::new();
@@ -122,7 +122,7 @@ fn add_total<S: Sink>(writer: &mut Writer<'_, S>, amount: u128)
 
 /// Adds the winners, then the total.
 pub fn add_allocation<S: Sink>(writer: &mut Writer<'_, S>, book: &ClosedBook, choices: &[Choice])
-    ensures { Adds S.taken S.failures writer.old writer.new
+    ensures { Adds S.state writer.old writer.new
         (allocation_text (sale_of book.now) choices.now) }
 {
     add_winners(writer, book, choices);
@@ -131,7 +131,7 @@ pub fn add_allocation<S: Sink>(writer: &mut Writer<'_, S>, book: &ClosedBook, ch
 
 /// Adds the line of a cost.
 fn add_cost<S: Sink>(writer: &mut Writer<'_, S>, amount: i128)
-    ensures { Adds S.taken S.failures writer.old writer.new
+    ensures { Adds S.state writer.old writer.new
         (codes "cost " ++ (signed_decimal amount ++ 10 ∷ [])) }
 {
     let mut buffer = Buffer::new();
@@ -148,7 +148,7 @@ fn add_group<S: Sink>(
     group: &Group,
     choices: &[Choice],
 )
-    ensures { Adds S.taken S.failures writer.old writer.new
+    ensures { Adds S.state writer.old writer.new
         (group_report (sale_of book.now) first.now k (group.now, choices.now)) }
 {
     add_heading(writer, book, k, group.numbers());
@@ -165,7 +165,7 @@ pub fn add_groups<S: Sink>(
     allocations: &[Allocation],
 )
     requires { length groups.now ≡ length allocations.now }
-    ensures { Adds S.taken S.failures writer.old writer.new
+    ensures { Adds S.state writer.old writer.new
         (in_turn (group_report (sale_of book.now) first.now) 1
         (zip groups.now allocations.now)) }
 {

@@ -1,12 +1,11 @@
 //! Writing allocations and reports.
 
-ghost use Rattle.std.specs.Prelude.{◌≡◌, ◌<◌, ◌++◌, [], length, slice_index_or, false, true, OnOk, OnErr, IfErr};
-ghost use Rattle.std.specs.Io.KnownBytes.{Appends};
+ghost use Rattle.std.specs.Prelude.{◌≡◌, ◌<◌, ◌++◌, [], length, slice_index_or, false, true};
 ghost use Rattle.auction_terms.specs.Allocations.{IsFeasible};
 ghost use Rattle.auction_terms.specs.Groups.{starts_empty};
 ghost use Rattle.auction_terms.specs.Terms.{lots_in};
 ghost use Rattle.bid_desk.specs.Closing.{book_of};
-ghost use Rattle.byte_sinks.specs.Sinks.{HasFailed, SentFront, written_of};
+ghost use Rattle.byte_sinks.specs.Sinks.{Sends};
 ghost use Rattle.byte_sinks.specs.Adds.{Adds};
 ghost use Rattle.bid_desk.specs.Sale.{sale_of};
 ghost use Rattle.outcome.specs.Pricing.{pricing_text};
@@ -29,12 +28,7 @@ pub fn write_allocation<S: Sink>(
 ) -> Result<(), WriteFault>
     requires feasible { IsFeasible (lots_in book.now.rules) (book_of book.now) (λ b. false)
         allocation.now }
-    ensures ok { OnOk result (Appends (S.taken sink.old) (S.taken sink.new)
-        (allocation_text (sale_of book.now) allocation.now)) }
-    ensures err { IfErr result (λ e. SentFront (S.taken sink.old) (S.taken sink.new)
-        (allocation_text (sale_of book.now) allocation.now) (written_of e)) }
-    ensures failed { OnErr result (HasFailed (S.failures sink.old) (S.failures sink.new)) }
-    ensures succeeded { OnOk result (S.failures sink.new ≡ S.failures sink.old) }
+    ensures { Sends (S.state sink.old) (S.state sink.new) result (allocation_text (sale_of book.now) allocation.now) }
 {
     let mut writer = Writer::new(sink);
     add_allocation(&mut writer, book, allocation.choices());
@@ -50,7 +44,7 @@ fn add_report<S: Sink>(
 )
     requires count { length groups.now ≡ length allocations.now }
     requires some { 0 < length allocations.now }
-    ensures { Adds S.taken S.failures writer.old writer.new
+    ensures { Adds S.state writer.old writer.new
         (report_text (sale_of book.now) groups.now allocations.now) }
 {
     add_groups(writer, book, allocations[0].choices(), groups, allocations);
@@ -64,7 +58,7 @@ fn add_after_report<S: Sink>(
     pricing: &Option<Pricing>,
     others: &OtherAwards,
 )
-    ensures { Adds S.taken S.failures writer.old writer.new
+    ensures { Adds S.state writer.old writer.new
         (pricing_text (sale_of book.now) first.now pricing.now
         ++ others_text (sale_of book.now) others.now) }
 {
@@ -83,7 +77,7 @@ fn add_report_with<S: Sink>(
 )
     requires count { length groups.now ≡ length allocations.now }
     requires some { 0 < length allocations.now }
-    ensures { Adds S.taken S.failures writer.old writer.new
+    ensures { Adds S.state writer.old writer.new
         (report_text (sale_of book.now) groups.now allocations.now
         ++ (pricing_text (sale_of book.now) (slice_index_or allocations.now 0 []) pricing.now
         ++ others_text (sale_of book.now) others.now)) }
@@ -101,12 +95,7 @@ pub fn report<S: Sink>(
 ) -> Result<(), WriteFault>
     requires count { length groups.now ≡ length allocations.now }
     requires first { starts_empty groups.now ≡ true }
-    ensures ok { OnOk result (Appends (S.taken sink.old) (S.taken sink.new)
-        (report_text (sale_of book.now) groups.now allocations.now)) }
-    ensures err { IfErr result (λ e. SentFront (S.taken sink.old) (S.taken sink.new)
-        (report_text (sale_of book.now) groups.now allocations.now) (written_of e)) }
-    ensures failed { OnErr result (HasFailed (S.failures sink.old) (S.failures sink.new)) }
-    ensures succeeded { OnOk result (S.failures sink.new ≡ S.failures sink.old) }
+    ensures { Sends (S.state sink.old) (S.state sink.new) result (report_text (sale_of book.now) groups.now allocations.now) }
 {
     let mut writer = Writer::new(sink);
     add_report(&mut writer, book, groups, allocations);
@@ -124,16 +113,9 @@ pub fn report_with<S: Sink>(
 ) -> Result<(), WriteFault>
     requires count { length groups.now ≡ length allocations.now }
     requires first { starts_empty groups.now ≡ true }
-    ensures ok { OnOk result (Appends (S.taken sink.old) (S.taken sink.new)
-        (report_text (sale_of book.now) groups.now allocations.now
+    ensures { Sends (S.state sink.old) (S.state sink.new) result (report_text (sale_of book.now) groups.now allocations.now
         ++ (pricing_text (sale_of book.now) (slice_index_or allocations.now 0 []) pricing.now
-        ++ others_text (sale_of book.now) others.now))) }
-    ensures err { IfErr result (λ e. SentFront (S.taken sink.old) (S.taken sink.new)
-        (report_text (sale_of book.now) groups.now allocations.now
-        ++ (pricing_text (sale_of book.now) (slice_index_or allocations.now 0 []) pricing.now
-        ++ others_text (sale_of book.now) others.now)) (written_of e)) }
-    ensures failed { OnErr result (HasFailed (S.failures sink.old) (S.failures sink.new)) }
-    ensures succeeded { OnOk result (S.failures sink.new ≡ S.failures sink.old) }
+        ++ others_text (sale_of book.now) others.now)) }
 {
     let mut writer = Writer::new(sink);
     add_report_with(&mut writer, book, groups, allocations, pricing, others);

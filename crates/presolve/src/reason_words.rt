@@ -52,7 +52,7 @@ fn add_over_supply<S: Sink>(
     asked: u32,
     supply: u32,
 )
-    ensures { Adds S.taken S.failures writer.old writer.new
+    ensures { Adds S.state writer.old writer.new
         (reason_text rules.now (reason.OverSupply category asked supply)) }
 {
     let mut asked_digits = Buffer::new();
@@ -76,7 +76,7 @@ fn add_over_cap<S: Sink>(
     load: u64,
     cap: u64,
 )
-    ensures { Adds S.taken S.failures writer.old writer.new
+    ensures { Adds S.state writer.old writer.new
         (reason_text rules.now (reason.OverCap pool load cap)) }
 {
     let mut load_digits = Buffer::new();
@@ -94,7 +94,7 @@ fn add_over_cap<S: Sink>(
 
 // Adds words and a number, and words after it.
 fn add_number<S: Sink>(writer: &mut Writer<'_, S>, before: &[u8], number: u64, after: &[u8])
-    ensures { Adds S.taken S.failures writer.old writer.new
+    ensures { Adds S.state writer.old writer.new
         (before.now ++ (decimal number ++ after.now)) }
 {
     let mut digits = Buffer::new();
@@ -104,7 +104,7 @@ fn add_number<S: Sink>(writer: &mut Writer<'_, S>, before: &[u8], number: u64, a
 
 // Adds what is reported of a reason.
 fn add_reason<S: Sink>(writer: &mut Writer<'_, S>, rules: &Rules, reason: Reason)
-    ensures { Adds S.taken S.failures writer.old writer.new (reason_text rules.now reason) }
+    ensures { Adds S.state writer.old writer.new (reason_text rules.now reason) }
 {
     match reason {
         Reason::OverSupply {
@@ -129,7 +129,7 @@ fn add_reason<S: Sink>(writer: &mut Writer<'_, S>, rules: &Rules, reason: Reason
 
 // Adds which bid a line is of.
 fn add_bid<S: Sink>(writer: &mut Writer<'_, S>, rules: &Rules, bidder: usize, number: usize)
-    ensures { Adds S.taken S.failures writer.old writer.new
+    ensures { Adds S.state writer.old writer.new
         (bidder_name (map (λ b. b.name) rules.now.bidders) bidder
         ++ (codes ": bid " ++ decimal number)) }
 {
@@ -150,7 +150,7 @@ pub fn add_replaced_line<S: Sink>(
     last: usize,
     number: usize,
 )
-    ensures { Adds S.taken S.failures writer.old writer.new
+    ensures { Adds S.state writer.old writer.new
         (replaced_line rules.now bidder last number) }
 {
     let mut digits = Buffer::new();
@@ -174,7 +174,7 @@ pub fn add_line<S: Sink>(
     number: usize,
     reason: Reason,
 )
-    ensures { Adds S.taken S.failures writer.old writer.new
+    ensures { Adds S.state writer.old writer.new
         (left_out_line rules.now bidder number reason) }
 {
     add_bid(writer, rules, bidder, number);

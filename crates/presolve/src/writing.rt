@@ -1,11 +1,10 @@
 //! Writing the lines of bids that no program has, and of forms that others replace.
 
-ghost use Rattle.std.specs.Prelude.{◌≡◌, ◌++◌, ◌==◌, [], None, flat_map, if◌then◌else◌, IfErr, OnErr, OnOk};
-ghost use Rattle.std.specs.Io.KnownBytes.{Appends};
+ghost use Rattle.std.specs.Prelude.{◌≡◌, ◌++◌, ◌==◌, [], None, flat_map, if◌then◌else◌};
 ghost use Rattle.std.specs.List.{last_or};
 ghost use Rattle.std.specs.Option.{option_map_or};
 ghost use Rattle.byte_sinks.specs.Adds.{Adds};
-ghost use Rattle.byte_sinks.specs.Sinks.{HasFailed, SentFront, written_of};
+ghost use Rattle.byte_sinks.specs.Sinks.{Sends};
 ghost use Rattle.presolve.specs.Lines.{form_lines, forms_by, left_out_line, left_out_lines, replaced_line, replaced_lines};
 
 use crate::reason::Reason;
@@ -22,7 +21,7 @@ fn add_left_out<S: Sink>(
     number: usize,
     why: Option<Reason>,
 )
-    ensures { Adds S.taken S.failures writer.old writer.new
+    ensures { Adds S.state writer.old writer.new
         (option_map_or (left_out_line rules.now bidder number) why []) }
 {
     if let Some(reason) = why {
@@ -37,7 +36,7 @@ fn add_form<S: Sink>(
     bidder: usize,
     reasons: &[Option<Reason>],
 )
-    ensures { Adds S.taken S.failures writer.old writer.new
+    ensures { Adds S.state writer.old writer.new
         (form_lines rules.now bidder reasons.now) }
 {
     for (place, &reason) in reasons.iter().enumerate() {
@@ -66,7 +65,7 @@ fn add_replaced<S: Sink>(
     last: usize,
     form: (usize, u16),
 )
-    ensures { Adds S.taken S.failures writer.old writer.new
+    ensures { Adds S.state writer.old writer.new
         (if form.1 == bidder then (if form.0 == last then []
         else replaced_line rules.now bidder last form.0) else []) }
 {
@@ -84,7 +83,7 @@ fn add_replaced_by<S: Sink>(
     bidder: usize,
     last: usize,
 )
-    ensures { Adds S.taken S.failures writer.old writer.new
+    ensures { Adds S.state writer.old writer.new
         (flat_map (λ number. if number == last then []
         else replaced_line rules.now bidder last number) (forms_by bidders.now bidder)) }
 {
@@ -100,7 +99,7 @@ fn add_replaced_forms<S: Sink>(
     bidders: &[u16],
     bidder: usize,
 )
-    ensures { Adds S.taken S.failures writer.old writer.new
+    ensures { Adds S.state writer.old writer.new
         (replaced_lines rules.now bidders.now bidder) }
 {
     if let Some(last) = last_form(bidders, bidder) {
@@ -116,7 +115,7 @@ fn add_bidder<S: Sink>(
     bidder: usize,
     reasons: &[Option<Reason>],
 )
-    ensures { Adds S.taken S.failures writer.old writer.new
+    ensures { Adds S.state writer.old writer.new
         (replaced_lines rules.now bidders.now bidder ++ form_lines rules.now bidder reasons.now) }
 {
     add_replaced_forms(writer, rules, bidders, bidder);
@@ -130,7 +129,7 @@ fn add_bidders<S: Sink>(
     bidders: &[u16],
     reasons: &Reasons,
 )
-    ensures { Adds S.taken S.failures writer.old writer.new
+    ensures { Adds S.state writer.old writer.new
         (left_out_lines rules.now bidders.now reasons.now) }
 {
     for place in 0..reasons.forms.len() {
@@ -147,12 +146,7 @@ pub fn write_left_out<S: Sink>(
     reasons: &Reasons,
     out: &mut S,
 ) -> Result<(), WriteFault>
-    ensures ok { OnOk result (Appends (S.taken out.old) (S.taken out.new)
-        (left_out_lines rules.now form_bidders.now reasons.now)) }
-    ensures err { IfErr result (λ e. SentFront (S.taken out.old) (S.taken out.new)
-        (left_out_lines rules.now form_bidders.now reasons.now) (written_of e)) }
-    ensures failed { OnErr result (HasFailed (S.failures out.old) (S.failures out.new)) }
-    ensures succeeded { OnOk result (S.failures out.new ≡ S.failures out.old) }
+    ensures { Sends (S.state out.old) (S.state out.new) result (left_out_lines rules.now form_bidders.now reasons.now) }
 {
     let mut writer = Writer::new(out);
     add_bidders(&mut writer, rules, form_bidders, reasons);

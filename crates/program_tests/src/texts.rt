@@ -34,9 +34,7 @@ impl Lengths {
 }
 
 impl Sink for Lengths {
-    ghost taken = { λ _. None };
-
-    ghost failures = { λ s. ⟦<MemorySink as Sink>⟧.failures s.text };
+    ghost state = { λ s. record (⟦<MemorySink as Sink>⟧.state s.text) { taken = None } };
 
     fn put(&mut self, bytes: &[u8]) -> Result<usize, SinkFailed> {
         self.shortest = self.shortest.min(bytes.len());

@@ -2,8 +2,9 @@
 
 ghost use Rattle.std.specs.Prelude.{None};
 
-use crate::out::is_standard_output;
-use auction_input::{FileFault, FileKind, FilePlace, FileRefusal, Files, is_standard_input};
+use auction_input::{
+    FileFault, FileKind, FilePlace, FileRefusal, Files, is_standard_input, is_standard_output,
+};
 use indexmap::IndexSet;
 use std::fs::{File, Metadata, OpenOptions};
 use std::io::ErrorKind;
@@ -150,7 +151,7 @@ impl<'r> Disk<'r> {
 }
 
 impl Files for Disk<'_> {
-    ghost content = { λ _ _. None };
+    ghost shelf = { λ _. record { content = λ _. None; looked = λ _ _. None } };
 
     type File = File;
 

@@ -26,9 +26,7 @@ impl<S: Sink + Drop> Noted<S> {
 }
 
 impl<S: Sink + Drop> Sink for Noted<S> {
-    ghost taken = { λ s. S.taken s.sink };
-
-    ghost failures = { λ s. S.failures s.sink };
+    ghost state = { λ s. S.state s.sink };
 
     fn put(&mut self, bytes: &[u8]) -> Result<usize, SinkFailed> {
         self.is_used = true;

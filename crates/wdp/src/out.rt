@@ -1,9 +1,10 @@
 //! Where the output goes: to standard output, or to a file that takes its place when it is whole.
 
-ghost use Rattle.std.specs.Prelude.{None};
+ghost use Rattle.std.specs.Prelude.{◌≡◌, IfOk, None};
+ghost use Rattle.std.specs.Option.{option_map};
 
 use crate::disk::fault_of;
-use auction_input::{FileFault, Output};
+use auction_input::{FileFault, Output, is_standard_output};
 use byte_sinks::{Sink, SinkFailed};
 use std::fs::{File, Metadata, OpenOptions};
 use std::io::{ErrorKind, Write};
@@ -15,11 +16,6 @@ use std::{fs, io};
 /// How many characters of a file's name the name of the new file beside it has: with what follows them no longer than names
 /// may be.
 const KEPT_CHARS: usize = 58;
-
-/// Whether a name given to -o is that of standard output.
-pub(crate) fn is_standard_output(name: &str) -> bool {
-    name == "-" || name == "/dev/stdout"
-}
 
 // A file that isn't whole yet, beside the one whose place it is to take.
 #[derive(Drop)]
@@ -101,7 +97,9 @@ fn unwritten(error: io::Error) -> FileFault {
 }
 
 impl NewFile {
-    fn make(rt: &HostRuntime, name: &str) -> Result<NewFile, FileFault> {
+    fn make(rt: &HostRuntime, name: &str) -> Result<NewFile, FileFault>
+        ensures { IfOk result (λ new. new.name.bytes.items ≡ name.now) }
+    {
         let old = fs::metadata(rt, name).ok();
         let place = place_of(rt, name, old.is_some()).map_err(unwritten)?;
         let path = path_beside(rt, place.as_str())?;
@@ -174,9 +172,11 @@ impl<'r> Out<'r> {
 }
 
 impl Sink for Out<'_> {
-    ghost taken = { λ _. None };
-
-    ghost failures = { λ s. s.failures };
+    ghost state = { λ s. record {
+      place = option_map (λ new. new.name.bytes.items) s.file;
+      taken = None;
+      failures = s.failures;
+    } };
 
     fn put(&mut self, bytes: &[u8]) -> Result<usize, SinkFailed> {
         let answer = match &mut self.file {

@@ -1,8 +1,7 @@
 //! The command `check`: the sizes of a program.
 
-ghost use Rattle.std.specs.Prelude.{◌≡◌, ◌-◌, ◌^◌, IfErr, OnErr, OnOk, length, min, sum_by};
-ghost use Rattle.std.specs.Io.KnownBytes.{Appends};
-ghost use Rattle.byte_sinks.specs.Sinks.{HasFailed, SentFront, written_of};
+ghost use Rattle.std.specs.Prelude.{◌≡◌, ◌-◌, ◌^◌, IfErr, OnOk, length, min, sum_by};
+ghost use Rattle.byte_sinks.specs.Sinks.{Sends};
 ghost use Rattle.answers.specs.Sizes.{sizes_text};
 ghost use Rattle.answers.specs.Answer.{answer};
 ghost use Rattle.answers.specs.Exact.{IsUnwritten, Writes};
@@ -28,12 +27,7 @@ fn entry_count(program: &Program) -> u64
 
 /// Writes how many rows beside the objective, columns and entries outside the objective there are. It takes no memory.
 pub fn write_sizes<S: Sink>(program: &Program, out: &mut S) -> Result<(), WriteFault>
-    ensures ok { OnOk result (Appends (S.taken out.old) (S.taken out.new)
-        (sizes_text program.now)) }
-    ensures err { IfErr result (λ e. SentFront (S.taken out.old) (S.taken out.new)
-        (sizes_text program.now) (written_of e)) }
-    ensures failed { OnErr result (HasFailed (S.failures out.old) (S.failures out.new)) }
-    ensures succeeded { OnOk result (S.failures out.new ≡ S.failures out.old) }
+    ensures { Sends (S.state out.old) (S.state out.new) result (sizes_text program.now) }
 {
     let mut rows = Buffer::new();
     let mut columns = Buffer::new();
@@ -52,12 +46,9 @@ pub fn write_sizes<S: Sink>(program: &Program, out: &mut S) -> Result<(), WriteF
 
 /// Writes the sizes of the program that the one text of the input is.
 pub fn check<S: Sink>(alloc: Global, input: &Input, out: &mut S) -> Result<(), Refusal>
-    ensures written { OnOk result (Writes (answer Request.Check input.now) (S.taken out.old)
-        (S.taken out.new)) }
-    ensures succeeded { OnOk result (S.failures out.new ≡ S.failures out.old) }
+    ensures written { OnOk result (Writes (answer Request.Check input.now) (S.state out.old) (S.state out.new)) }
     ensures refused { IfErr result (IsUnwritten Request.Check input.now
-        (record { taken = S.taken out.old; failures = S.failures out.old })
-        (record { taken = S.taken out.new; failures = S.failures out.new })) }
+        (S.state out.old) (S.state out.new)) }
 {
     let program = read_program(alloc, input.first_text())?;
     write_sizes(&program, out)?;

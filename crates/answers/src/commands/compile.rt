@@ -1,7 +1,7 @@
 //! The command `compile`: the programs of all groups.
 
-ghost use Rattle.std.specs.Prelude.{◌≡◌, ◌≤◌, [], IfErr, OnOk, length, map};
-ghost use Rattle.std.specs.Io.KnownBytes.{Appends};
+ghost use Rattle.std.specs.Prelude.{◌≤◌, [], IfErr, OnOk, length, map};
+ghost use Rattle.byte_sinks.specs.Sinks.{GoesWhole};
 ghost use Rattle.bid_desk.specs.Sale.{sale_of};
 ghost use Rattle.group_compiler.specs.Compiled.{compiled};
 ghost use Rattle.group_compiler.specs.Gates.{AreAllPast};
@@ -9,7 +9,7 @@ ghost use Rattle.auction_terms.specs.declared.limits.TheConstants.{MOST_WORKERS}
 ghost use Rattle.answers.specs.Exact.{Ends, Writes};
 ghost use Rattle.answers.specs.Answer.{output_of};
 ghost use Rattle.answers.specs.FaithfulTexts.{WritesFaithfulTexts};
-ghost use Rattle.answers.specs.GroupTexts.{FailsAsReported, StopsAsReported, programs_bytes};
+ghost use Rattle.answers.specs.GroupTexts.{StopsAsReported, programs_bytes};
 ghost use Rattle.auction_input.specs.Settled.{held};
 
 use crate::group_texts::{RunFault, write_programs};
@@ -40,14 +40,12 @@ pub fn run_compile<R: Threads + Wait + Sync, G: Gate + Sync, S: Sink>(
 ) -> Result<(), RunFault>
     requires some { 1 ≤ workers }
     requires few { workers ≤ MOST_WORKERS }
-    ensures ok { OnOk result (Appends (S.taken out.old) (S.taken out.new)
+    ensures ok { OnOk result (GoesWhole (S.state out.old) (S.state out.new)
         (programs_bytes book.now (map (compiled book.now) groups.now))) }
     ensures faithful { OnOk result (WritesFaithfulTexts (sale_of book.now) groups.now
-        (S.taken out.old) (S.taken out.new)) }
+        (S.state out.old).taken (S.state out.new).taken) }
     ensures stopped { IfErr result (StopsAsReported book.now (map (compiled book.now) groups.now)
-        (S.taken out.old) (S.taken out.new)) }
-    ensures failed { IfErr result (FailsAsReported (S.failures out.old) (S.failures out.new)) }
-    ensures succeeded { OnOk result (S.failures out.new ≡ S.failures out.old) }
+        (S.state out.old) (S.state out.new)) }
     ensures past { OnOk result (AreAllPast (length groups.now) (G.is_past gate.now)) }
 {
     book.within_limits();
@@ -67,11 +65,9 @@ pub fn write_programs_of<R: Threads + Wait + Sync + AllocGlobal, S: Sink>(
     requires some { 1 ≤ workers }
     requires few { workers ≤ MOST_WORKERS }
     ensures written { OnOk result (Writes (output_of (Request.Compile workers) (held auction.now))
-        (S.taken out.old) (S.taken out.new)) }
-    ensures succeeded { OnOk result (S.failures out.new ≡ S.failures out.old) }
+        (S.state out.old) (S.state out.new)) }
     ensures refused { IfErr result (Ends (output_of (Request.Compile workers) (held auction.now))
-        (record { taken = S.taken out.old; failures = S.failures out.old })
-        (record { taken = S.taken out.new; failures = S.failures out.new })) }
+        (S.state out.old) (S.state out.new)) }
 {
     let Auction { book, groups, .. } = auction;
     match run_compile(rt, rt.alloc(), book, groups, workers, &OpenGate, out) {

@@ -1,7 +1,7 @@
 //! The command `explain`: all faults of an input, or which bids are in no program.
 
-ghost use Rattle.std.specs.Prelude.{◌≡◌, ◌⊎◌, IfErr, IfOk, IsErr, MatchBool, None, OnOk, true};
-ghost use Rattle.std.specs.Io.KnownBytes.{Appends};
+ghost use Rattle.std.specs.Prelude.{◌⊎◌, IfErr, IfOk, IsErr, MatchBool, None, OnOk, true};
+ghost use Rattle.byte_sinks.specs.Sinks.{GoesWhole};
 ghost use Rattle.answers.specs.Answer.{answer, output_of};
 ghost use Rattle.answers.specs.Exact.{Ends, IsUnwritten, Writes};
 ghost use Rattle.answers.specs.Runs.{AsksAnswer};
@@ -28,17 +28,14 @@ pub fn explain_input<R: Threads + Wait + Sync + AllocGlobal, S: Sink>(
     out: &mut S,
 ) -> Result<bool, Refusal>
     ensures explained { IfOk result (λ faulty. MatchBool faulty
-        (IsErr (parsed_taken (Request.Explain bids target) input.now) × Appends (S.taken out.old)
-        (S.taken out.new) (explanation (Request.Explain bids target) input.now))
-        (Writes (answer (Request.Explain bids target) input.now) (S.taken out.old) (S.taken out.new))) }
-    ensures succeeded { OnOk result (S.failures out.new ≡ S.failures out.old) }
+        (IsErr (parsed_taken (Request.Explain bids target) input.now) × GoesWhole (S.state out.old) (S.state out.new) (explanation (Request.Explain bids target) input.now))
+        (Writes (answer (Request.Explain bids target) input.now) (S.state out.old) (S.state out.new))) }
     ensures refused { IfErr result (λ r. IsCutShort
         (explanation (Request.Explain bids target) input.now)
-        (S.taken out.old) (S.taken out.new) (S.failures out.old) (S.failures out.new) r
+        (S.state out.old) (S.state out.new) r
         ⊎ (AsksAnswer (Request.Explain bids target) input.now
         × IsUnwritten (Request.Explain bids target) input.now
-        (record { taken = S.taken out.old; failures = S.failures out.old })
-        (record { taken = S.taken out.new; failures = S.failures out.new }) r)) }
+        (S.state out.old) (S.state out.new) r)) }
 {
     let request = Request::Explain { bids, target };
     let faulty = explain(rt.alloc(), &request, input, out)?;
@@ -60,11 +57,9 @@ fn write_left_out_of<R: Threads + Sync + AllocGlobal, S: Sink>(
     out: &mut S,
 ) -> Result<(), Refusal>
     ensures written { OnOk result (Writes (output_of (Request.Explain true None) (held auction.now))
-        (S.taken out.old) (S.taken out.new)) }
-    ensures succeeded { OnOk result (S.failures out.new ≡ S.failures out.old) }
+        (S.state out.old) (S.state out.new)) }
     ensures refused { IfErr result (Ends (output_of (Request.Explain true None) (held auction.now))
-        (record { taken = S.taken out.old; failures = S.failures out.old })
-        (record { taken = S.taken out.new; failures = S.failures out.new })) }
+        (S.state out.old) (S.state out.new)) }
 {
     let reasons = Reasons::new(rt, rt.alloc(), &auction.book)?;
     write_left_out(
@@ -86,11 +81,9 @@ pub fn write_bids_of<R: Threads + Sync + AllocGlobal, S: Sink>(
     out: &mut S,
 ) -> Result<(), Refusal>
     ensures written { OnOk result (Writes (output_of (Request.Explain bids target) (held auction.now))
-        (S.taken out.old) (S.taken out.new)) }
-    ensures succeeded { OnOk result (S.failures out.new ≡ S.failures out.old) }
+        (S.state out.old) (S.state out.new)) }
     ensures refused { IfErr result (Ends (output_of (Request.Explain bids target) (held auction.now))
-        (record { taken = S.taken out.old; failures = S.failures out.old })
-        (record { taken = S.taken out.new; failures = S.failures out.new })) }
+        (S.state out.old) (S.state out.new)) }
 {
     check_wanted(target, auction)?;
     if bids {

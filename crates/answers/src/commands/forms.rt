@@ -1,9 +1,8 @@
 //! The command `forms`: the digests of the rules and of each bidder's last form.
 
-ghost use Rattle.std.specs.Prelude.{◌≡◌, ◌≤◌, IfErr, OnErr, OnOk, length};
-ghost use Rattle.std.specs.Io.KnownBytes.{Appends};
+ghost use Rattle.std.specs.Prelude.{◌≡◌, ◌≤◌, IfErr, OnOk, length};
 ghost use Rattle.byte_sinks.specs.Adds.{Adds};
-ghost use Rattle.byte_sinks.specs.Sinks.{HasFailed, SentFront, written_of};
+ghost use Rattle.byte_sinks.specs.Sinks.{Sends};
 ghost use Rattle.answers.specs.Answer.{answer};
 ghost use Rattle.answers.specs.Exact.{IsUnwritten, Writes};
 ghost use Rattle.answers.specs.Forms.{digest, rules_line};
@@ -33,7 +32,7 @@ fn digest_of(bytes: &[u8]) -> [u8; 64]
 
 // Adds the line of the rules.
 fn add_rules<S: Sink>(writer: &mut Writer<'_, S>, bytes: &[u8])
-    ensures { Adds S.taken S.failures writer.old writer.new (rules_line bytes.now) }
+    ensures { Adds S.state writer.old writer.new (rules_line bytes.now) }
 {
     let digest = digest_of(bytes);
     let pieces: [&[u8]; 3] = [b"%rules ", &digest, b"\n"];
@@ -42,7 +41,7 @@ fn add_rules<S: Sink>(writer: &mut Writer<'_, S>, bytes: &[u8])
 
 // Adds the line of a bidder without a form.
 fn add_none<S: Sink>(writer: &mut Writer<'_, S>, name: &[u8])
-    ensures { Adds S.taken S.failures writer.old writer.new (held_line name.now None) }
+    ensures { Adds S.state writer.old writer.new (held_line name.now None) }
 {
     let pieces: [&[u8]; 3] = [b"%form ", name, b" -\n"];
     writer.add_pieces(&pieces);
@@ -50,7 +49,7 @@ fn add_none<S: Sink>(writer: &mut Writer<'_, S>, name: &[u8])
 
 // Adds the line of a bidder with a form.
 fn add_form<S: Sink>(writer: &mut Writer<'_, S>, name: &[u8], form: LastForm<'_>)
-    ensures { Adds S.taken S.failures writer.old writer.new (held_line name.now (Some form.entry)) }
+    ensures { Adds S.state writer.old writer.new (held_line name.now (Some form.entry)) }
 {
     let mut bids = Buffer::new();
     let digest = digest_of(form.bytes);
@@ -68,7 +67,7 @@ fn add_form<S: Sink>(writer: &mut Writer<'_, S>, name: &[u8], form: LastForm<'_>
 
 // Adds the line of a bidder.
 fn add_bidder<S: Sink>(writer: &mut Writer<'_, S>, bidder: &Bidder, form: Option<LastForm<'_>>)
-    ensures { Adds S.taken S.failures writer.old writer.new (held_line bidder.now.name form.entry) }
+    ensures { Adds S.state writer.old writer.new (held_line bidder.now.name form.entry) }
 {
     match form {
         None => add_none(writer, bidder.name.as_bytes()),
@@ -79,7 +78,7 @@ fn add_bidder<S: Sink>(writer: &mut Writer<'_, S>, bidder: &Bidder, form: Option
 // Adds the lines of the bidders.
 fn add_bidders<S: Sink>(writer: &mut Writer<'_, S>, bidders: &[Bidder], last: &LastForms<'_>)
     requires { length bidders.now ≤ MOST_BIDDERS }
-    ensures { Adds S.taken S.failures writer.old writer.new (lines_held last.now bidders.now) }
+    ensures { Adds S.state writer.old writer.new (lines_held last.now bidders.now) }
 {
     for (place, bidder) in bidders.iter().enumerate() {
         add_bidder(writer, bidder, last.by_bidder[place + 1]);
@@ -88,7 +87,7 @@ fn add_bidders<S: Sink>(writer: &mut Writer<'_, S>, bidders: &[Bidder], last: &L
 
 // Adds all lines.
 fn add_lines<S: Sink>(writer: &mut Writer<'_, S>, parts: &FormParts<'_>)
-    ensures { Adds S.taken S.failures writer.old writer.new (held_text parts.now) }
+    ensures { Adds S.state writer.old writer.new (held_text parts.now) }
 {
     parts.rules.within_limits();
     add_rules(writer, parts.bytes);
@@ -97,11 +96,7 @@ fn add_lines<S: Sink>(writer: &mut Writer<'_, S>, parts: &FormParts<'_>)
 
 // Writes all lines. It takes no memory.
 fn write_lines<S: Sink>(parts: &FormParts<'_>, out: &mut S) -> Result<(), WriteFault>
-    ensures ok { OnOk result (Appends (S.taken out.old) (S.taken out.new) (held_text parts.now)) }
-    ensures err { IfErr result (λ e. SentFront (S.taken out.old) (S.taken out.new)
-        (held_text parts.now) (written_of e)) }
-    ensures failed { OnErr result (HasFailed (S.failures out.old) (S.failures out.new)) }
-    ensures succeeded { OnOk result (S.failures out.new ≡ S.failures out.old) }
+    ensures { Sends (S.state out.old) (S.state out.new) result (held_text parts.now) }
 {
     let mut writer = Writer::new(out);
     add_lines(&mut writer, parts);
@@ -114,12 +109,9 @@ pub fn write_forms<R: Threads + Sync + AllocGlobal, S: Sink>(
     input: &Input,
     out: &mut S,
 ) -> Result<(), Refusal>
-    ensures written { OnOk result (Writes (answer Request.Forms input.now) (S.taken out.old)
-        (S.taken out.new)) }
-    ensures succeeded { OnOk result (S.failures out.new ≡ S.failures out.old) }
+    ensures written { OnOk result (Writes (answer Request.Forms input.now) (S.state out.old) (S.state out.new)) }
     ensures refused { IfErr result (IsUnwritten Request.Forms input.now
-        (record { taken = S.taken out.old; failures = S.failures out.old })
-        (record { taken = S.taken out.new; failures = S.failures out.new })) }
+        (S.state out.old) (S.state out.new)) }
 {
     let alloc: Global = rt.alloc();
     let parts = read_last_forms(rt, alloc, input)?;

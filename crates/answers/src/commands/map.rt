@@ -31,11 +31,9 @@ pub fn write_winners<R: Threads + Wait + Sync + AllocGlobal, S: Sink>(
 ) -> Result<(), Refusal>
     requires { 1 ≤ k }
     ensures written { OnOk result (Writes (output_of (Request.Map k) (held auction.now))
-        (S.taken out.old) (S.taken out.new)) }
-    ensures succeeded { OnOk result (S.failures out.new ≡ S.failures out.old) }
+        (S.state out.old) (S.state out.new)) }
     ensures refused { IfErr result (Ends (output_of (Request.Map k) (held auction.now))
-        (record { taken = S.taken out.old; failures = S.failures out.old })
-        (record { taken = S.taken out.new; failures = S.failures out.new })) }
+        (S.state out.old) (S.state out.new)) }
 {
     let Auction { book, groups, .. } = auction;
     if k > groups.count() {

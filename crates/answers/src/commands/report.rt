@@ -1,6 +1,6 @@
 //! The command `report`: what the solutions of all groups win, and what each group costs the others.
 
-ghost use Rattle.std.specs.Prelude.{◌≡◌, ◌≤◌, IfErr, OnOk};
+ghost use Rattle.std.specs.Prelude.{◌≤◌, IfErr, OnOk};
 ghost use Rattle.answers.specs.Exact.{Ends, Writes};
 ghost use Rattle.answers.specs.Answer.{output_of};
 ghost use Rattle.auction_input.specs.Settled.{held};
@@ -24,11 +24,9 @@ pub fn write_costs<R: Threads + Wait + Sync + AllocGlobal, S: Sink>(
     requires some { 1 ≤ workers }
     requires few { workers ≤ MOST_WORKERS }
     ensures written { OnOk result (Writes (output_of (Request.Report workers) (held auction.now))
-        (S.taken out.old) (S.taken out.new)) }
-    ensures succeeded { OnOk result (S.failures out.new ≡ S.failures out.old) }
+        (S.state out.old) (S.state out.new)) }
     ensures refused { IfErr result (Ends (output_of (Request.Report workers) (held auction.now))
-        (record { taken = S.taken out.old; failures = S.failures out.old })
-        (record { taken = S.taken out.new; failures = S.failures out.new })) }
+        (S.state out.old) (S.state out.new)) }
 {
     check_counts(auction)?;
     let compiler = Compiler::new(rt, rt.alloc(), &auction.book, &auction.groups)?;

@@ -1,6 +1,6 @@
 //! The command `text`: the program with nobody left out.
 
-ghost use Rattle.std.specs.Prelude.{◌≡◌, ◌≤◌, [], IfErr, OnOk};
+ghost use Rattle.std.specs.Prelude.{◌≤◌, [], IfErr, OnOk};
 ghost use Rattle.answers.specs.Exact.{Ends, Writes};
 ghost use Rattle.answers.specs.FaithfulAnswers.{IsFaithfulToSale};
 ghost use Rattle.answers.specs.Answer.{output_of};
@@ -38,12 +38,10 @@ pub fn write_program_of_all<R: Threads + Wait + Sync + AllocGlobal, S: Sink>(
     out: &mut S,
 ) -> Result<(), Refusal>
     ensures written { OnOk result (Writes (output_of Request.Text (held auction.now))
-        (S.taken out.old) (S.taken out.new)) }
+        (S.state out.old) (S.state out.new)) }
     ensures faithful { OnOk result (IsFaithfulToSale (sale_of auction.now.book) []) }
-    ensures succeeded { OnOk result (S.failures out.new ≡ S.failures out.old) }
     ensures refused { IfErr result (Ends (output_of Request.Text (held auction.now))
-        (record { taken = S.taken out.old; failures = S.failures out.old })
-        (record { taken = S.taken out.new; failures = S.failures out.new })) }
+        (S.state out.old) (S.state out.new)) }
 {
     let alloc: Global = rt.alloc();
     let book = &auction.book;

@@ -1,7 +1,7 @@
 //! The command `verify`: a report of solutions that certificates show to be optimal, prices that are shown to cover every group,
 //! and what is known of other awards.
 
-ghost use Rattle.std.specs.Prelude.{◌≡◌, ◌≤◌, IfErr, OnOk};
+ghost use Rattle.std.specs.Prelude.{◌≤◌, IfErr, OnOk};
 ghost use Rattle.auction_terms.specs.declared.limits.TheConstants.{MOST_WORKERS};
 ghost use Rattle.answers.specs.Answer.{answer, output_of};
 ghost use Rattle.auction_input.specs.Settled.{held};
@@ -36,14 +36,12 @@ pub fn verify<R: Threads + Wait + Sync + AllocGlobal, S: Sink>(
     requires some { 1 ≤ workers }
     requires few { workers ≤ MOST_WORKERS }
     ensures written { OnOk result (Writes (answer (Request.Verify workers) input.now)
-        (S.taken out.old) (S.taken out.new)) }
+        (S.state out.old) (S.state out.new)) }
     ensures sold { OnOk result (HasSold (Request.Verify workers) input.now) }
-    ensures true_report { OnOk result (WritesTrueReportOn workers input.now (S.taken out.old)
-        (S.taken out.new)) }
-    ensures succeeded { OnOk result (S.failures out.new ≡ S.failures out.old) }
+    ensures true_report { OnOk result (WritesTrueReportOn workers input.now (S.state out.old).taken
+        (S.state out.new).taken) }
     ensures refused { IfErr result (IsUnwritten (Request.Verify workers) input.now
-        (record { taken = S.taken out.old; failures = S.failures out.old })
-        (record { taken = S.taken out.new; failures = S.failures out.new })) }
+        (S.state out.old) (S.state out.new)) }
 {
     answer_auction(rt, &Request::Verify { workers }, input, out)
 }
@@ -60,13 +58,11 @@ pub fn write_verified<R: Threads + Wait + Sync + AllocGlobal, S: Sink>(
     requires some { 1 ≤ workers }
     requires few { workers ≤ MOST_WORKERS }
     ensures written { OnOk result (Writes (output_of (Request.Verify workers) (held auction.now))
-        (S.taken out.old) (S.taken out.new)) }
-    ensures true_report { OnOk result (WritesTrueReport (held auction.now) (S.taken out.old)
-        (S.taken out.new)) }
-    ensures succeeded { OnOk result (S.failures out.new ≡ S.failures out.old) }
+        (S.state out.old) (S.state out.new)) }
+    ensures true_report { OnOk result (WritesTrueReport (held auction.now) (S.state out.old).taken
+        (S.state out.new).taken) }
     ensures refused { IfErr result (IsWithoutOutput (Request.Verify workers) (held auction.now)
-        (record { taken = S.taken out.old; failures = S.failures out.old })
-        (record { taken = S.taken out.new; failures = S.failures out.new })) }
+        (S.state out.old) (S.state out.new)) }
 {
     check_counts(auction)?;
     let alloc: Global = rt.alloc();

@@ -1,7 +1,8 @@
 //! What the program's calls answer. Where any one growth or start of a thread is refused (see tests/test_refused_calls.py), they
 //! report that memory was short and have put nothing, or the same.
 
-ghost use Rattle.std.specs.Prelude.{ℕ, List, Option, None};
+ghost use Rattle.std.specs.Prelude.{None};
+ghost use Rattle.byte_sinks.specs.Sinks.{unused};
 
 use super::files::NO_FILES;
 use super::{RUNS, Run, TWO_GROUPS, TWO_PROGRAMS, reported};
@@ -49,9 +50,7 @@ impl Expected {
 }
 
 impl Sink for Expected {
-    ghost taken = { λ _. None };
-
-    ghost failures = { λ _. 0 };
+    ghost state = { λ _. unused None };
 
     fn put(&mut self, bytes: &[u8]) -> Result<usize, SinkFailed> {
         match self.rest.strip_prefix(bytes) {

@@ -1,9 +1,10 @@
-use Rattle.std.proofs.Common.{rules, ◌≡◌, ◌<◌, ◌+◌, ◌++◌, ◌∙◌, ℕ, List, ap, length, map, take, drop, sym, arith, refl}
+use Rattle.std.proofs.Common.{rules, ◌≡◌, ◌<◌, ◌+◌, ◌++◌, ◌≤◌, ℕ, List, ap, length, map, take, drop, sym, subst, arith, refl, take_all}
 use Rattle.std.proofs.lemmas.List.{append-nil, length-map}
 use Rattle.group_compiler.specs.Compiled.{GroupProgram, compiled}
-use Rattle.byte_sinks.proofs.AddingFacts.{Adds-then, Adds-to, sent-quiet}
+use Rattle.byte_sinks.proofs.AddingFacts.{Adds-then, Adds-to, goes-whole}
+use Rattle.byte_sinks.specs.Sinks.{GoesWhole}
 use Rattle.outcome.specs.Report.{in_turn}
-use Rattle.answers.specs.GroupTexts.{program_bytes}
+use Rattle.answers.specs.GroupTexts.{program_bytes, programs_bytes}
 use Rattle.answers.proofs.GroupTextFacts.{ends-in, ends-parsed, fails-parsed, in_turn-rest, programs-more}
 use Rattle.answers.proofs.group_texts.write_programs.Goals as goal
 
@@ -43,13 +44,17 @@ returns-in-Err-clause-stopped g c =
     let whole : in_turn f 1 programs ≡ (in_turn f 1 (take place programs) ++ f (place + 1) x) ++ later = rw bytes rest in
     let ends = ends-parsed _ (in_turn f 1 (take place programs)) (f (place + 1) x) later c.new-writer.ensures i.added i.sent own
     c.in-Err.ensures.err (search rules) in
-    rw c.fault_in.ensures (omega arith, omega arith, ends-in book programs place _ _ _ _ _ _ whole refl (sym bytes) ends)
+    let (fails, place_kept) = fails-parsed _ c.new-writer.ensures i.added (Adds-then c.add_group.ensures c.flush.ensures.adds) c.in-Err.ensures.err (search rules) in
+    rw c.fault_in.ensures (omega arith, omega arith, ends-in book programs place _ _ _ _ _ _ whole refl (sym bytes) ends, fails, place_kept)
 
-pub returns-in-Err-clause-failed : goal.returns-in-Err-clause-failed
-returns-in-Err-clause-failed g c = rw c.fault_in.ensures (fails-parsed _ c.new-writer.ensures c.loop-place.invariant.added
-    (Adds-then c.add_group.ensures c.flush.ensures.adds) c.in-Err.ensures.err (search rules))
-
-pub returns-clause-succeeded : goal.returns-clause-succeeded
-returns-clause-succeeded g c =
+pub returns-clause-ok : goal.returns-clause-ok
+returns-clause-ok g c =
     let out : c.out-1.given.0 ≡ c.loop-place.writer.sink.now = search rules in
-    ap g.S.Sink.failures out ∙ sent-quiet c.new-writer.ensures c.loop-place.invariant.added c.loop-place.invariant.sent
+    let book = c.args.book.now in
+    let groups = c.args.groups.now in
+    let programs = map (compiled book) groups in
+    let size : length programs ≤ c.loop-place.place =
+    (let l = c.loop-place-test.false in let e = c.count-place-end.ensures.count in omega (arith, length-map groups (compiled book))) in
+    let whole = Adds-to c.loop-place.invariant.added (ap (programs_bytes book) (take_all c.loop-place.place programs size)) in
+    subst (λ s. GoesWhole (g.S.Sink.state c.args.out.now) (g.S.Sink.state s) (programs_bytes book programs)) (sym out)
+    (goes-whole c.new-writer.ensures whole c.loop-place.invariant.sent)

@@ -7,6 +7,6 @@ use Rattle.answers.proofs.group_texts.write_programs.Given as goal
 -- the groups so far have gone out, and nothing waits
 abbrev pub invariant-loop-place : goal.invariant-loop-place
 invariant-loop-place g l = record {
-  added : Adds g.S.Sink.taken g.S.Sink.failures l.initial.writer l.writer (programs_bytes l.fn.book (take l.place (map (compiled l.fn.book) l.groups)));
+  added : Adds g.S.Sink.state l.initial.writer l.writer (programs_bytes l.fn.book (take l.place (map (compiled l.fn.book) l.groups)));
   sent : IsSent l.writer;
 }

@@ -1,9 +1,6 @@
 use Rattle.std.proofs.Common.{rules}
-use Rattle.byte_sinks.proofs.AddingFacts.{tells-front, tells-quiet}
+use Rattle.byte_sinks.proofs.AddingFacts.{sends}
 use Rattle.answers.proofs.pieces.write_pieces.Goals as goal
 
-pub returns-clause-err : goal.returns-clause-err
-returns-clause-err g c = tells-front _ c.flush.result c.new-writer.ensures c.add_pieces.ensures c.flush.ensures.adds c.flush.ensures.err (search rules)
-
-pub returns-clause-succeeded : goal.returns-clause-succeeded
-returns-clause-succeeded g c = tells-quiet _ c.flush.result c.new-writer.ensures c.add_pieces.ensures c.flush.ensures.adds c.flush.ensures.ok (search rules)
+pub returns : goal.returns
+returns g c = sends _ c.flush.result c.new-writer.ensures c.add_pieces.ensures c.flush.ensures.adds c.flush.ensures.ok c.flush.ensures.err (search rules)

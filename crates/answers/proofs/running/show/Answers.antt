@@ -7,6 +7,6 @@ pub returns-in-Err-clause-refused : goal.returns-in-Err-clause-refused
 returns-in-Err-clause-refused g c = λ one. (
   refusal.Write c.in-Err.fault,
   cut-short (Ok
-      _) _ _ _ c.in-Err.fault refl c.in-Err.ensures.err c.in-Err.ensures.failed,
+      _) _ _ _ c.in-Err.fault refl c.in-Err.ensures,
   c.print_refusal.ensures,
 )

@@ -10,7 +10,7 @@ loop-name-init g c = rw c.new-texts.ensures.items ((refl, refl), omega arith, re
 
 pub loop-name-preserved : goal.loop-name-preserved
 loop-name-preserved g c =
-    let content = g.D.Files.content c.args.files.now in
+    let content = (g.D.Files.shelf c.args.files.now).content in
     let (read, sum, same, at) = c.loop-name.invariant in
     let names = c.args.names.now in
     let i = c.loop-name.name-index in
@@ -33,11 +33,11 @@ loop-name-preserved g c =
 pub returns-in-Err-clause-unread : goal.returns-in-Err-clause-unread
 returns-in-Err-clause-unread g c =
     let (read, sum, same, at) = c.loop-name.invariant in
-    unread-after c.in-Err.fault _ _ _ _ _ _ (texts-in-part (g.D.Files.content c.args.files.now) _ _ _ _ read) same c.in-Err.ensures.unread
+    unread-after c.in-Err.fault _ _ _ _ _ _ (texts-in-part ((g.D.Files.shelf c.args.files.now).content) _ _ _ _ read) same c.in-Err.ensures.unread
 
 pub returns-in-Err-add_given-clause-unread : goal.returns-in-Err-add_given-clause-unread
 returns-in-Err-add_given-clause-unread g c =
-    let content = g.D.Files.content c.args.files.now in
+    let content = (g.D.Files.shelf c.args.files.now).content in
     let (read, sum, same, at) = c.loop-name.invariant in (
       c.in-Ok.ensures.unfailed ∙ same,
       part-then _ _ _ (texts-in-part content _ _ _ _ read) (text-in-part content c.in-Ok.given.name _ _

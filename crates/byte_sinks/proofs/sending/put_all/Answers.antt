@@ -5,7 +5,7 @@ use Rattle.byte_sinks.specs.declared.writer.TheConstants.{PIECE_LEN}
 use Rattle.byte_sinks.proofs.sending.put_all.Goals as goal
 
 pub loop-from-init : goal.loop-from-init
-loop-from-init g c = record { within = omega arith; gone = Appends-nothing _; count = omega arith; failures = search rules }
+loop-from-init g c = record { within = omega arith; gone = Appends-nothing _; count = omega arith; failures = search rules; place = search rules }
 
 pub returns-in_err-n-clause-err : goal.returns-in_err-n-clause-err
 returns-in_err-n-clause-err g c =
@@ -24,4 +24,5 @@ loop-from-preserved g c =
           c.front_piece.ensures c.in_ok-n.ensures.within) i.gone c.in_ok-n.ensures.took;
       count = c.saturating_add.ensures;
       failures = c.in_ok-n.ensures.succeeded ∙ i.failures;
+      place = c.in_ok-n.ensures.placed ∙ i.place;
     }

@@ -7,9 +7,10 @@ use Rattle.byte_sinks.proofs.sending.put_all.Given as goal
 abbrev pub invariant-loop-from : goal.invariant-loop-from
 invariant-loop-from g l = record {
   within : l.from ≤ length l.bytes;
-  gone : Appends (g.S.Sink.taken l.initial.sink) (g.S.Sink.taken l.sink) (take l.from l.bytes);
+  gone : Appends (g.S.Sink.state l.initial.sink).taken (g.S.Sink.state l.sink).taken (take l.from l.bytes);
   count : l.sent ≡ min (l.initial.sent + l.from) (2 ^ 64 - 1);
-  failures : g.S.Sink.failures l.sink ≡ g.S.Sink.failures l.initial.sink;
+  failures : (g.S.Sink.state l.sink).failures ≡ (g.S.Sink.state l.initial.sink).failures;
+  place : (g.S.Sink.state l.sink).place ≡ (g.S.Sink.state l.initial.sink).place;
 }
 
 abbrev pub decreases-loop-from : goal.decreases-loop-from

@@ -7,4 +7,4 @@ use Rattle.group_compiler.proofs.writing.add_joined.Given as goal
 
 -- the lines of the pages so far are added
 abbrev pub invariant-loop-place : goal.invariant-loop-place
-invariant-loop-place g l = Adds g.S.Sink.taken g.S.Sink.failures l.initial.writer l.writer (joined l.section (outside (has l.group) 1 (take l.place l.pages)))
+invariant-loop-place g l = Adds g.S.Sink.state l.initial.writer l.writer (joined l.section (outside (has l.group) 1 (take l.place l.pages)))

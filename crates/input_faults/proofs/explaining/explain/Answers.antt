@@ -10,11 +10,11 @@ use Rattle.input_faults.proofs.explaining.explain.Goals as goal
 
 pub returns-in_err-faults-clause-refused : goal.returns-in_err-faults-clause-refused
 returns-in_err-faults-clause-refused g c =
-    if-err-of (IsCutShort _ _ _ _ _) c.from_residual.result refusal.OutOfMemory c.from_residual.ensures.1 (by_memory refl refl)
+    if-err-of (IsCutShort _ _ _) c.from_residual.result refusal.OutOfMemory c.from_residual.ensures.1 (by_memory refl)
 
 pub returns-in_err-lines-clause-refused : goal.returns-in_err-lines-clause-refused
 returns-in_err-lines-clause-refused g c =
-    if-err-of (IsCutShort _ _ _ _ _) c.from_residual-in_err-lines.result refusal.OutOfMemory c.from_residual-in_err-lines.ensures.1 (by_memory refl refl)
+    if-err-of (IsCutShort _ _ _) c.from_residual-in_err-lines.result refusal.OutOfMemory c.from_residual-in_err-lines.ensures.1 (by_memory refl)
 
 pub returns-in_err-put_lines-clause-refused : goal.returns-in_err-put_lines-clause-refused
 returns-in_err-put_lines-clause-refused g c =
@@ -22,19 +22,19 @@ returns-in_err-put_lines-clause-refused g c =
     let lines = c.deref.ensures.value ∙ c.in_ok-lines.ensures
     ∙ held-lines (message_of c.args.input.now.texts) (detail c.args.request.now c.args.input.now) c.in_ok-faults.faults _
     c.in_ok-faults.ensures in
-    if-err-of (IsCutShort _ _ _ _ _) c.from_residual-in_err-put_lines.result (refusal.Write f) c.from_residual-in_err-put_lines.ensures.1
-    (cut-short _ _ _ _ _ f (rw lines at c.in_err-put_lines.ensures.err) c.in_err-put_lines.ensures.failed)
+    if-err-of (IsCutShort _ _ _) c.from_residual-in_err-put_lines.result (refusal.Write f) c.from_residual-in_err-put_lines.ensures.1
+    (cut-short _ _ _ f (rw lines at c.in_err-put_lines.ensures))
 
 pub returns-clause-written : goal.returns-clause-written
 returns-clause-written g c =
     let lines = c.deref.ensures.value ∙ c.in_ok-lines.ensures
     ∙ held-lines (message_of c.args.input.now.texts) (detail c.args.request.now c.args.input.now) c.in_ok-faults.faults _
     c.in_ok-faults.ensures in
-    rw lines at c.in_ok-put_lines.ensures.ok
+    rw lines at c.in_ok-put_lines.ensures
 
 pub returns-then-is_empty-clause-written : goal.returns-then-is_empty-clause-written
 returns-then-is_empty-clause-written g c =
-    nothing-found c.args.request.now c.args.input.now c.in_ok-faults.faults (g.S.Sink.taken c.args.out.now) c.in_ok-faults.ensures
+    nothing-found c.args.request.now c.args.input.now c.in_ok-faults.faults (g.S.Sink.state c.args.out.now) c.in_ok-faults.ensures
     (let e = c.is_empty.ensures in search rules)
 
 pub returns-then-is_empty-clause-faulty : goal.returns-then-is_empty-clause-faulty

@@ -8,5 +8,5 @@ use Rattle.input_faults.proofs.lines.add_lines_under.Given as goal
 
 -- the lines so far are added
 abbrev pub invariant-loop-at : goal.invariant-loop-at
-invariant-loop-at g l = Adds g.S.Sink.taken g.S.Sink.failures l.initial.writer l.writer
+invariant-loop-at g l = Adds g.S.Sink.state l.initial.writer l.writer
     (flat_map (kept_line (message_of l.places) (detail_under l.rules)) (take l.at-index l.faults))

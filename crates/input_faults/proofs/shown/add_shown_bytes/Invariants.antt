@@ -6,4 +6,4 @@ use Rattle.input_faults.proofs.shown.add_shown_bytes.Given as goal
 
 -- the bytes so far are added
 abbrev pub invariant-loop-byte : goal.invariant-loop-byte
-invariant-loop-byte g l = Adds g.S.Sink.taken g.S.Sink.failures l.initial.writer l.writer (flat_map shown_byte (take l.byte-index l.bytes))
+invariant-loop-byte g l = Adds g.S.Sink.state l.initial.writer l.writer (flat_map shown_byte (take l.byte-index l.bytes))

@@ -6,4 +6,4 @@ use Rattle.mps_text.proofs.sections.add_bounds.Given as goal
 
 -- the lines so far are added
 abbrev pub invariant-loop-place : goal.invariant-loop-place
-invariant-loop-place g l = Adds g.S.Sink.taken g.S.Sink.failures l.initial.writer l.writer (flat_map bound_bytes (take l.place l.columns))
+invariant-loop-place g l = Adds g.S.Sink.state l.initial.writer l.writer (flat_map bound_bytes (take l.place l.columns))

@@ -7,5 +7,5 @@ use Rattle.mps_text.proofs.sections.add_columns.Given as goal
 
 -- the lines so far are added
 abbrev pub invariant-loop-place : goal.invariant-loop-place
-invariant-loop-place g l = Adds g.S.Sink.taken g.S.Sink.failures l.initial.writer l.writer
+invariant-loop-place g l = Adds g.S.Sink.state l.initial.writer l.writer
     (flat_map (column_bytes l.objective (map shown_row l.rows)) (take l.place l.columns))

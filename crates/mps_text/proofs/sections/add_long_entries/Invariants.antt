@@ -7,5 +7,5 @@ use Rattle.mps_text.proofs.sections.add_long_entries.Given as goal
 
 -- the lines so far are added
 abbrev pub invariant-loop-entry : goal.invariant-loop-entry
-invariant-loop-entry g l = Adds g.S.Sink.taken g.S.Sink.failures l.initial.writer l.writer
+invariant-loop-entry g l = Adds g.S.Sink.state l.initial.writer l.writer
     (flat_map (entry_bytes (map shown_row l.rows) l.name) (take l.entry-index l.entries))

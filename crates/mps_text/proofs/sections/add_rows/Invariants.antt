@@ -7,4 +7,4 @@ use Rattle.mps_text.proofs.sections.add_rows.Given as goal
 
 -- the lines so far are added
 abbrev pub invariant-loop-row : goal.invariant-loop-row
-invariant-loop-row g l = Adds g.S.Sink.taken g.S.Sink.failures l.initial.writer l.writer (flat_map (λ r. row_bytes (shown_row r)) (take l.row-index l.rows))
+invariant-loop-row g l = Adds g.S.Sink.state l.initial.writer l.writer (flat_map (λ r. row_bytes (shown_row r)) (take l.row-index l.rows))

@@ -7,5 +7,5 @@ use Rattle.outcome.proofs.others.add_ties.Given as goal
 
 -- the ties so far are added
 abbrev pub invariant-loop-award : goal.invariant-loop-award
-invariant-loop-award g l = Adds g.S.Sink.taken g.S.Sink.failures l.initial.writer l.writer
+invariant-loop-award g l = Adds g.S.Sink.state l.initial.writer l.writer
     (flat_map (tie_text (sale_of l.book)) (take l.award-index l.awards))

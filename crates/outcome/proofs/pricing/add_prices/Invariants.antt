@@ -7,5 +7,5 @@ use Rattle.outcome.proofs.pricing.add_prices.Given as goal
 
 -- the lines so far are added
 abbrev pub invariant-loop-choice : goal.invariant-loop-choice
-invariant-loop-choice g l = Adds g.S.Sink.taken g.S.Sink.failures l.initial.writer l.writer
+invariant-loop-choice g l = Adds g.S.Sink.state l.initial.writer l.writer
     (flat_map (price_line (sale_of l.book) l.pricing) (take l.choice-index l.choices))

@@ -7,5 +7,5 @@ use Rattle.outcome.proofs.report_lines.add_groups.Given as goal
 
 -- the groups so far are added
 abbrev pub invariant-loop-i : goal.invariant-loop-i
-invariant-loop-i g l = Adds g.S.Sink.taken g.S.Sink.failures l.initial.writer l.writer
+invariant-loop-i g l = Adds g.S.Sink.state l.initial.writer l.writer
     (in_turn (group_report (sale_of l.book) l.first) 1 (zip (take l.i l.groups) (take l.i l.allocations)))

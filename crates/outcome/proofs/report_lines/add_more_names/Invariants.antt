@@ -6,5 +6,5 @@ use Rattle.outcome.proofs.report_lines.add_more_names.Given as goal
 
 -- the names so far are added
 abbrev pub invariant-loop-bidder : goal.invariant-loop-bidder
-invariant-loop-bidder g l = Adds g.S.Sink.taken g.S.Sink.failures l.initial.writer l.writer
+invariant-loop-bidder g l = Adds g.S.Sink.state l.initial.writer l.writer
     (flat_map (λ further. 43 ∷ bidder_name (sale_of l.book).names further) (take l.bidder-index l.bidders))

@@ -10,6 +10,6 @@ use Rattle.presolve.proofs.writing.add_form.Given as goal
 -- the lines so far are added
 abbrev pub invariant-loop-place : goal.invariant-loop-place
 invariant-loop-place g l =
-    Adds g.S.Sink.taken g.S.Sink.failures l.initial.writer l.writer
+    Adds g.S.Sink.state l.initial.writer l.writer
     (flat_map (λ (numbered : ℕ × Option Reason). option_map_or (left_out_line l.rules l.bidder numbered.0) numbered.1 [])
     (take l.place (enumerate_from 1 l.reasons)))

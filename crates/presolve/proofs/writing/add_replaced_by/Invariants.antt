@@ -8,6 +8,6 @@ use Rattle.presolve.proofs.writing.add_replaced_by.Given as goal
 -- the lines of the bidder's forms so far
 abbrev pub invariant-loop-place : goal.invariant-loop-place
 invariant-loop-place g l =
-    Adds g.S.Sink.taken g.S.Sink.failures l.initial.writer l.writer
+    Adds g.S.Sink.state l.initial.writer l.writer
     (flat_map (λ (form : ℕ × ℕ). cond (form.1 == l.bidder) (cond (form.0 == l.last) [] (replaced_line l.rules l.bidder l.last form.0)) [])
     (take l.place (enumerate_from 1 l.bidders)))

@@ -12,7 +12,7 @@ use Rattle.answers.specs.Sizes.{sizes_text}
 use Rattle.auction_terms.specs.Stages.{and_then, refused_as}
 use Rattle.auction_input.specs.declared.refusal.Refusal.TheVariants as refusal
 use Rattle.auction_input.specs.declared.request.Request.TheVariants as request
-use Rattle.answers.proofs.CommandFacts.{cut-short, state}
+use Rattle.answers.proofs.CommandFacts.{cut-short}
 use Rattle.answers.proofs.FaultFacts.{program-refuses, program_refused}
 use Rattle.auction_input.proofs.InputTextFacts.{sized}
 use Rattle.answers.proofs.ProgramTextFacts.{program-refused, program-parsed}
@@ -24,7 +24,7 @@ pub returns-in_err-program-clause-refused : goal.returns-in_err-program-clause-r
 returns-in_err-program-clause-refused g c =
     let input = c.args.input.now in
     let text = only_text (text_bytes input) in
-    let before = state (g.S.Sink.taken c.args.out.now) (g.S.Sink.failures c.args.out.now) in
+    let before = g.S.Sink.state c.args.out.now in
     let f = c.in_err-program.field-0.0 in
     let refused = program-refuses f (sized PROGRAM_LIMIT (0, kind.TooLarge) meaning text)
     (program-refused text f (rw c.first_text.ensures at c.in_err-program.ensures.too_large)
@@ -37,8 +37,8 @@ returns-in_err-write_sizes-clause-refused g c =
     let input = c.args.input.now in
     let text = only_text (text_bytes input) in
     let p = c.in_ok-program.program in
-    let before = state (g.S.Sink.taken c.args.out.now) (g.S.Sink.failures c.args.out.now) in
-    let after = state (g.S.Sink.taken c.write_sizes.new.out) (g.S.Sink.failures c.write_sizes.new.out) in
+    let before = g.S.Sink.state c.args.out.now in
+    let after = g.S.Sink.state c.write_sizes.new.out in
     let f = c.in_err-write_sizes.field-0.0 in
     let parsed = program-parsed text p (rw c.first_text.ensures at c.in_ok-program.ensures.too_large)
     (rw c.first_text.ensures at c.in_ok-program.ensures.meaning) in
@@ -46,7 +46,7 @@ returns-in_err-write_sizes-clause-refused g c =
     ap (λ (r : Result Table (ℕ × MpsFaultKind)). and_then (refused_as program_refused r) (λ program. Ok (sizes_text program))) parsed in
     if-err-of (IsUnwritten request.Check input before after) c.from_residual-in_err-write_sizes.result (refusal.Write f)
     c.from_residual-in_err-write_sizes.ensures.1
-    (inl (cut-short _ (sizes_text p) before after f whole c.in_err-write_sizes.ensures.err c.in_err-write_sizes.ensures.failed))
+    (inl (cut-short _ (sizes_text p) before after f whole c.in_err-write_sizes.ensures))
 
 pub returns-clause-written : goal.returns-clause-written
 returns-clause-written g c =
@@ -56,5 +56,5 @@ returns-clause-written g c =
       sizes_text p,
       ap (λ (r : Result Table (ℕ × MpsFaultKind)). and_then (refused_as program_refused r)
           (λ program. Ok (sizes_text program))) parsed,
-      c.in_ok-write_sizes.ensures.ok,
+      c.in_ok-write_sizes.ensures,
     )

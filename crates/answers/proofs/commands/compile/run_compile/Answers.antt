@@ -13,5 +13,5 @@ returns-in-Ok-clause-faithful g c =
     on_ok_weaker c.write_programs.result (λ sent. (
       programs_bytes book (map (compiled book) groups),
       written-texts-are-faithful book limits.lots limits.book groups,
-      sent,
+      sent.taken,
     )) c.write_programs.ensures.ok

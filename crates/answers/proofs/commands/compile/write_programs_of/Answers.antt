@@ -1,7 +1,7 @@
 use Rattle.std.proofs.Common.{List, ℕ, Ok, ap, inr, map, refl, subst}
 use Rattle.group_compiler.specs.Compiled.{compiled}
 use Rattle.answers.specs.Exact.{by_put, by_refusal}
-use Rattle.answers.specs.GroupTexts.{FailsAsReported, StopsAsReported, programs_bytes}
+use Rattle.answers.specs.GroupTexts.{StopsAsReported, programs_bytes}
 use Rattle.answers.proofs.CommandFacts.{of-groups, sent-front}
 use Rattle.answers.proofs.commands.compile.write_programs_of.Goals as goal
 
@@ -15,7 +15,7 @@ pub returns-in-Err-OutOfMemory-clause-refused : goal.returns-in-Err-OutOfMemory-
 returns-in-Err-OutOfMemory-clause-refused g c =
     let book = c.args.auction.now.book in
     let programs = map (compiled book) c.args.auction.now.groups in
-    let stopped = subst (StopsAsReported book programs (g.S.Sink.taken c.args.out.now) (g.S.Sink.taken c.run_compile.new.out))
+    let stopped = subst (StopsAsReported book programs (g.S.Sink.state c.args.out.now) (g.S.Sink.state c.run_compile.new.out))
     c.in-Err-OutOfMemory.field-0-is c.in-Err-OutOfMemory.ensures.stopped in
     by_refusal (inr refl) stopped.1
 
@@ -24,9 +24,11 @@ returns-in-Err-Sink-clause-refused g c =
     let book = c.args.auction.now.book in
     let groups = c.args.auction.now.groups in
     let programs = map (compiled book) groups in
-    let failed = subst (FailsAsReported (g.S.Sink.failures c.args.out.now) (g.S.Sink.failures c.run_compile.new.out))
-    c.in-Err-Sink.field-0-is c.in-Err-Sink.ensures.failed in
-    let stopped = subst (StopsAsReported book programs (g.S.Sink.taken c.args.out.now) (g.S.Sink.taken c.run_compile.new.out))
+    let stopped = subst (StopsAsReported book programs (g.S.Sink.state c.args.out.now) (g.S.Sink.state c.run_compile.new.out))
     c.in-Err-Sink.field-0-is c.in-Err-Sink.ensures.stopped in
     by_put (programs_bytes book programs) (ap (λ (out : List ℕ). Ok out) (of-groups book 1 groups))
-    (sent-front book programs _ _ (g.S.Sink.taken c.args.out.now) (g.S.Sink.taken c.run_compile.new.out) stopped.2) failed
+    (let (most, some, ends, failed, place) = stopped in record {
+      front = sent-front book programs _ _ (g.S.Sink.state c.args.out.now).taken (g.S.Sink.state c.run_compile.new.out).taken ends;
+      failed = failed;
+      place = place;
+    })

@@ -1,7 +1,7 @@
-use Rattle.std.proofs.Common.{◌≡◌, ℕ, List, Option, ap, ap₂, false, inl, inr, rules, subst, true}
+use Rattle.std.proofs.Common.{◌≡◌, ap, false, inl, inr, rules, subst, true}
+use Rattle.byte_sinks.specs.Sinks.{Outlet}
 use Rattle.answers.specs.Answer.{answer}
 use Rattle.answers.specs.Exact.{Writes}
-use Rattle.answers.proofs.CommandFacts.{state}
 use Rattle.answers.proofs.ExplainingFacts.{IsTextUnexplained, asks-bids, unasked, unreported}
 use Rattle.auction_input.specs.declared.request.Request.TheVariants.{Explain}
 use Rattle.auction_input.proofs.StepFacts.{if-err-of}
@@ -9,8 +9,8 @@ use Rattle.answers.proofs.commands.explain.explain_input.Goals as goal
 
 pub returns-in_err-faulty-clause-refused : goal.returns-in_err-faulty-clause-refused
 returns-in_err-faulty-clause-refused g c =
-    let before = state (g.S.Sink.taken c.args.out.now) (g.S.Sink.failures c.args.out.now) in
-    let after = state (g.S.Sink.taken c.explain.new.out) (g.S.Sink.failures c.explain.new.out) in
+    let before = g.S.Sink.state c.args.out.now in
+    let after = g.S.Sink.state c.explain.new.out in
     if-err-of (IsTextUnexplained c.args.bids c.args.target c.args.input.now before after) c.from_residual.result c.in_err-faulty.field-0.0
     c.from_residual.ensures.1 (inl c.in_err-faulty.ensures.refused)
 
@@ -20,22 +20,22 @@ returns-then-faulty-clause-explained g c = (c.in_ok-faulty.ensures.faulty.0 c.if
 pub returns-then-not-bids-clause-explained : goal.returns-then-not-bids-clause-explained
 returns-then-not-bids-clause-explained g c =
     let off : c.args.bids ≡ false = search rules in
-    unasked c.args.bids c.in_ok-faulty.faulty c.args.target c.args.input.now (g.S.Sink.taken c.args.out.now)
-    (g.S.Sink.taken c.explain.new.out) off c.if-faulty.false c.in_ok-faulty.ensures.faulty c.in_ok-faulty.ensures.written
+    unasked c.args.bids c.in_ok-faulty.faulty c.args.target c.args.input.now (g.S.Sink.state c.args.out.now)
+    (g.S.Sink.state c.explain.new.out) off c.if-faulty.false c.in_ok-faulty.ensures.faulty c.in_ok-faulty.ensures.written
 
 pub returns-clause-explained : goal.returns-clause-explained
 returns-clause-explained g c =
-    let same = ap g.S.Sink.taken (c.in_ok-faulty.ensures.untouched c.if-faulty.false) in
-    subst (λ (taken : Option (List ℕ)). Writes (answer (Explain c.args.bids c.args.target) c.args.input.now) taken
-    (g.S.Sink.taken c.answer_auction.new.out)) same c.in_ok-answer_auction.ensures.written
+    let same = ap g.S.Sink.state (c.in_ok-faulty.ensures.untouched c.if-faulty.false) in
+    subst (λ (sink : Outlet). Writes (answer (Explain c.args.bids c.args.target) c.args.input.now) sink
+    (g.S.Sink.state c.answer_auction.new.out)) same c.in_ok-answer_auction.ensures.written
 
 pub returns-in_err-answer_auction-clause-refused : goal.returns-in_err-answer_auction-clause-refused
 returns-in_err-answer_auction-clause-refused g c =
     let same = c.in_ok-faulty.ensures.untouched c.if-faulty.false in
     let bids = c.args.bids in
     let input = c.args.input.now in
-    let before = state (g.S.Sink.taken c.args.out.now) (g.S.Sink.failures c.args.out.now) in
-    let after = state (g.S.Sink.taken c.answer_auction.new.out) (g.S.Sink.failures c.answer_auction.new.out) in
+    let before = g.S.Sink.state c.args.out.now in
+    let after = g.S.Sink.state c.answer_auction.new.out in
     let r = c.in_err-answer_auction.field-0.0 in
     let asked : bids ≡ true = search rules in
     if-err-of (IsTextUnexplained bids c.args.target input before after) c.from_residual-in_err-answer_auction.result r
@@ -43,6 +43,6 @@ returns-in_err-answer_auction-clause-refused g c =
     (inr (
       asks-bids bids c.in_ok-faulty.faulty c.args.target input asked c.if-faulty.false c.in_ok-faulty.ensures.faulty,
       unreported
-          (Explain bids c.args.target) input _ before after r (ap₂ state (ap g.S.Sink.taken same) (ap g.S.Sink.failures same))
+          (Explain bids c.args.target) input _ before after r (ap g.S.Sink.state same)
           c.in_err-answer_auction.ensures.refused,
     ))

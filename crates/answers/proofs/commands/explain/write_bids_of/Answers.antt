@@ -1,11 +1,10 @@
 use Rattle.std.proofs.Common.{◌≡◌, ◌∙◌, Bool, IfErr, List, OnOk, Result, ap, false, inl, refl, rules, subst, sym, true, ℕ, []}
 use Rattle.answers.specs.Answer.{output_of}
 use Rattle.answers.specs.Exact.{Ends, Writes, by_refusal}
-use Rattle.answers.proofs.CommandFacts.{state}
 use Rattle.answers.proofs.ExplainingFacts.{as-unasked, bids-as, bids-refused}
 use Rattle.auction_input.specs.Settled.{held}
 use Rattle.auction_input.specs.declared.refusal.Refusal.{Refusal}
-use Rattle.byte_sinks.proofs.KnownByteFacts.{Appends-nothing}
+use Rattle.byte_sinks.proofs.AddingFacts.{goes-nothing}
 use Rattle.auction_input.proofs.StepFacts.{if-err-of}
 use Rattle.auction_input.specs.declared.request.Request.TheVariants as request
 use Rattle.answers.proofs.commands.explain.write_bids_of.Goals as goal
@@ -13,7 +12,7 @@ use Rattle.answers.proofs.commands.explain.write_bids_of.Goals as goal
 pub returns-in_err-check_wanted-clause-refused : goal.returns-in_err-check_wanted-clause-refused
 returns-in_err-check_wanted-clause-refused g c =
     let auction = held c.args.auction.now in
-    let before = state (g.S.Sink.taken c.args.out.now) (g.S.Sink.failures c.args.out.now) in
+    let before = g.S.Sink.state c.args.out.now in
     let r = c.in_err-check_wanted.field-0.0 in
     if-err-of (Ends (output_of (request.Explain c.args.bids c.args.target) auction) before before) c.from_residual.result r c.from_residual.ensures.1
     (by_refusal (inl (bids-refused c.args.bids c.args.target auction r c.in_err-check_wanted.ensures.unmet)) refl)
@@ -22,18 +21,18 @@ pub returns-then-bids-clause-written : goal.returns-then-bids-clause-written
 returns-then-bids-clause-written g c =
     let asked : c.args.bids ≡ true = search rules in
     subst (λ (parsed : Result (List ℕ) Refusal). OnOk c.write_left_out_of.result
-    (Writes parsed (g.S.Sink.taken c.args.out.now) (g.S.Sink.taken c.write_left_out_of.new.out)))
+    (Writes parsed (g.S.Sink.state c.args.out.now) (g.S.Sink.state c.write_left_out_of.new.out)))
     (sym (bids-as c.args.bids c.args.target (held c.args.auction.now) asked c.in_ok-check_wanted.ensures.met)) c.write_left_out_of.ensures.written
 
 pub returns-then-bids-clause-refused : goal.returns-then-bids-clause-refused
 returns-then-bids-clause-refused g c =
     let asked : c.args.bids ≡ true = search rules in
     subst (λ (parsed : Result (List ℕ) Refusal). IfErr c.write_left_out_of.result
-    (Ends parsed (state (g.S.Sink.taken c.args.out.now) (g.S.Sink.failures c.args.out.now))
-    (state (g.S.Sink.taken c.write_left_out_of.new.out) (g.S.Sink.failures c.write_left_out_of.new.out))))
+    (Ends parsed (g.S.Sink.state c.args.out.now)
+    (g.S.Sink.state c.write_left_out_of.new.out)))
     (sym (bids-as c.args.bids c.args.target (held c.args.auction.now) asked c.in_ok-check_wanted.ensures.met)) c.write_left_out_of.ensures.refused
 
 pub returns-clause-written : goal.returns-clause-written
 returns-clause-written g c =
     let off : c.args.bids ≡ false = search rules in
-    ([], as-unasked c.args.bids c.args.target (held c.args.auction.now) off c.in_ok-check_wanted.ensures.met, Appends-nothing (g.S.Sink.taken c.args.out.now))
+    ([], as-unasked c.args.bids c.args.target (held c.args.auction.now) off c.in_ok-check_wanted.ensures.met, goes-nothing (g.S.Sink.state c.args.out.now))

@@ -9,6 +9,6 @@ use Rattle.answers.proofs.commands.forms.add_bidders.Given as goal
 -- the lines of the bidders so far are added
 abbrev pub invariant-loop-place : goal.invariant-loop-place
 invariant-loop-place g l =
-    Adds g.S.Sink.taken g.S.Sink.failures l.initial.writer l.writer
+    Adds g.S.Sink.state l.initial.writer l.writer
     (flat_map (λ (numbered : ℕ × Bidder). held_line numbered.1.name (slice_index_or l.last.by_bidder numbered.0 None))
     (take l.place (enumerate_from 1 l.bidders)))

@@ -8,7 +8,7 @@ use Rattle.answers.specs.Exact.{Ends, by_refusal}
 use Rattle.auction_terms.specs.Lines.{bytes_of}
 use Rattle.auction_input.specs.ParsedParts.{only_text}
 use Rattle.auction_input.specs.declared.refusal.Refusal.TheVariants as refusal
-use Rattle.answers.proofs.CommandFacts.{cut-short, no-group, state, winners-refused, winners-written}
+use Rattle.answers.proofs.CommandFacts.{cut-short, no-group, winners-refused, winners-written}
 use Rattle.auction_input.proofs.StepFacts.{if-err-of}
 use Rattle.answers.proofs.commands.map.write_winners.Goals as goal
 
@@ -20,7 +20,7 @@ returns-clause-written g c =
       allocation_text (sale_of c.args.auction.now.book) a,
       winners-written c.args.auction.now c.args.k c.only_text-solution.result.now within
           only a c.in_ok-allocation.ensures.won,
-      c.in_ok-write_allocation.ensures.ok,
+      c.in_ok-write_allocation.ensures,
     )
 
 pub returns-then-k-count-clause-refused : goal.returns-then-k-count-clause-refused
@@ -28,7 +28,7 @@ returns-then-k-count-clause-refused g c = by_refusal (no-group c.args.auction.no
 
 pub returns-in_err-allocation-clause-refused : goal.returns-in_err-allocation-clause-refused
 returns-in_err-allocation-clause-refused g c =
-    let before = state (g.S.Sink.taken c.args.out.now) (g.S.Sink.failures c.args.out.now) in
+    let before = g.S.Sink.state c.args.out.now in
     let r = c.in_err-allocation.field-0.0 in
     let within : c.args.k ≤ length c.args.auction.now.groups = search rules in
     let only = c.only_text-solution.ensures ∙ ap (λ (xs : List (Bor (List ℕ))). only_text (bytes_of xs)) c.as_slice.ensures.value in
@@ -37,8 +37,8 @@ returns-in_err-allocation-clause-refused g c =
 
 pub returns-in_err-write_allocation-clause-refused : goal.returns-in_err-write_allocation-clause-refused
 returns-in_err-write_allocation-clause-refused g c =
-    let before = state (g.S.Sink.taken c.args.out.now) (g.S.Sink.failures c.args.out.now) in
-    let after = state (g.S.Sink.taken c.write_allocation.new.sink) (g.S.Sink.failures c.write_allocation.new.sink) in
+    let before = g.S.Sink.state c.args.out.now in
+    let after = g.S.Sink.state c.write_allocation.new.sink in
     let f = c.in_err-write_allocation.field-0.0 in
     let within : c.args.k ≤ length c.args.auction.now.groups = search rules in
     let only = c.only_text-solution.ensures ∙ ap (λ (xs : List (Bor (List ℕ))). only_text (bytes_of xs)) c.as_slice.ensures.value in
@@ -47,4 +47,4 @@ returns-in_err-write_allocation-clause-refused g c =
     c.from_residual-in_err-write_allocation.result (refusal.Write f) c.from_residual-in_err-write_allocation.ensures.1
     (cut-short _ (allocation_text (sale_of c.args.auction.now.book) a) before after f
     (winners-written c.args.auction.now c.args.k c.only_text-solution.result.now within only a c.in_ok-allocation.ensures.won)
-    c.in_err-write_allocation.ensures.err c.in_err-write_allocation.ensures.failed)
+    c.in_err-write_allocation.ensures)

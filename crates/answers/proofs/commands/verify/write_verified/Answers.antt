@@ -9,7 +9,7 @@ use Rattle.auction_input.specs.Settled.{held}
 use Rattle.answers.specs.Exact.{by_refusal}
 use Rattle.answers.specs.Output.{IsWithoutOutput}
 use Rattle.auction_input.specs.declared.refusal.Refusal.TheVariants as refusal
-use Rattle.answers.proofs.CommandFacts.{cut-short, state}
+use Rattle.answers.proofs.CommandFacts.{cut-short}
 use Rattle.auction_input.proofs.StepFacts.{if-err-of}
 use Rattle.auction_input.proofs.StageFacts.{next, stop}
 use Rattle.answers.proofs.VerifiedFacts.{certified-greatest, true-report, verdicts}
@@ -23,7 +23,7 @@ returns-clause-written g c =
     let won = c.in_ok-won.ensures.won ∙ ap (λ (xs : List (List Choice)). Ok xs) (sym c.as_slice-allocations.ensures.value) in
     let others = c.in_ok-others.others in
     let pricing = c.in_ok-pricing.pricing in
-    let sent = c.in_ok-report_with.ensures.ok in (
+    let sent = c.in_ok-report_with.ensures in (
       report_text (sale_of auction.book) auction.groups all ++ (pricing_text (sale_of auction.book) (slice_index_or all 0 []) pricing ++
           others_text (sale_of auction.book) others),
       next _ all _ _ (next _ all _ _ won c.in_ok-check_certificates.ensures.shown)
@@ -39,13 +39,13 @@ returns-clause-true_report g c =
     record {
       out = out;
       is_true = true-report auction out limits.book limits.bidders (verdicts c.args.workers auction out parsed);
-      sent = sent;
+      sent = sent.taken;
     }
 
 pub returns-in_err-check_counts-clause-refused : goal.returns-in_err-check_counts-clause-refused
 returns-in_err-check_counts-clause-refused g c =
     let auction = held c.args.auction.now in
-    let before = state (g.S.Sink.taken c.args.out.now) (g.S.Sink.failures c.args.out.now) in
+    let before = g.S.Sink.state c.args.out.now in
     let r = c.in_err-check_counts.field-0.0 in
     if-err-of (IsWithoutOutput (request.Verify c.args.workers) auction before before) c.from_residual.result r c.from_residual.ensures.1
     (inl (by_refusal (stop _ _ r (stop _ _ r c.in_err-check_counts.ensures.refuses)) refl))
@@ -53,7 +53,7 @@ returns-in_err-check_counts-clause-refused g c =
 pub returns-in_err-compiler-clause-refused : goal.returns-in_err-compiler-clause-refused
 returns-in_err-compiler-clause-refused g c =
     let auction = held c.args.auction.now in
-    let before = state (g.S.Sink.taken c.args.out.now) (g.S.Sink.failures c.args.out.now) in
+    let before = g.S.Sink.state c.args.out.now in
     if-err-of (IsWithoutOutput (request.Verify c.args.workers) auction before before) c.from_residual-in_err-compiler.result
     refusal.OutOfMemory c.from_residual-in_err-compiler.ensures.1
     (inl (by_refusal (inr refl) refl))
@@ -61,7 +61,7 @@ returns-in_err-compiler-clause-refused g c =
 pub returns-in_err-won-clause-refused : goal.returns-in_err-won-clause-refused
 returns-in_err-won-clause-refused g c =
     let auction = held c.args.auction.now in
-    let before = state (g.S.Sink.taken c.args.out.now) (g.S.Sink.failures c.args.out.now) in
+    let before = g.S.Sink.state c.args.out.now in
     let r = c.in_err-won.field-0.0 in
     if-err-of (IsWithoutOutput (request.Verify c.args.workers) auction before before) c.from_residual-in_err-won.result r c.from_residual-in_err-won.ensures.1
     (inl (by_refusal (stop _ _ r (stop _ _ r c.in_err-won.ensures.refuses)) refl))
@@ -69,7 +69,7 @@ returns-in_err-won-clause-refused g c =
 pub returns-in_err-check_certificates-clause-refused : goal.returns-in_err-check_certificates-clause-refused
 returns-in_err-check_certificates-clause-refused g c =
     let auction = held c.args.auction.now in
-    let before = state (g.S.Sink.taken c.args.out.now) (g.S.Sink.failures c.args.out.now) in
+    let before = g.S.Sink.state c.args.out.now in
     let r = c.in_err-check_certificates.field-0.0 in
     let won = c.in_ok-won.ensures.won ∙ ap (λ (xs : List (List Choice)). Ok xs) (sym c.as_slice-allocations.ensures.value) in
     if-err-of (IsWithoutOutput (request.Verify c.args.workers) auction before before) c.from_residual-in_err-check_certificates.result r
@@ -79,7 +79,7 @@ returns-in_err-check_certificates-clause-refused g c =
 pub returns-in_err-others-clause-refused : goal.returns-in_err-others-clause-refused
 returns-in_err-others-clause-refused g c =
     let auction = held c.args.auction.now in
-    let before = state (g.S.Sink.taken c.args.out.now) (g.S.Sink.failures c.args.out.now) in
+    let before = g.S.Sink.state c.args.out.now in
     let r = c.in_err-others.field-0.0 in
     let won = c.in_ok-won.ensures.won ∙ ap (λ (xs : List (List Choice)). Ok xs) (sym c.as_slice-allocations.ensures.value) in
     if-err-of (IsWithoutOutput (request.Verify c.args.workers) auction before before) c.from_residual-in_err-others.result r
@@ -89,7 +89,7 @@ returns-in_err-others-clause-refused g c =
 pub returns-in_err-pricing-clause-refused : goal.returns-in_err-pricing-clause-refused
 returns-in_err-pricing-clause-refused g c =
     let auction = held c.args.auction.now in
-    let before = state (g.S.Sink.taken c.args.out.now) (g.S.Sink.failures c.args.out.now) in
+    let before = g.S.Sink.state c.args.out.now in
     let r = c.in_err-pricing.field-0.0 in
     let won = c.in_ok-won.ensures.won ∙ ap (λ (xs : List (List Choice)). Ok xs) (sym c.as_slice-allocations.ensures.value) in
     if-err-of (IsWithoutOutput (request.Verify c.args.workers) auction before before) c.from_residual-in_err-pricing.result r
@@ -106,19 +106,18 @@ pricing_of-requires-clause-without g c =
 pub returns-in_err-report_with-clause-refused : goal.returns-in_err-report_with-clause-refused
 returns-in_err-report_with-clause-refused g c =
     let auction = c.args.auction.now in
-    let before = state (g.S.Sink.taken c.args.out.now) (g.S.Sink.failures c.args.out.now) in
-    let after = state (g.S.Sink.taken c.report_with.new.sink) (g.S.Sink.failures c.report_with.new.sink) in
+    let before = g.S.Sink.state c.args.out.now in
+    let after = g.S.Sink.state c.report_with.new.sink in
     let all = c.as_slice-allocations.result.now in
     let others = c.in_ok-others.others in
     let pricing = c.in_ok-pricing.pricing in
     let f = c.in_err-report_with.field-0.0 in
     let won = c.in_ok-won.ensures.won ∙ ap (λ (xs : List (List Choice)). Ok xs) (sym c.as_slice-allocations.ensures.value) in
-    let sent = c.in_err-report_with.ensures.err in
+    let sent = c.in_err-report_with.ensures in
     if-err-of (IsWithoutOutput (request.Verify c.args.workers) (held auction) before after) c.from_residual-in_err-report_with.result
     (refusal.Write f) c.from_residual-in_err-report_with.ensures.1
     (inl (cut-short _ (report_text (sale_of auction.book) auction.groups all ++
     (pricing_text (sale_of auction.book) (slice_index_or all 0 []) pricing ++ others_text (sale_of auction.book) others)) before
     after f
     (next _ all _ _ (next _ all _ _ won c.in_ok-check_certificates.ensures.shown)
-    (next _ others _ _ c.in_ok-others.ensures.parsed (next _ pricing _ _ c.in_ok-pricing.ensures.parsed refl))) sent
-    c.in_err-report_with.ensures.failed))
+    (next _ others _ _ c.in_ok-others.ensures.parsed (next _ pricing _ _ c.in_ok-pricing.ensures.parsed refl))) sent))

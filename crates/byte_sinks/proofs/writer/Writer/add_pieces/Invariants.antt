@@ -5,4 +5,4 @@ use Rattle.byte_sinks.proofs.writer.Writer.add_pieces.Given as goal
 
 -- the pieces so far are added
 abbrev pub invariant-loop-piece : goal.invariant-loop-piece
-invariant-loop-piece g l = Adds g.S.Sink.taken g.S.Sink.failures l.initial.self l.self (flat_map (λ p. p.now) (take l.piece-index l.pieces))
+invariant-loop-piece g l = Adds g.S.Sink.state l.initial.self l.self (flat_map (λ p. p.now) (take l.piece-index l.pieces))
