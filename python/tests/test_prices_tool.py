@@ -40,6 +40,7 @@ from trials.judging import row
 from wdp import prices, rule, solve
 from wdp.certify import settling
 from wdp.certify.limits import TooLarge
+from wdp.folder import Folder
 
 AUCTIONS = int(os.environ.get("AUCTIONS", "1000"))
 BLOCK = 25  # random auctions in one test
@@ -570,6 +571,39 @@ def test_a_false_answer_leaves_prices_to_the_next_run(
         assert json.loads(auction.read("results/results.json"))["prices"] is None
         auction.read_messages("--ties")
     assert auction.read_outcome() == whole.read_outcome()
+
+
+# Solutions of group 1 of the worked example that aren't optimal, which has a total of 62, and what
+# the groups after it show: without Alpha 32, without Beta 50, without Beta and Gamma 50, and then
+# without each other winner alone.
+NOT_OPTIMAL = """
+X1_1 1 | that of group 2 brings 2 more
+X2_1 1⏎X3_1 1 | that of group 3 brings 18 more
+X1_1 1⏎X3_1 1 | that of group 3 brings 8 more
+"""
+
+
+@pytest.mark.parametrize("planted, said", parse_rows(NOT_OPTIMAL))
+def test_a_solution_of_group_1_that_another_group_shows_not_to_be_optimal(
+    unpriced: AuctionFolder, planted: str, said: str
+) -> None:
+    """Its prices would be above what winners bid, so none are looked for."""
+    Folder(unpriced.where).leave("solutions/1.txt", f"{planted}\n".encode())
+    for name in ("report.txt", "audit.txt"):
+        (unpriced.where / name).unlink()
+    messages = unpriced.read_messages(status=1)
+    assert f"auction: prices: group 1's solution isn't optimal: {said}\n" in messages
+    assert not unpriced.has("prices.txt")
+
+
+def test_a_solution_of_group_1_that_the_search_for_prices_shows_not_to_be_optimal() -> None:
+    """Alpha and Gamma win 42, and no group is listed beside theirs."""
+    text = tied_auctions.input_text(WORKED_AUCTION, [()]).encode()
+    [program] = package.Auction.from_text(text).compile()
+    award = prices.Award(text, program.text.encode(), solutions=[b"X1_1 1\nX3_1 1\n"], listed=["-"])
+    award.learn(b"X1_1 1\n")
+    with pytest.raises(package.Refused, match="group 1's solution isn't optimal: another one brings 20 more"):
+        award.learn(b"X1_1 1\nX2_1 1\nX3_1 1\n")
 
 
 def read_published(auction: AuctionFolder) -> tuple[str, dict[str, Any]]:

@@ -187,7 +187,7 @@ class Award:
         self, data: bytes, program: bytes, solutions: Sequence[bytes], listed: Sequence[str]
     ) -> None:
         """Of the input, the first program, and each group's solution with the line of the names
-        that it leaves out.
+        that it leaves out. Refused if a solution has a greater total than group 1's.
         """
         self.problem = certify.read_problem(program)
         self.solution = solutions[0]
@@ -198,12 +198,15 @@ class Award:
         self.places = {bidder: place for place, bidder in enumerate(self.winners.numbers)}
         self.costs = _KnownCosts(self.winners)
         self.listed = [frozenset(line.split("+")) for line in listed]
-        for solution, names in zip(solutions, self.listed, strict=True):
-            self.learn(solution, names)
+        for group, (text, names) in enumerate(zip(solutions, self.listed, strict=True), 1):
+            self.learn(text, names, called=f"that of group {group}")
 
-    def learn(self, solution: bytes, names: Collection[str] = ()) -> Group:
+    def learn(
+        self, solution: bytes, names: Collection[str] = (), *, called: str = "another one"
+    ) -> Group:
         """Takes from an allocation what the winners cost at least whom it leaves out, and what
-        those of these names do. Gives the former.
+        those of these names do. Gives the former. Refused, with what it is called, if it has a
+        greater total than the award: then winners would cost more than they bid.
         """
         ones = self.problem.read_ones(solution)
         won = {self.places.get(int(self.problem.holders[place])) for place in ones}
@@ -211,6 +214,8 @@ class Award:
         left_out = frozenset(place for place, _ in winners if place not in won)
         asked = frozenset(place for place, name in winners if name in names)
         gain = -self._total - self.problem.program.compute_objective(ones)
+        if gain > 0:
+            raise Refused(f"group 1's solution isn't optimal: {called} brings {gain:,} more")
         for group in (left_out, asked):
             self.costs.learn(group, gain + sum(self.winners.amounts[place] for place in group))
         return left_out
