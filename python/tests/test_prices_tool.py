@@ -481,7 +481,7 @@ def test_an_audit_of_version_1_gets_prices_of_the_rule(
 
 
 # a line of a group that prices have to cover
-FOUND = r"auction: prices: ([\w+]+ costs at least \d+, and its prices so far add up to [\d /]+)\n"
+FOUND = r"auction: prices: ([\w+]+ costs at least \d+; the prices so far cover [\d /]+ of that)\n"
 
 
 def test_a_run_that_was_cut_goes_on(auction: AuctionFolder, tmp_path: Path) -> None:

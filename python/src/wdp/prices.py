@@ -359,7 +359,7 @@ class Search:
         cost = self.award.costs[group]
         covered = format_number(sum_prices(group, prices))
         names = self.award.winners.format_group(group)
-        self.say(f"{names} costs at least {cost:,}, and its prices so far add up to {covered}")
+        self.say(f"{names} costs at least {cost:,}; the prices so far cover {covered} of that")
         self.keep(solution)
         return True
 
