@@ -69,7 +69,9 @@ MEASURING = {
 }
 SHOWN = {
     "certificates": "(?s).*that nobody wins more: made in .*prices: made in .*that nobody else wins as much: made in",
-    "outcomes": r"(?s).*before: [\d.]+ s, \d+ MB, status 0, verified\n  now: [\d.]+ s, \d+ MB, status 0, verified\n  cbc alone, 1 groups",
+    "outcomes": r"(?s).*before: [\d.]+ s, \d+ MB, status 0, verified\n  now: [\d.]+ s, \d+ MB, status 0, verified\n"
+    r"  of 4 groups 4 have the same total and cost, 4 the same winners; the prices come to 30 before and to 30 now\n"
+    r"  cbc alone, 1 groups",
     "peers": r"(?s).*\| explain",
     "hostile": r"(?s).*\| submitted .*\n\n[01] within bounds, [01] beyond\n$",
 }
@@ -82,6 +84,17 @@ def test_scripts_that_measure(wdp: str, name: str) -> None:
     words = [wdp if word == "@" else word for word in MEASURING[name]]
     printed = run_script(wdp, [name, *words], statuses=STATUSES.get(name, (0,)))
     assert re.match(SHOWN[name], printed)
+
+
+def test_outcomes_measures_the_step_of_each_group(wdp: str) -> None:
+    printed = run_script(wdp, ["outcomes", "--groups", EXAMPLES / "worked.txt"])
+    rows = "".join(rf"  {row}: [\d.]+ s, cbc [\d.]+ s(, beyond)?\n" for row in ["1 -", "2 Alpha", "3 Beta", "4 Beta\\+Gamma"])
+    assert re.search(rows + r"  \d groups are within three times cbc's time or 3 s\n$", printed)
+
+
+def test_outcomes_stops_a_run(wdp: str) -> None:
+    printed = run_script(wdp, ["outcomes", "--stop", "0.01", EXAMPLES / "worked.txt"])
+    assert re.search(r"\n  now: [\d.]+ s, \d+ MB, status -?\d+, no audit, 0 certificates\n$", printed)
 
 
 def test_each_script_is_run() -> None:

@@ -37,7 +37,7 @@ from price_judge import format_prices
 from priced_auctions import Costs, drawn
 from tied_auctions import BIDDERS, Bid, Pool
 from trials.judging import row
-from wdp import prices, rule, solve
+from wdp import certify, prices, rule, solve
 from wdp.certify import settling
 from wdp.certify.limits import TooLarge
 from wdp.folder import Folder
@@ -600,9 +600,11 @@ def test_a_solution_of_group_1_that_the_search_for_prices_shows_not_to_be_optima
     """Alpha and Gamma win 42, and no group is listed beside theirs."""
     text = tied_auctions.input_text(WORKED_AUCTION, [()]).encode()
     [program] = package.Auction.from_text(text).compile()
-    award = prices.Award(text, program.text.encode(), solutions=[b"X1_1 1\nX3_1 1\n"], listed=["-"])
+    problem = certify.read_problem(program.text.encode())
+    award = prices.Award(text, problem, solutions=[b"X1_1 1\nX3_1 1\n"], listed=["-"])
     award.learn(b"X1_1 1\n")
-    with pytest.raises(package.Refused, match="group 1's solution isn't optimal: another one brings 20 more"):
+    why = "group 1's solution isn't optimal: another one brings 20 more"
+    with pytest.raises(package.Refused, match=why):
         award.learn(b"X1_1 1\nX2_1 1\nX3_1 1\n")
 
 

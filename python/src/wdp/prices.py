@@ -184,12 +184,12 @@ class Award:
     """The award of group 1, and what groups of its winners are known to cost at least."""
 
     def __init__(
-        self, data: bytes, program: bytes, solutions: Sequence[bytes], listed: Sequence[str]
+        self, data: bytes, problem: Problem, solutions: Sequence[bytes], listed: Sequence[str]
     ) -> None:
-        """Of the input, the first program, and each group's solution with the line of the names
-        that it leaves out. Refused if a solution has a greater total than group 1's.
+        """Of the input, the problem of group 1, and each group's solution with the line of the
+        names that it leaves out. Refused if a solution has a greater total than group 1's.
         """
-        self.problem = certify.read_problem(program)
+        self.problem = problem
         self.solution = solutions[0]
         ones = self.problem.read_ones(self.solution)
         self._total = -self.problem.program.compute_objective(ones)

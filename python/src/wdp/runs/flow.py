@@ -58,7 +58,7 @@ class Flow:
     @cached_property
     def pricer(self) -> Pricer:
         """Who finds prices."""
-        return Pricer(self.contents, self.means)
+        return Pricer(self.contents, self.means, self.settler)
 
     def run(self, report: Step) -> int:
         """Does all steps, with a report as the last one, which is made without prices if there are

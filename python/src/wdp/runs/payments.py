@@ -5,20 +5,22 @@ from functools import partial
 from wdp import prices, solve
 from wdp.folder import INPUT
 from wdp.office.faults import format_count
-from wdp.runs.contents import FIRST_GROUP, Contents, name_file
+from wdp.runs.contents import Contents, name_file
 from wdp.runs.means import Means
+from wdp.runs.solutions import Settler
 
 _FOLDER = "prices"  # of the allocations that the search found
 
 
 @dataclass
 class Pricer:
-    """Finds what the winners pay, once each of them alone is settled. `limit` says then which limit
-    of the formats exact prices are beyond, if they are.
+    """Finds what the winners pay, once the `settler` has settled each of them alone. `limit` says
+    then which limit of the formats exact prices are beyond, if they are.
     """
 
     contents: Contents
     means: Means
+    settler: Settler
     limit: str | None = None
 
     def find_prices(self) -> None:
@@ -52,14 +54,12 @@ class Pricer:
         """The award of group 1, with what the solutions of all groups show."""
         contents = self.contents
         lines = contents.list_all_groups()
-        award = prices.Award(
+        return prices.Award(
             data=contents.store.read(INPUT),
-            program=contents.store.read(name_file("program", FIRST_GROUP)),
+            problem=self.settler.make_first(),
             solutions=[contents.store.read(name_file("solution", group)) for group in lines],
             listed=list(lines.values()),
         )
-        award.problem.known_rows = contents.read_rows()
-        return award
 
     def _take_over(self, award: prices.Award) -> None:
         """Takes what an earlier run found."""

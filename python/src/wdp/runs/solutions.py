@@ -53,6 +53,12 @@ class Settler:
         with suppress(Refused):
             self.first = self.first or certify.read_problem(self._read("program", FIRST_GROUP))
 
+    def make_first(self) -> Problem:
+        """The problem of group 1, with what its search found."""
+        problem = self._make_problem(FIRST_GROUP, self._read("program", FIRST_GROUP))
+        problem.known_rows = self.contents.read_rows()
+        return problem
+
     def settle(self, group: int) -> None:
         """Leaves a solution of a group's program and its certificate, and of group 1 what ties, as
         far as these are asked for and aren't there.
@@ -73,7 +79,7 @@ class Settler:
                 group, solution=settled.solution, certificate=settled.certificate
             )
         if group == FIRST_GROUP and goals.finds_ties and not store.has(TIES):
-            self._find_ties(program)
+            self._find_ties()
 
     def _read(self, kind: str, group: int) -> bytes:
         return self.contents.store.read(name_file(kind, group))
@@ -199,7 +205,7 @@ class Settler:
             more = f"another brings {gain:,} more"
             self.means.reporter.say(f"{name_step(group)}: {worse}: {more}")
 
-    def _find_ties(self, program: bytes) -> None:
+    def _find_ties(self) -> None:
         """Leaves all solutions that tie with that of group 1, and the certificate that there are no
         others.
         """
@@ -207,8 +213,7 @@ class Settler:
 
         contents = self.contents
         with self.means.at_once():
-            problem = self._make_problem(FIRST_GROUP, program)
-            problem.known_rows = contents.read_rows()
+            problem = self.make_first()
         try:
             tied = find_ties(
                 problem,
