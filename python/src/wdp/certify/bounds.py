@@ -100,7 +100,9 @@ class Leaf:
         """
         members = self.layout.blocks.members[block]
         part = self.bound.parts[block]
-        outside = np.setdiff1d(members, self.node.path[place].places)
+        is_within = np.zeros(self.layout.count, bool)
+        is_within[self.node.path[place].places] = True
+        outside = members[~is_within[members]]
         least = int(self.bound.priced[outside].min(initial=0))
         has_row = self.layout.blocks.rows[block] is not None
         multiplier = max(0, -part, -least) if has_row else 0

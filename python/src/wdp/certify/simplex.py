@@ -72,7 +72,8 @@ class Simplex:
         problem = self._problem
         if not glpk.glp_bf_exists(problem) and glpk.glp_factorize(problem) != 0:
             return None
-        return [glpk.glp_get_bhead(problem, row) for row in range(1, self.height + 1)]
+        get_variable = glpk.glp_get_bhead  # (this is asked so often that looking it up counts)
+        return [get_variable(problem, row) for row in range(1, self.height + 1)]
 
     def set_basis(self, basis: Iterable[int]) -> None:
         """Makes these variables the basic ones; if the basis before is lost, those of it stay."""

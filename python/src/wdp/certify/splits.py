@@ -37,12 +37,12 @@ class _Way:
     load: int = 0
     sign: int = 1
 
-    def choose(self, layout: Layout, members: Array) -> Array:
-        """The columns among these."""
+    def choose(self, members: Array, loads: Array) -> Array:
+        """The columns among these, of which `loads` has what each takes of each row."""
         if self.row is None:
             return members
-        loads = layout.shared.loads[members, self.row]
-        chosen: Array = members[self.sign * loads >= self.sign * self.load]
+        of_row = loads[:, self.row]
+        chosen: Array = members[of_row >= self.load if self.sign > 0 else of_row <= self.load]
         return chosen
 
 
@@ -97,7 +97,8 @@ def find_splits(layout: Layout, node: Node, places: Array, values: Array) -> lis
     for parting in partings[:MOST_SPLITS]:
         members = layout.blocks.members[parting.block]
         members = members[node.allowed[members]]
-        chosen = [way.choose(layout, members) for way in parting.ways]
+        loads = layout.shared.loads[members]
+        chosen = [way.choose(members, loads) for way in parting.ways]
         splits.append(Split(min(chosen, key=len), parting.part))
     return splits
 
