@@ -567,6 +567,49 @@ def test_snakemake_leaves_the_same_bytes(
     assert auction.has("results/results.html")
 
 
+@pytest.fixture(scope="module")
+def close(tmp_path_factory: pytest.TempPathFactory, wdp: str) -> AuctionFolder:
+    """A run, one group at a time, of bids so close together that groups share inequalities, that
+    others take over a certificate, and that prices need groups that aren't listed.
+    """
+    words = ["8", "14", "6", "9", "--close", "--pool", "--variant", "2"]
+    data = subprocess.run([ROOT / "bench/near_target", *words], stdout=subprocess.PIPE, check=True)
+    auction = AuctionFolder(tmp_path_factory.mktemp("close") / "auction", wdp, data.stdout)
+    auction.read_messages("--ties", "--jobs", 1)
+    assert auction.read("inequalities.txt")
+    assert auction.has("prices/1.txt")
+    assert len(list(auction.where.glob("answers/*"))) < len(list(auction.where.glob("solutions/*")))
+    return auction
+
+
+def test_the_number_of_jobs_changes_no_byte(close: AuctionFolder, tmp_path: Path) -> None:
+    four = AuctionFolder(tmp_path / "four", close.wdp, close.read("input.txt"))
+    four.read_messages("--ties", "--jobs", 4)
+    assert four.read_outcome() == close.read_outcome()
+
+
+@pytest.mark.parametrize("seconds", [1, 3, 5])
+def test_a_kill_changes_no_byte(close: AuctionFolder, tmp_path: Path, seconds: int) -> None:
+    killed = AuctionFolder(tmp_path / "killed", close.wdp, close.read("input.txt"))
+    outcome = end_and_go_on(
+        killed,
+        number=signal.SIGKILL,
+        seconds=seconds,
+        begin=lambda: killed.start("--ties"),
+        go_on=lambda: killed.read_messages("--ties"),
+    )
+    assert outcome == close.read_outcome()
+
+
+def test_snakemake_changes_no_byte(
+    close: AuctionFolder, tmp_path: Path, by_snakemake: BeginBySnakemake
+) -> None:
+    auction = AuctionFolder(tmp_path / "steps", close.wdp, close.read("input.txt"))
+    seen = finish(by_snakemake(auction))
+    assert seen.status == 0, seen.out
+    assert auction.read_outcome() == close.read_outcome()
+
+
 def run_by_slurm(auction: AuctionFolder, tmp_path: Path, **more: str) -> CommandResult:
     """The page's command, in the tree, on an auction whose path a shell may read (Snakemake hands
     those of jobs to one).
