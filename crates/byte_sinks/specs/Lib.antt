@@ -1,4 +1,5 @@
 pub mod Sinks
 pub mod Adds
+pub mod Json
 pub mod Limits
 pub mod inside

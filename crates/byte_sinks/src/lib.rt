@@ -1,6 +1,7 @@
-//! Bytes on their way out: sinks, and the writer that gathers bytes for one.
+//! Bytes on their way out: sinks, the writer that gathers bytes for one, and members of JSON objects.
 #![tactic(auto)]
 
+mod json;
 pub mod laws;
 mod limit_sink;
 mod memory_sink;
@@ -10,6 +11,7 @@ mod std_sink;
 mod write_fault;
 mod writer;
 
+pub use json::{Format, add_json_text, add_number_member, add_text_member};
 pub use limit_sink::LimitSink;
 pub use memory_sink::MemorySink;
 pub use sink::{Sink, SinkFailed};
