@@ -2,6 +2,8 @@
 use Rattle.std.specs.Prelude.{◌≡◌, ◌-◌, ◌^◌, ◌++◌, min, Bool, ℕ, List, [], ◌∷◌, Option, Some, Result, Ok, Err, length, map, option_map, option_to_list, take}
 use Rattle.auction_terms.specs.FirstFault.{first_failed}
 use Rattle.auction_terms.specs.declared.judge.All.{All}
+use Rattle.auction_terms.specs.declared.judge.Cause.{Cause}
+use Rattle.auction_terms.specs.declared.judge.Cause.TheVariants.{Words, Both, Wanted}
 use Rattle.auction_terms.specs.declared.judge.FaultAt.{FaultAt}
 use Rattle.auction_terms.specs.declared.limits.TheConstants.{FRONT_LEN}
 use Rattle.auction_terms.specs.Wording.{wording_text}
@@ -35,9 +37,15 @@ abbrev pub first_or : {A F : Type 0} → List (Fault F) → A → Result A F
 first_or [] value = Ok value
 first_or (fault ∷ more) value = Err fault.fault
 
+-- a cause in words
+abbrev pub cause_text : Cause → List ℕ
+cause_text (Words words) = wording_text words
+cause_text (Both words more) = wording_text words ++ wording_text more
+cause_text (Wanted words name) = words.now ++ name
+
 -- a kept fault
 abbrev pub kept_fault : {F : Type 0} → FaultAt F → Fault F
-kept_fault at = record { field = at.field; text = at.text; fault = at.fault; cause = option_map wording_text at.cause }
+kept_fault at = record { field = at.field; text = at.text; fault = at.fault; cause = option_map cause_text at.cause }
 
 -- of these faults the first ones are kept, so many at most, and the others counted, up to 2 ^ 64 - 1
 pub record Holds {F : Type 0} (most : ℕ) (all : All F) (faults : List (Fault F)) : Type 0 where

@@ -30,7 +30,6 @@ pub mod AcceptedGroups
 pub mod AcceptedRules
 pub mod RulesFaultText
 pub mod GroupFaultText
-pub mod FaultPlaces
 pub mod Wording
 pub mod Only
 pub mod inside

@@ -1,6 +1,7 @@
 //! The first bytes of a text.
 
 use crate::limits::FRONT_LEN;
+use crate::names::Name;
 use arrayvec::ArrayVec;
 use std::marker::Model;
 
@@ -46,6 +47,13 @@ impl Front {
         match bytes.try_extend_from_slice(first_bytes(text)) {
             Ok(()) | Err(_) => Front { bytes },
         }
+    }
+
+    /// The bytes of a name, which are fewer than those that are kept.
+    pub fn of_name(name: &Name) -> Front
+        ensures { result ≡ name.now }
+    {
+        Front::of(name.as_bytes())
     }
 
     /// The bytes.

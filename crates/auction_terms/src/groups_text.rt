@@ -13,9 +13,8 @@ ghost use Rattle.auction_terms.specs.Stages.{Answers};
 ghost use Rattle.auction_terms.specs.GroupNames.{names_in};
 ghost use Rattle.auction_terms.specs.Groups.{AreGroups, IsGroup};
 ghost use Rattle.auction_terms.specs.declared.limits.TheConstants.{MOST_BIDDERS, MOST_FAULTS, MOST_GROUPS};
-ghost use Rattle.auction_terms.specs.FaultPlaces.{group_place};
-ghost use Rattle.auction_terms.specs.GroupFaultText.{group_fault_text};
-ghost use Rattle.auction_terms.specs.Wording.{wording_text};
+ghost use Rattle.auction_terms.specs.GroupFaultText.{group_code, group_fault_text, group_place};
+ghost use Rattle.auction_terms.specs.Wording.{code_seen, wording_text};
 ghost use Rattle.auction_terms.specs.declared.groups_text.GroupFault.TheVariants as fault;
 
 use crate::group_list::Groups;
@@ -25,7 +24,7 @@ use crate::judge::{All, FaultAt};
 use crate::limits::{MOST_FAULTS, MOST_GROUPS, TEXT_LIMIT};
 use crate::lines::LineReader;
 use crate::rules::{Bidder, Rules};
-use crate::wording::Wording;
+use crate::wording::{Code, Wording};
 use std::alloc::{AllocError, Global};
 use std::fmt;
 use thiserror::Error;
@@ -49,30 +48,38 @@ pub enum GroupFault {
 }
 
 impl GroupFault {
+    /// The number and the name of the fault; `None` where memory was refused, which is no fault of the text.
+    pub fn code(self) -> Option<Code>
+        ensures { option_map code_seen result ≡ group_code self }
+    {
+        match self {
+            GroupFault::TooLarge => Some(Code::new(1, "TooLarge")),
+            GroupFault::EmptyLine { .. } => Some(Code::new(2, "EmptyLine")),
+            GroupFault::UnknownBidder { .. } => Some(Code::new(3, "UnknownBidder")),
+            GroupFault::RepeatedBidder { .. } => Some(Code::new(4, "RepeatedBidder")),
+            GroupFault::TooManyGroups { .. } => Some(Code::new(5, "TooManyGroups")),
+            GroupFault::OutOfMemory => None,
+        }
+    }
+
     /// What is reported of the fault: its number and name, and in which line it is.
     pub fn wording(self) -> Wording
         ensures { wording_text result ≡ group_fault_text self }
     {
-        match self {
-            GroupFault::TooLarge => Wording::Words("1 TooLarge"),
-            GroupFault::EmptyLine { place } => Wording::at("2 EmptyLine at line ", place),
-            GroupFault::UnknownBidder { place } => Wording::at("3 UnknownBidder at line ", place),
-            GroupFault::RepeatedBidder { place } => Wording::at("4 RepeatedBidder at line ", place),
-            GroupFault::TooManyGroups { place } => Wording::at("5 TooManyGroups at line ", place),
-            GroupFault::OutOfMemory => Wording::Words("out of memory"),
-        }
+        Wording::of_fault(self.code(), " at line ", self.place())
     }
 
-    /// The number, from 1, of the line in which the fault is; 0 where it is that of the whole text.
-    pub fn place(self) -> u32
+    /// The number, from 1, of the line in which the fault is, 0 where the text has none; `None` where it is that of the whole
+    /// text.
+    pub fn place(self) -> Option<u32>
         ensures { result ≡ group_place self }
     {
         match self {
-            GroupFault::TooLarge | GroupFault::OutOfMemory => 0,
+            GroupFault::TooLarge | GroupFault::OutOfMemory => None,
             GroupFault::EmptyLine { place }
             | GroupFault::UnknownBidder { place }
             | GroupFault::RepeatedBidder { place }
-            | GroupFault::TooManyGroups { place } => place,
+            | GroupFault::TooManyGroups { place } => Some(place),
         }
     }
 }

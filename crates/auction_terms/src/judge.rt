@@ -1,12 +1,22 @@
 //! The faults of a text, as a reader finds them one after the other.
 
 ghost use Rattle.std.specs.Prelude.{◌≡◌, ◌∷◌, [], OnOk, option_map, option_to_list};
-ghost use Rattle.auction_terms.specs.Judged.{Holds, HoldsMore, reported_as, fault_at, fault_of_whole, kept_fault};
+ghost use Rattle.auction_terms.specs.Judged.{Holds, HoldsMore, cause_text, reported_as, fault_at, fault_of_whole, kept_fault};
 ghost use Rattle.auction_terms.specs.Wording.{wording_text};
 
 use crate::front::Front;
 use crate::wording::Wording;
 use std::alloc::{AllocError, Global};
+
+/// What is wrong with a field, name, record or line, in words.
+#[derive(Drop)]
+pub enum Cause {
+    Words(Wording),
+    /// Words with more than two numbers.
+    Both(Wording, Wording),
+    /// Words, and the name that was wanted.
+    Wanted(&'static str, Front),
+}
 
 /// A fault of a text: where in its record or line it is, what is there, and what is wrong with it.
 #[derive(Drop)]
@@ -18,13 +28,20 @@ pub struct FaultAt<F> {
     /// Which fault it is, and in which record or line.
     pub fault: F,
     /// What is wrong with the field, name, record or line, in words; `None` where the fault's own name says it.
-    pub cause: Option<Wording>,
+    pub cause: Option<Cause>,
 }
 
 impl<F: Copy> FaultAt<F> {
     /// The fault of a field or name of this number, from 1, with these bytes.
     pub fn new(field: usize, text: &[u8], fault: F, cause: Wording) -> FaultAt<F>
         ensures { kept_fault result ≡ fault_at field text.now fault (wording_text cause) }
+    {
+        FaultAt::by_cause(field, text, fault, Cause::Words(cause))
+    }
+
+    /// The fault of a field or name of this number, from 1, with these bytes; 0 where the bytes are those of a whole line.
+    pub fn by_cause(field: usize, text: &[u8], fault: F, cause: Cause) -> FaultAt<F>
+        ensures { kept_fault result ≡ fault_at field text.now fault (cause_text cause) }
     {
         FaultAt {
             field,
@@ -42,7 +59,7 @@ impl<F: Copy> FaultAt<F> {
             field: 0,
             text: Front::of(b""),
             fault,
-            cause,
+            cause: cause.map(Cause::Words),
         }
     }
 

@@ -52,7 +52,7 @@ pub use group_list::Groups;
 pub use group_names::NameReader;
 pub use groups::Group;
 pub use groups_text::{GroupFault, group_faults, read_groups};
-pub use judge::{All, FaultAt};
+pub use judge::{All, Cause, FaultAt};
 pub use limits::{
     FRONT_LEN, GREATEST_AMOUNT, GREATEST_POINTS, GREATEST_QUANTITY, GREATEST_VALUE,
     GREATEST_WEIGHT, MOST_BIDDERS, MOST_BIDS, MOST_CATEGORIES, MOST_FAULTS, MOST_GROUPS,
@@ -69,4 +69,4 @@ pub use rules::{Bidder, Category, Pool, Rules};
 pub use rules_text::{RulesFault, read_rules, rules_faults};
 pub use token::{TokenFault, TokenParts, after, are_all_digits, read_token};
 pub use weights::Weights;
-pub use wording::Wording;
+pub use wording::{Code, Wording};

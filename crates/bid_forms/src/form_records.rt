@@ -25,7 +25,7 @@ use crate::seen::{Seen, earlier};
 use crate::sums::{is_empty_package, points_of, reserve_of};
 use arrayvec::ArrayVec;
 use auction_terms::{
-    All, Bid, Category, FaultAt, GREATEST_AMOUNT, GREATEST_QUANTITY, MOST_BIDS, Package,
+    All, Bid, Category, Cause, FaultAt, Front, GREATEST_AMOUNT, GREATEST_QUANTITY, MOST_BIDS, Package,
     Quantities, Rules, Wording, count_cause, field, limits_cause, most_cause, number,
 };
 use csv::ByteRecord;
@@ -58,8 +58,8 @@ pub(crate) fn header_fault(
     for (place, category) in categories.iter().enumerate() {
         let text = field(header, place + 2);
         if text != category.name.as_bytes() {
-            let cause = Wording::Words("in place of");
-            return Some(FaultAt::new(place + 2, text, fault, cause));
+            let cause = Cause::Wanted("in place of ", Front::of_name(&category.name));
+            return Some(FaultAt::by_cause(place + 2, text, fault, cause));
         }
     }
     None

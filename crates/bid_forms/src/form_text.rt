@@ -1,15 +1,14 @@
 //! The text of a form.
 
-ghost use Rattle.std.specs.Prelude.{◌≡◌, ◌≢◌, ◌≤◌, ◌<◌, ◌+◌, ◌∷◌, [], None, Some, Err, IfOk, IsTrue, MatchOption, OnOk, ⊤, length, map};
+ghost use Rattle.std.specs.Prelude.{◌≡◌, ◌≢◌, ◌≤◌, ◌<◌, ◌+◌, ◌∷◌, [], None, Some, Err, IfOk, IsTrue, MatchOption, OnOk, ⊤, codes, length, map, option_map};
 ghost use Rattle.auction_terms.specs.Judged.{Holds, fault_of_whole};
 ghost use Rattle.auction_terms.specs.Records.{records_of};
 ghost use Rattle.auction_terms.specs.Stages.{Answers};
-ghost use Rattle.auction_terms.specs.Wording.{wording_text};
+ghost use Rattle.auction_terms.specs.Wording.{code_seen, wording_text};
 ghost use Rattle.auction_terms.specs.declared.limits.TheConstants.{MOST_FAULTS};
-ghost use Rattle.bid_forms.specs.FormFaultText.{form_fault_text};
+ghost use Rattle.bid_forms.specs.FormFaultText.{earlier_bid, form_code, form_fault_text, form_place};
 ghost use Rattle.bid_forms.specs.FormText.{bids_faults, described_form, form_faults, form_of_records, is_form_memory, parsed_bid};
 ghost use Rattle.bid_forms.specs.Offers.{Meets, eligibility_of};
-ghost use Rattle.bid_forms.specs.FormPlaces.{form_place};
 ghost use Rattle.bid_forms.specs.declared.form_text.FormFault.TheVariants as fault;
 ghost use Rattle.bid_forms.specs.inside.FormText.{AreBids, FindsEnough};
 
@@ -17,7 +16,7 @@ use crate::form::{Form, eligibility_of};
 use crate::form_records::{Entry, header_fault, take_bid};
 use crate::seen::Seen;
 use auction_terms::{
-    All, Bid, FaultAt, GREATEST_AMOUNT, MOST_FAULTS, RecordReader, Rules, TEXT_LIMIT, Wording,
+    All, Bid, Code, FaultAt, GREATEST_AMOUNT, MOST_FAULTS, RecordReader, Rules, TEXT_LIMIT, Wording,
     field,
 };
 use csv::ByteRecord;
@@ -62,44 +61,84 @@ pub enum FormFault {
     OutOfMemory,
 }
 
+// The number and the name of a fault that also has the number of an earlier bid.
+fn repeated_package() -> Code
+    ensures number { result.number ≡ 13 }
+    ensures name { result.name.now ≡ codes "RepeatedPackage" }
+{
+    Code::new(13, "RepeatedPackage")
+}
+
 impl FormFault {
+    /// The number and the name of the fault; `None` where memory was refused, which is no fault of the text.
+    pub fn code(self) -> Option<Code>
+        ensures { option_map code_seen result ≡ form_code self }
+    {
+        match self {
+            FormFault::TooLarge => Some(Code::new(1, "TooLarge")),
+            FormFault::Header { .. } => Some(Code::new(2, "Header")),
+            FormFault::UnknownBidder { .. } => Some(Code::new(3, "UnknownBidder")),
+            FormFault::FieldCount { .. } => Some(Code::new(4, "FieldCount")),
+            FormFault::AmountText { .. } => Some(Code::new(5, "AmountText")),
+            FormFault::AmountRange { .. } => Some(Code::new(6, "AmountRange")),
+            FormFault::AmountStep { .. } => Some(Code::new(7, "AmountStep")),
+            FormFault::QuantityText { .. } => Some(Code::new(8, "QuantityText")),
+            FormFault::QuantityRange { .. } => Some(Code::new(9, "QuantityRange")),
+            FormFault::EmptyPackage { .. } => Some(Code::new(10, "EmptyPackage")),
+            FormFault::OverEligibility { .. } => Some(Code::new(11, "OverEligibility")),
+            FormFault::BelowReserve { .. } => Some(Code::new(12, "BelowReserve")),
+            FormFault::RepeatedPackage { .. } => Some(repeated_package()),
+            FormFault::TooManyBids { .. } => Some(Code::new(14, "TooManyBids")),
+            FormFault::OutOfMemory => None,
+        }
+    }
+
+    /// The number, from 1, of the earlier bid that has the same package, where the fault is that there is one.
+    pub fn earlier(self) -> Option<u32>
+        ensures { result ≡ earlier_bid self }
+    {
+        match self {
+            FormFault::RepeatedPackage { place: _, earlier } => Some(earlier),
+            FormFault::TooLarge
+            | FormFault::Header { .. }
+            | FormFault::UnknownBidder { .. }
+            | FormFault::FieldCount { .. }
+            | FormFault::AmountText { .. }
+            | FormFault::AmountRange { .. }
+            | FormFault::AmountStep { .. }
+            | FormFault::QuantityText { .. }
+            | FormFault::QuantityRange { .. }
+            | FormFault::EmptyPackage { .. }
+            | FormFault::OverEligibility { .. }
+            | FormFault::BelowReserve { .. }
+            | FormFault::TooManyBids { .. }
+            | FormFault::OutOfMemory => None,
+        }
+    }
+
     /// What is reported of the fault: its number and name, in which record it is, and an earlier bid.
     pub fn wording(self) -> Wording
         ensures { wording_text result ≡ form_fault_text self }
     {
-        match self {
-            FormFault::TooLarge => Wording::Words("1 TooLarge"),
-            FormFault::Header { place } => Wording::at("2 Header at record ", place),
-            FormFault::UnknownBidder { place } => Wording::at("3 UnknownBidder at record ", place),
-            FormFault::FieldCount { place } => Wording::at("4 FieldCount at record ", place),
-            FormFault::AmountText { place } => Wording::at("5 AmountText at record ", place),
-            FormFault::AmountRange { place } => Wording::at("6 AmountRange at record ", place),
-            FormFault::AmountStep { place } => Wording::at("7 AmountStep at record ", place),
-            FormFault::QuantityText { place } => Wording::at("8 QuantityText at record ", place),
-            FormFault::QuantityRange { place } => Wording::at("9 QuantityRange at record ", place),
-            FormFault::EmptyPackage { place } => Wording::at("10 EmptyPackage at record ", place),
-            FormFault::OverEligibility { place } => Wording::at(
-                "11 OverEligibility at record ",
-                place,
-            ),
-            FormFault::BelowReserve { place } => Wording::at("12 BelowReserve at record ", place),
-            FormFault::RepeatedPackage { place, earlier } => Wording::Numbers(
-                "13 RepeatedPackage at record ",
-                place as u64,
+        if let FormFault::RepeatedPackage { place, earlier } = self {
+            return Wording::NamedWith(
+                repeated_package(),
+                " at record ",
+                u64::from(place),
                 ", earlier bid ",
-                earlier as u64,
-            ),
-            FormFault::TooManyBids { place } => Wording::at("14 TooManyBids at record ", place),
-            FormFault::OutOfMemory => Wording::Words("out of memory"),
+                u64::from(earlier),
+            );
         }
+        Wording::of_fault(self.code(), " at record ", self.place())
     }
 
-    /// The number, from 1, of the record in which the fault is; 0 where it is that of the whole text.
-    pub fn place(self) -> u32
+    /// The number, from 1, of the record in which the fault is, 0 where the text has none; `None` where it is that of the whole
+    /// text.
+    pub fn place(self) -> Option<u32>
         ensures { result ≡ form_place self }
     {
         match self {
-            FormFault::TooLarge | FormFault::OutOfMemory => 0,
+            FormFault::TooLarge | FormFault::OutOfMemory => None,
             FormFault::Header { place }
             | FormFault::UnknownBidder { place }
             | FormFault::FieldCount { place }
@@ -112,7 +151,7 @@ impl FormFault {
             | FormFault::OverEligibility { place }
             | FormFault::BelowReserve { place }
             | FormFault::RepeatedPackage { place, earlier: _ }
-            | FormFault::TooManyBids { place } => place,
+            | FormFault::TooManyBids { place } => Some(place),
         }
     }
 }
