@@ -35,7 +35,7 @@ pub columns-more : (categories : List Category) (r : Record) (place : ℕ) (cate
     → place < length categories → category ≡ slice_index_or categories place category
     → first_failed (column_checks (place + 2) (drop place categories) r)
     ≡ (if bytes_eq (record_field (place + 2) r) category.name then first_failed (column_checks (place + 1 + 2) (drop (place + 1) categories) r)
-    else Some (fault_at (place + 2) (record_field (place + 2) r) (fault.Header 1) (codes "in place of")))
+    else Some (fault_at (place + 2) (record_field (place + 2) r) (fault.Header 1) (codes "in place of " ++ category.name)))
 columns-more categories r place category small at =
     let next : drop place categories ≡ category ∷ drop (place + 1) categories =
     rw (add-one place) (drop-cons categories place category small ∙ ap (λ c. c ∷ drop (suc place) categories) (sym at)) in

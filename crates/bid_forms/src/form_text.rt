@@ -63,8 +63,7 @@ pub enum FormFault {
 
 // The number and the name of a fault that also has the number of an earlier bid.
 fn repeated_package() -> Code
-    ensures number { result.number ≡ 13 }
-    ensures name { result.name.now ≡ codes "RepeatedPackage" }
+    ensures { code_seen result ≡ record { number = 13; name = codes "RepeatedPackage" } }
 {
     Code::new(13, "RepeatedPackage")
 }
@@ -124,9 +123,9 @@ impl FormFault {
             return Wording::NamedWith(
                 repeated_package(),
                 " at record ",
-                u64::from(place),
+                place as u64,
                 ", earlier bid ",
-                u64::from(earlier),
+                earlier as u64,
             );
         }
         Wording::of_fault(self.code(), " at record ", self.place())
