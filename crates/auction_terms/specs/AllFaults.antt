@@ -1,15 +1,10 @@
 -- All faults of a list whose items are checked one after the other, each given the accepted ones before it.
 use Rattle.std.specs.Prelude.{◌+◌, ◌++◌, Bool, ℕ, List, [], ◌∷◌, if◌then◌else◌}
-use Rattle.auction_terms.specs.declared.faults.Found.{Found}
-
--- a fault at a field, or of the whole record or line
-abbrev pub found : {F : Type 0} → ℕ → F → Found F
-found field fault = record { field = field; fault = fault }
 
 -- the faults of the checks that are not passed, in their order
-abbrev pub all_failed : {F : Type 0} → ℕ → List (Bool × F) → List (Found F)
-all_failed field [] = []
-all_failed field (check ∷ more) = if check.0 then all_failed field more else found field check.1 ∷ all_failed field more
+abbrev pub failed : {F : Type 0} → List (Bool × F) → List F
+failed [] = []
+failed (check ∷ more) = if check.0 then failed more else check.1 ∷ failed more
 
 -- faults, and after them what is checked only where there is none of them
 abbrev pub or_else : {F : Type 0} → List F → List F → List F
