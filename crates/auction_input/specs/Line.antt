@@ -2,6 +2,7 @@
 use Rattle.std.specs.Prelude.{◌⊎◌, ◌++◌, ℕ, List, [], ◌∷◌, Option, None, Some, codes, decimal}
 use Rattle.auction_input.specs.declared.input.InputFault.TheVariants as input
 use Rattle.auction_input.specs.declared.parts.PartFault.TheVariants as part
+use Rattle.auction_input.specs.declared.part_kind.PartKind.{PartKind}
 use Rattle.auction_input.specs.declared.part_kind.PartKind.TheVariants as kind_of_part
 use Rattle.auction_input.specs.declared.refusal.Refusal.TheVariants as refusal
 use Rattle.auction_input.specs.declared.refusal.Refusal.{Refusal}
@@ -39,6 +40,27 @@ tie_fault_text tie.LowerTotal = codes "total below that of group 1"
 tie_fault_text tie.SameAsFirst = codes "same winners as group 1"
 tie_fault_text (tie.SameAsTie n) = codes "same winners as tie " ++ decimal n
 
+-- the words on bytes before the first part
+abbrev pub before_first : List ℕ
+before_first = codes "bytes before the first part"
+
+-- the words on a part that only inputs of version 1 have
+abbrev pub of_version_1 : List ℕ
+of_version_1 = codes "%weights is of version 1, and wdp-office prices makes %rule in its place"
+
+-- the words on a kind of which there are too few parts, or too many
+abbrev pub wrong_number : PartKind → List ℕ
+wrong_number kind_of_part.Rules = codes "wrong number of rules"
+wrong_number kind_of_part.Form = codes "wrong number of forms"
+wrong_number kind_of_part.Groups = codes "wrong number of groups"
+wrong_number kind_of_part.Solution = codes "wrong number of solutions"
+wrong_number kind_of_part.Certificate = codes "wrong number of certificates"
+wrong_number kind_of_part.Unique = codes "wrong number of uniques"
+wrong_number kind_of_part.Tie = codes "wrong number of ties"
+wrong_number kind_of_part.Prices = codes "wrong number of prices"
+wrong_number kind_of_part.Cover = codes "wrong number of covers"
+wrong_number kind_of_part.Rule = codes "wrong number of price rules"
+
 -- what is reported of a refusal: wherever memory was short, just that; of a fault the words of its part before it
 abbrev pub refusal_text : Refusal → List ℕ
 refusal_text (refusal.Input input.OutOfMemory) = codes "out of memory"
@@ -54,20 +76,10 @@ refusal_text (refusal.Prices price.OutOfMemory) = codes "out of memory"
 refusal_text (refusal.Rule price.OutOfMemory) = codes "out of memory"
 refusal_text (refusal.Input input.ReadFailed) = codes "input: read failed"
 refusal_text (refusal.Input input.TooLarge) = codes "input: too large"
-refusal_text (refusal.Parts part.BeforeFirst) = codes "input: bytes before the first part"
+refusal_text (refusal.Parts part.BeforeFirst) = codes "input: " ++ before_first
 refusal_text (refusal.Parts (part.PartName place)) = codes "input: part " ++ (decimal place ++ codes " not known")
-refusal_text (refusal.Parts (part.OfVersion1 place)) =
-    codes "input: part " ++ (decimal place ++ codes " not known: %weights is of version 1, and wdp-office prices makes %rule in its place")
-refusal_text (refusal.PartCount kind_of_part.Rules) = codes "input: wrong number of rules"
-refusal_text (refusal.PartCount kind_of_part.Form) = codes "input: wrong number of forms"
-refusal_text (refusal.PartCount kind_of_part.Groups) = codes "input: wrong number of groups"
-refusal_text (refusal.PartCount kind_of_part.Solution) = codes "input: wrong number of solutions"
-refusal_text (refusal.PartCount kind_of_part.Certificate) = codes "input: wrong number of certificates"
-refusal_text (refusal.PartCount kind_of_part.Prices) = codes "input: wrong number of prices"
-refusal_text (refusal.PartCount kind_of_part.Cover) = codes "input: wrong number of covers"
-refusal_text (refusal.PartCount kind_of_part.Rule) = codes "input: wrong number of price rules"
-refusal_text (refusal.PartCount kind_of_part.Unique) = codes "input: wrong number of uniques"
-refusal_text (refusal.PartCount kind_of_part.Tie) = codes "input: wrong number of ties"
+refusal_text (refusal.Parts (part.OfVersion1 place)) = (codes "input: part " ++ (decimal place ++ codes " not known: ")) ++ of_version_1
+refusal_text (refusal.PartCount kind) = codes "input: " ++ wrong_number kind
 refusal_text (refusal.Rules f) = codes "rules: " ++ rules_fault_text f
 refusal_text (refusal.Form n f) = (codes "form " ++ (decimal n ++ codes ": ")) ++ form_fault_text f
 refusal_text (refusal.AnotherForm f) = codes "another form of " ++ f.bidder

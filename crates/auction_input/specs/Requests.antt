@@ -20,7 +20,7 @@ abbrev pub target_of : Request → Option Target
 target_of Text = Some target.Text
 target_of Check = None
 target_of (Compile workers) = Some target.Compile
-target_of (Explain bids command) = command
+target_of (Explain bids command format) = command
 target_of (Map group) = Some target.Map
 target_of (Report workers) = Some target.Report
 target_of (Verify workers) = Some target.Verify

@@ -39,7 +39,7 @@ pub use form_texts::{AnotherForm, FormTexts};
 pub use given::{Given, Input};
 pub use input::{INPUT_LIMIT, InputFault, Unread, is_standard_input, read_inputs};
 pub use last_forms::{FormParts, LastForm, LastForms, read_last_forms};
-pub use message::Message;
+pub use message::{BEFORE_FIRST, Message, OF_VERSION_1};
 pub use name::Name;
 pub use part_kind::PartKind;
 pub use parts::{Part, PartFault, count_of, split_parts, text_numbers_of, text_of, texts_of};

@@ -76,6 +76,12 @@ impl<'r> Message<'r> {
 
 const OUT_OF_MEMORY: &str = "out of memory";
 
+/// What is reported of bytes before the first part of an input.
+pub const BEFORE_FIRST: &str = "bytes before the first part";
+
+/// What is reported of a part that only inputs of version 1 have, after its number.
+pub const OF_VERSION_1: &str = "%weights is of version 1, and wdp-office prices makes %rule in its place";
+
 // What is reported of an input that isn't taken.
 fn in_input(fault: InputFault) -> Message<'static>
     ensures { message_text result ≡ refusal_text (Refusal.Input fault) }
@@ -91,34 +97,26 @@ fn in_input(fault: InputFault) -> Message<'static>
 fn in_parts(fault: PartFault) -> Message<'static>
     ensures { message_text result ≡ refusal_text (Refusal.Parts fault) }
 {
-    Message::only(match fault {
-        PartFault::BeforeFirst => Wording::Words("input: bytes before the first part"),
-        PartFault::PartName { part } => Wording::Between("input: part ", part as u64, " not known"),
-        PartFault::OfVersion1 { part } => Wording::Between(
+    match fault {
+        PartFault::BeforeFirst => Message::in_part("input: ", Wording::Words(BEFORE_FIRST)),
+        PartFault::PartName { part } => Message::only(Wording::Between(
             "input: part ",
             part as u64,
-            " not known: %weights is of version 1, and wdp-office prices makes %rule in its place",
+            " not known",
+        )),
+        PartFault::OfVersion1 { part } => Message::without_name(
+            Wording::Between("input: part ", part as u64, " not known: "),
+            Wording::Words(OF_VERSION_1),
         ),
-        PartFault::OutOfMemory => Wording::Words(OUT_OF_MEMORY),
-    })
+        PartFault::OutOfMemory => Message::only(Wording::Words(OUT_OF_MEMORY)),
+    }
 }
 
 // What is reported of parts of which there are too few or too many. Forms are not counted.
 fn in_count(kind: PartKind) -> Message<'static>
     ensures { message_text result ≡ refusal_text (Refusal.PartCount kind) }
 {
-    Message::only(Wording::Words(match kind {
-        PartKind::Rules => "input: wrong number of rules",
-        PartKind::Form => "input: wrong number of forms",
-        PartKind::Groups => "input: wrong number of groups",
-        PartKind::Solution => "input: wrong number of solutions",
-        PartKind::Certificate => "input: wrong number of certificates",
-        PartKind::Unique => "input: wrong number of uniques",
-        PartKind::Tie => "input: wrong number of ties",
-        PartKind::Prices => "input: wrong number of prices",
-        PartKind::Cover => "input: wrong number of covers",
-        PartKind::Rule => "input: wrong number of price rules",
-    }))
+    Message::in_part("input: ", Wording::Words(kind.wrong_number()))
 }
 
 // The words on a tie, with another number if it has one.

@@ -1,6 +1,7 @@
 //! The kinds of parts.
 
 ghost use Rattle.std.specs.Prelude.{◌≡◌};
+ghost use Rattle.auction_input.specs.Line.{wrong_number};
 ghost use Rattle.auction_input.specs.Parts.{name_of};
 ghost use Rattle.auction_input.specs.inside.Parts.{kind_named, known_kinds};
 
@@ -59,6 +60,24 @@ impl PartKind {
             PartKind::Prices => b"%prices".as_slice(),
             PartKind::Cover => b"%cover".as_slice(),
             PartKind::Rule => b"%rule".as_slice(),
+        }
+    }
+
+    /// What is reported where there are too few or too many parts of this kind.
+    pub fn wrong_number(self) -> &'static str
+        ensures { result.now ≡ wrong_number self }
+    {
+        match self {
+            PartKind::Rules => "wrong number of rules",
+            PartKind::Form => "wrong number of forms",
+            PartKind::Groups => "wrong number of groups",
+            PartKind::Solution => "wrong number of solutions",
+            PartKind::Certificate => "wrong number of certificates",
+            PartKind::Unique => "wrong number of uniques",
+            PartKind::Tie => "wrong number of ties",
+            PartKind::Prices => "wrong number of prices",
+            PartKind::Cover => "wrong number of covers",
+            PartKind::Rule => "wrong number of price rules",
         }
     }
 }

@@ -3,6 +3,8 @@
 ghost use Rattle.std.specs.Prelude.{◌≡◌};
 ghost use Rattle.auction_input.specs.Requests.{ignores_others, target_named, target_of};
 
+use byte_sinks::Format;
+
 /// A command that takes the parts of an input.
 #[derive(Clone, Copy)]
 pub enum Target {
@@ -39,8 +41,12 @@ pub enum Request {
     /// The programs of all groups, by so many workers.
     Compile { workers: usize },
     /// All faults of an input, as a command takes it if one is named; where there is none, and this is asked for, which bids are in
-    /// no program.
-    Explain { bids: bool, target: Option<Target> },
+    /// no program. Both are printed as lines in words, or of JSON.
+    Explain {
+        bids: bool,
+        target: Option<Target>,
+        format: Format,
+    },
     /// What a solution wins without a group, which counts from 1.
     Map { group: usize },
     /// What the solutions of all groups win, and the groups' opportunity costs, by so many workers.
@@ -61,7 +67,11 @@ impl Request {
             Request::Text => Some(Target::Text),
             Request::Check | Request::Forms => None,
             Request::Compile { workers: _ } => Some(Target::Compile),
-            Request::Explain { bids: _, target } => target,
+            Request::Explain {
+                bids: _,
+                target,
+                format: _,
+            } => target,
             Request::Map { group: _ } => Some(Target::Map),
             Request::Report { workers: _ } => Some(Target::Report),
             Request::Verify { workers: _ } => Some(Target::Verify),
