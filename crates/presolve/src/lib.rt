@@ -9,6 +9,7 @@ pub mod laws;
 mod order;
 mod ranks;
 mod reason;
+mod reason_objects;
 mod reason_words;
 mod reasons;
 mod search;

@@ -2,7 +2,8 @@
 
 ghost use Rattle.std.specs.Prelude.{◌≡◌, ◌++◌, ◌∷◌, ◌≤◌, [], codes, decimal, map};
 ghost use Rattle.bid_desk.specs.Sale.{bidder_name};
-ghost use Rattle.presolve.specs.Lines.{category_name, left_out_line, pool_name, reason_text, replaced_line};
+ghost use Rattle.presolve.specs.Lines.{left_out_line, reason_text, replaced_line};
+ghost use Rattle.presolve.specs.Names.{category_name, pool_name};
 ghost use Rattle.presolve.specs.declared.reason.Reason.TheVariants as reason;
 ghost use Rattle.byte_sinks.specs.Adds.{Adds};
 
@@ -12,7 +13,7 @@ use byte_sinks::{Sink, Writer};
 use itoa::Buffer;
 
 // The name of a category by its place.
-fn category_name(rules: &Rules, place: usize) -> &[u8]
+pub(crate) fn category_name(rules: &Rules, place: usize) -> &[u8]
     ensures { result.now ≡ category_name rules.now place }
 {
     match rules.categories().get(place) {
@@ -22,7 +23,7 @@ fn category_name(rules: &Rules, place: usize) -> &[u8]
 }
 
 // The name of a pool by its place.
-fn pool_name(rules: &Rules, place: usize) -> &[u8]
+pub(crate) fn pool_name(rules: &Rules, place: usize) -> &[u8]
     ensures { result.now ≡ pool_name rules.now place }
 {
     match rules.pools().get(place) {
@@ -32,7 +33,7 @@ fn pool_name(rules: &Rules, place: usize) -> &[u8]
 }
 
 // The name of a bidder by its number, from 1.
-fn bidder_name(rules: &Rules, bidder: usize) -> &[u8]
+pub(crate) fn bidder_name(rules: &Rules, bidder: usize) -> &[u8]
     ensures { result.now ≡ bidder_name (map (λ b. b.name) rules.now.bidders) bidder }
 {
     if bidder == 0 {

@@ -5,42 +5,63 @@ ghost use Rattle.std.specs.List.{last_or};
 ghost use Rattle.std.specs.Option.{option_map_or};
 ghost use Rattle.byte_sinks.specs.Adds.{Adds};
 ghost use Rattle.byte_sinks.specs.Sinks.{Sends};
-ghost use Rattle.presolve.specs.Lines.{form_lines, forms_by, left_out_line, left_out_lines, replaced_line, replaced_lines};
+ghost use Rattle.presolve.specs.Lines.{form_lines, forms_by, left_out, left_out_lines, replaced, replaced_lines};
 
 use crate::reason::Reason;
+use crate::reason_objects::{add_object, add_replaced_object};
 use crate::reason_words::{add_line, add_replaced_line};
 use crate::reasons::Reasons;
 use auction_terms::Rules;
-use byte_sinks::{Sink, WriteFault, Writer};
+use byte_sinks::{Format, Sink, WriteFault, Writer};
+
+// Adds the line of a bid.
+fn add_bid<S: Sink>(
+    writer: &mut Writer<'_, S>,
+    format: Format,
+    rules: &Rules,
+    bidder: usize,
+    number: usize,
+    reason: Reason,
+)
+    ensures { Adds S.state writer.old writer.new
+        (left_out format rules.now bidder number reason) }
+{
+    match format {
+        Format::Words => add_line(writer, rules, bidder, number, reason),
+        Format::Json => add_object(writer, rules, bidder, number, reason),
+    }
+}
 
 // Adds the line of a bid, where there is a reason for it.
 fn add_left_out<S: Sink>(
     writer: &mut Writer<'_, S>,
+    format: Format,
     rules: &Rules,
     bidder: usize,
     number: usize,
     why: Option<Reason>,
 )
     ensures { Adds S.state writer.old writer.new
-        (option_map_or (left_out_line rules.now bidder number) why []) }
+        (option_map_or (left_out format rules.now bidder number) why []) }
 {
     if let Some(reason) = why {
-        add_line(writer, rules, bidder, number, reason);
+        add_bid(writer, format, rules, bidder, number, reason);
     }
 }
 
 // Adds the lines of a bidder's form.
 fn add_form<S: Sink>(
     writer: &mut Writer<'_, S>,
+    format: Format,
     rules: &Rules,
     bidder: usize,
     reasons: &[Option<Reason>],
 )
     ensures { Adds S.state writer.old writer.new
-        (form_lines rules.now bidder reasons.now) }
+        (form_lines format rules.now bidder reasons.now) }
 {
     for (place, &reason) in reasons.iter().enumerate() {
-        add_left_out(writer, rules, bidder, place + 1, reason);
+        add_left_out(writer, format, rules, bidder, place + 1, reason);
     }
 }
 
@@ -57,9 +78,28 @@ fn last_form(bidders: &[u16], bidder: usize) -> Option<usize>
     last
 }
 
+// Adds the line of a form that is replaced.
+fn add_old_form<S: Sink>(
+    writer: &mut Writer<'_, S>,
+    format: Format,
+    rules: &Rules,
+    bidder: usize,
+    last: usize,
+    number: usize,
+)
+    ensures { Adds S.state writer.old writer.new
+        (replaced format rules.now bidder last number) }
+{
+    match format {
+        Format::Words => add_replaced_line(writer, rules, bidder, last, number),
+        Format::Json => add_replaced_object(writer, rules, bidder, last, number),
+    }
+}
+
 // Adds the line of a form of some bidder, where it is of this one, and not its last.
 fn add_replaced<S: Sink>(
     writer: &mut Writer<'_, S>,
+    format: Format,
     rules: &Rules,
     bidder: usize,
     last: usize,
@@ -67,17 +107,18 @@ fn add_replaced<S: Sink>(
 )
     ensures { Adds S.state writer.old writer.new
         (if form.1 == bidder then (if form.0 == last then []
-        else replaced_line rules.now bidder last form.0) else []) }
+        else replaced format rules.now bidder last form.0) else []) }
 {
     let (number, owner) = form;
     if usize::from(owner) == bidder && number != last {
-        add_replaced_line(writer, rules, bidder, last, number);
+        add_old_form(writer, format, rules, bidder, last, number);
     }
 }
 
 // Adds the lines of a bidder's forms but the last.
 fn add_replaced_by<S: Sink>(
     writer: &mut Writer<'_, S>,
+    format: Format,
     rules: &Rules,
     bidders: &[u16],
     bidder: usize,
@@ -85,70 +126,81 @@ fn add_replaced_by<S: Sink>(
 )
     ensures { Adds S.state writer.old writer.new
         (flat_map (λ number. if number == last then []
-        else replaced_line rules.now bidder last number) (forms_by bidders.now bidder)) }
+        else replaced format rules.now bidder last number) (forms_by bidders.now bidder)) }
 {
     for (place, &owner) in bidders.iter().enumerate() {
-        add_replaced(writer, rules, bidder, last, (place + 1, owner));
+        add_replaced(writer, format, rules, bidder, last, (place + 1, owner));
     }
 }
 
 // Adds the lines of a bidder's forms that are replaced.
 fn add_replaced_forms<S: Sink>(
     writer: &mut Writer<'_, S>,
+    format: Format,
     rules: &Rules,
     bidders: &[u16],
     bidder: usize,
 )
     ensures { Adds S.state writer.old writer.new
-        (replaced_lines rules.now bidders.now bidder) }
+        (replaced_lines format rules.now bidders.now bidder) }
 {
     if let Some(last) = last_form(bidders, bidder) {
-        add_replaced_by(writer, rules, bidders, bidder, last);
+        add_replaced_by(writer, format, rules, bidders, bidder, last);
     }
 }
 
 // Adds the lines of a bidder.
 fn add_bidder<S: Sink>(
     writer: &mut Writer<'_, S>,
+    format: Format,
     rules: &Rules,
     bidders: &[u16],
     bidder: usize,
     reasons: &[Option<Reason>],
 )
     ensures { Adds S.state writer.old writer.new
-        (replaced_lines rules.now bidders.now bidder ++ form_lines rules.now bidder reasons.now) }
+        (replaced_lines format rules.now bidders.now bidder ++ form_lines format rules.now bidder reasons.now) }
 {
-    add_replaced_forms(writer, rules, bidders, bidder);
-    add_form(writer, rules, bidder, reasons);
+    add_replaced_forms(writer, format, rules, bidders, bidder);
+    add_form(writer, format, rules, bidder, reasons);
 }
 
 // Adds the lines of a book.
 fn add_bidders<S: Sink>(
     writer: &mut Writer<'_, S>,
+    format: Format,
     rules: &Rules,
     bidders: &[u16],
     reasons: &Reasons,
 )
     ensures { Adds S.state writer.old writer.new
-        (left_out_lines rules.now bidders.now reasons.now) }
+        (left_out_lines format rules.now bidders.now reasons.now) }
 {
     for place in 0..reasons.forms.len() {
-        add_bidder(writer, rules, bidders, place + 1, &reasons.forms[place]);
+        add_bidder(
+            writer,
+            format,
+            rules,
+            bidders,
+            place + 1,
+            &reasons.forms[place],
+        );
     }
 }
 
-/// Writes a line for each bid of a book that there is a reason for, by rising number of the bidder, then of the bid; and
-/// before those of a bidder one for each of its forms that its last one replaces. The numbers of forms are their places, from
-/// 1, among the bidders of all forms. It takes no memory.
+/// Writes a line, in words or of JSON, for each bid of a book that there is a reason for, by rising number of the bidder,
+/// then of the bid; and before those of a bidder one for each of its forms that its last one replaces. The numbers of forms
+/// are their places, from 1, among the bidders of all forms. It takes no memory.
 pub fn write_left_out<S: Sink>(
     rules: &Rules,
     form_bidders: &[u16],
     reasons: &Reasons,
+    format: Format,
     out: &mut S,
 ) -> Result<(), WriteFault>
-    ensures { Sends (S.state out.old) (S.state out.new) result (left_out_lines rules.now form_bidders.now reasons.now) }
+    ensures { Sends (S.state out.old) (S.state out.new) result (left_out_lines format rules.now form_bidders.now reasons.now) }
 {
     let mut writer = Writer::new(out);
-    add_bidders(&mut writer, rules, form_bidders, reasons);
+    add_bidders(&mut writer, format, rules, form_bidders, reasons);
     writer.flush()
 }

@@ -13,6 +13,7 @@ items form = form.items
 
 pub loop-place-preserved : goal.loop-place-preserved
 loop-place-preserved g c =
+    let f = c.args.format in
     let t = c.args.rules.now in
     let reasons = c.args.reasons.now in
     let forms = c.reasons.inside.forms.items in
@@ -23,15 +24,16 @@ loop-place-preserved g c =
     c.deref.ensures.value ∙ ap items c.index.ensures ∙ sym (get_or-map items forms place c.index.result.now [] (omega (arith, within, c.len-place-end.ensures)))
     ∙ ap (λ (xs : List (List (Option Reason))). slice_index_or xs place []) c.reasons.view_is in
     Adds-to (Adds-then c.loop-place.invariant (Adds-to c.add_bidder.ensures
-    (ap (λ (reasons : List (Option Reason)). replaced_lines t c.args.bidders.now (place + 1) ++ form_lines t (place + 1) reasons) own)))
-    (numbered-next (λ (numbered : ℕ × List (Option Reason)). replaced_lines t c.args.bidders.now numbered.0 ++ form_lines t numbered.0
+    (ap (λ (reasons : List (Option Reason)). replaced_lines f t c.args.bidders.now (place + 1) ++ form_lines f t (place + 1) reasons) own)))
+    (numbered-next (λ (numbered : ℕ × List (Option Reason)). replaced_lines f t c.args.bidders.now numbered.0 ++ form_lines f t numbered.0
     numbered.1) reasons place [] (omega (arith, within, c.len-place-end.ensures)))
 
 pub returns : goal.returns
 returns g c =
+    let f = c.args.format in
     let t = c.args.rules.now in
     let reasons = c.args.reasons.now in
     let forms = c.reasons.inside.forms.items in
     let count : length reasons ≡ length forms = sym (ap (λ (xs : List (List (Option Reason))). length xs) c.reasons.view_is) ∙ length-map forms items in
-    Adds-to c.loop-place.invariant (numbered-all (λ (numbered : ℕ × List (Option Reason)). replaced_lines t c.args.bidders.now numbered.0 ++
-    form_lines t numbered.0 numbered.1) reasons c.loop-place.place (omega (arith, c.loop-place-test.false, c.len-place-end.ensures)))
+    Adds-to c.loop-place.invariant (numbered-all (λ (numbered : ℕ × List (Option Reason)). replaced_lines f t c.args.bidders.now numbered.0 ++
+    form_lines f t numbered.0 numbered.1) reasons c.loop-place.place (omega (arith, c.loop-place-test.false, c.len-place-end.ensures)))

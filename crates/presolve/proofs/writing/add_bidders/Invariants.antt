@@ -10,5 +10,5 @@ use Rattle.presolve.proofs.writing.add_bidders.Given as goal
 abbrev pub invariant-loop-place : goal.invariant-loop-place
 invariant-loop-place g l =
     Adds g.S.Sink.state l.initial.writer l.writer
-    (flat_map (λ (numbered : ℕ × List (Option Reason)). replaced_lines l.rules l.bidders numbered.0 ++ form_lines l.rules numbered.0
+    (flat_map (λ (numbered : ℕ × List (Option Reason)). replaced_lines l.format l.rules l.bidders numbered.0 ++ form_lines l.format l.rules numbered.0
     numbered.1) (take l.place (enumerate_from 1 l.reasons)))

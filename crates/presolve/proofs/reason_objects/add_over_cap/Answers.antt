@@ -1,0 +1,11 @@
+use Rattle.std.proofs.Common.{ap}
+use Rattle.std.specs.Prelude.{codes}
+use Rattle.byte_sinks.proofs.AddingFacts.{Adds-then, Adds-to}
+use Rattle.byte_sinks.specs.Json.{text_member}
+use Rattle.presolve.proofs.reason_objects.add_over_cap.Goals as goal
+
+pub returns : goal.returns
+returns g c =
+    Adds-then c.add_text_member.ensures (Adds-then
+    (Adds-to c.add_text_member-2.ensures (ap (text_member (codes ", ") (codes "pool")) c.pool_name.ensures))
+    (Adds-then c.add_number_member.ensures c.add_number_member-2.ensures))
