@@ -4,6 +4,8 @@ use Rattle.auction_input.specs.declared.request.Request.TheVariants.{Check, Comp
 use Rattle.auction_input.specs.declared.request.Request.{Request}
 use Rattle.auction_input.specs.declared.request.Target.TheVariants as target
 use Rattle.auction_input.specs.declared.request.Target.{Target}
+use Rattle.byte_sinks.specs.declared.json.Format.{Format}
+use Rattle.byte_sinks.specs.declared.json.Format.TheVariants.{Words}
 use Rattle.auction_terms.specs.declared.limits.TheConstants.{MOST_GROUPS}
 use Rattle.auction_terms.specs.declared.limits.TheConstants.{MOST_WORKERS}
 
@@ -25,6 +27,17 @@ target_of (Map group) = Some target.Map
 target_of (Report workers) = Some target.Report
 target_of (Verify workers) = Some target.Verify
 target_of Forms = None
+
+-- how what is found in the input of a request is printed
+abbrev pub format_of : Request → Format
+format_of Text = Words
+format_of Check = Words
+format_of (Compile workers) = Words
+format_of (Explain bids command format) = format
+format_of (Map group) = Words
+format_of (Report workers) = Words
+format_of (Verify workers) = Words
+format_of Forms = Words
 
 -- whether parts of groups and of solutions may be there in any number, as none of them is read
 abbrev pub ignores_others : Request → Bool

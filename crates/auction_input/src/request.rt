@@ -1,7 +1,7 @@
 //! What is asked of an input.
 
 ghost use Rattle.std.specs.Prelude.{◌≡◌};
-ghost use Rattle.auction_input.specs.Requests.{ignores_others, target_named, target_of};
+ghost use Rattle.auction_input.specs.Requests.{format_of, ignores_others, target_named, target_of};
 
 use byte_sinks::Format;
 
@@ -75,6 +75,26 @@ impl Request {
             Request::Map { group: _ } => Some(Target::Map),
             Request::Report { workers: _ } => Some(Target::Report),
             Request::Verify { workers: _ } => Some(Target::Verify),
+        }
+    }
+
+    /// How what is found in the input is printed: `explain` may be asked for JSON.
+    pub fn format(&self) -> Format
+        ensures { result ≡ format_of self.now }
+    {
+        match *self {
+            Request::Explain {
+                bids: _,
+                target: _,
+                format,
+            } => format,
+            Request::Text
+            | Request::Check
+            | Request::Compile { workers: _ }
+            | Request::Map { group: _ }
+            | Request::Report { workers: _ }
+            | Request::Verify { workers: _ }
+            | Request::Forms => Format::Words,
         }
     }
 

@@ -5,7 +5,6 @@ use Rattle.std.specs.Prelude.{Bool, true, false, if◌then◌else◌, nat_lt}
 use Rattle.auction_terms.specs.AllFaults.{accepted_with, all_faults}
 use Rattle.auction_terms.specs.Judged.{Fault, reported_as}
 use Rattle.auction_terms.specs.Stages.{and_then, each_in_turn, refused_as, unless}
-use Rattle.auction_terms.specs.declared.faults.Found.{Found}
 use Rattle.auction_terms.specs.declared.limits.TheConstants.{TEXT_LIMIT}
 use Rattle.input_faults.specs.FaultsAs.{BeginWith, fault_as, judged_as}
 

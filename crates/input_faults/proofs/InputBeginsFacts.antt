@@ -1,24 +1,25 @@
 -- All faults of an input begin with the one that is reported.
 use Rattle.std.proofs.Common.{◌≡◌, ◌∙◌, ◌∷◌, ◌++◌, ℕ, Bool, true, false, List, [], Option, None, Some, Result, Ok, Err, ap, map, refl, subst, sym}
-use Rattle.std.specs.Prelude.{codes, if◌then◌else◌, length, nat_lt}
+use Rattle.std.specs.Prelude.{codes, if◌then◌else◌, length, nat_lt, option_map, option_to_list}
 use Rattle.auction_input.specs.Auction.{Auction}
 use Rattle.auction_input.specs.BookLeft.{sale_left}
 use Rattle.auction_input.specs.Calls.{one_too_many}
 use Rattle.auction_input.proofs.AnswerFacts.{ok-after, ok-refused_as, unless-ok}
 use Rattle.auction_input.specs.FormTexts.{form_elsewhere, in_one_text}
-use Rattle.auction_input.specs.Input.{Input}
+use Rattle.auction_input.specs.Input.{Given, Input}
 use Rattle.auction_input.specs.Parts.{Part, input_fault, parts_named, input_parts, text_numbers}
 use Rattle.auction_input.specs.ParsedParts.{only_text, parsed_parts}
 use Rattle.auction_input.specs.ParsedTexts.{parsed_form, parsed_groups, parsed_terms}
 use Rattle.auction_input.specs.Wanted.{numbers_in, refused_unless, with_wanted, parsed_taken, wanted, wants}
 use Rattle.auction_input.specs.declared.wanted.Unmet.{Unmet}
 use Rattle.auction_input.specs.declared.parts.PartFault.{PartFault}
+use Rattle.auction_input.specs.declared.parts.PartFault.TheVariants as uncut
 use Rattle.auction_input.specs.Plan.{miscounted}
 use Rattle.auction_input.specs.declared.part_kind.PartKind.{PartKind}
 use Rattle.auction_input.specs.declared.refusal.Refusal.{Refusal}
 use Rattle.auction_input.specs.declared.refusal.Refusal.TheVariants as refusal
 use Rattle.auction_terms.proofs.RulesTextFacts.{version-refused}
-use Rattle.auction_terms.specs.AllFaults.{all_failed, or_else}
+use Rattle.auction_terms.specs.AllFaults.{failed, or_else}
 use Rattle.auction_terms.specs.FirstFault.{first_failed, first_fault}
 use Rattle.auction_terms.specs.GroupsText.{group_faults, groups_of}
 use Rattle.auction_terms.specs.Judged.{fault_of_whole, first_or, reported_as}
@@ -30,14 +31,14 @@ use Rattle.auction_terms.specs.declared.record_kinds.Version.{Version}
 use Rattle.std.specs.Option.{option_map_or}
 use Rattle.auction_terms.specs.Stages.{and_then, each_in_turn, refused_as, unless}
 use Rattle.auction_terms.specs.Terms.{Terms}
-use Rattle.auction_terms.specs.declared.faults.Found.{Found}
 use Rattle.auction_terms.specs.declared.groups_text.GroupFault.TheVariants as groups
 use Rattle.auction_terms.specs.declared.rules_text.RulesFault.TheVariants as rules
 use Rattle.bid_forms.specs.FormText.{form_faults, form_of_records}
 use Rattle.bid_forms.specs.Offers.{Offers}
 use Rattle.bid_forms.specs.declared.form_text.FormFault.TheVariants as form
 use Rattle.input_faults.proofs.BeginFacts.{begin-each, begin-fault, begin-next}
-use Rattle.input_faults.specs.FaultsAs.{BeginWith, fault_as, faults_as, judged_as, judged_of_sized, unseen}
+use Rattle.input_faults.specs.FaultsAs.{BeginWith, fault_as, judged_as, judged_of_sized}
+use Rattle.input_faults.specs.PartFaults.{uncounted_fault, uncut_fault, unmet_fault}
 use Rattle.input_faults.specs.InputFaults.{call_fault, faults_in_parts, faults_of_form, faults_of_forms, faults_of_groups}
 use Rattle.input_faults.specs.InputFaults.{faults_of_rules, faults_of_texts, faults_under, input_faults, refusal_of}
 use Rattle.input_faults.specs.InputFaults.{text_fault, unmet_faults, unmet_under, where_read}
@@ -126,18 +127,27 @@ module _ (last_wins : Bool) (numbers : List ℕ) where
       subst (λ (r : Result Terms Refusal). BeginWith (judged_as refusal_of (where_read r (faults_under last_wins numbers forms groups)))
       (under (make t) forms groups t)) (sym is) (begin-under (make t) forms groups t))
 
+-- the fault of an input that isn't cut into parts is reported
+uncut-is : (texts : List Given) (f : PartFault) → refusal_of (uncut_fault texts f).fault ≡ refusal.Parts f
+uncut-is texts uncut.BeforeFirst = refl
+uncut-is texts (uncut.PartName n) = refl
+uncut-is texts (uncut.OfVersion1 n) = refl
+uncut-is texts uncut.OutOfMemory = refl
+
 -- after the parts, whose fault is alone
-begin-parts : (asked : Request) (parts : List Part) (found : Option PartFault) (others : List (Judged Fault))
-    (next : List Part → Result Auction Refusal) → BeginWith (judged_as refusal_of others) (next parts)
-    → BeginWith (judged_as refusal_of (or_else (or_else (fault_as fault.Parts found) (fault_as fault.PartCount (miscounted asked parts))) others))
-    (and_then (and_then (refused_as refusal.Parts (unless found (Ok parts))) (λ ps. refused_as refusal.PartCount (unless (miscounted asked ps) (Ok ps)))) next)
-begin-parts asked parts (Some f) others next are = (fault_of_whole (refusal.Parts f) None, [], refl, refl)
-begin-parts asked parts None others next are = by (miscounted asked parts)
+begin-parts : (asked : Request) (texts : List Given) (held : List Part) (found : Option PartFault) (others : List (Judged Fault))
+    (next : List Part → Result Auction Refusal) → BeginWith (judged_as refusal_of others) (next held)
+    → BeginWith (judged_as refusal_of (or_else (or_else (option_to_list (option_map (uncut_fault texts) found))
+    (option_to_list (option_map (uncounted_fault asked held) (miscounted asked held)))) others))
+    (and_then (and_then (refused_as refusal.Parts (unless found (Ok held))) (λ ps. refused_as refusal.PartCount (unless (miscounted asked ps) (Ok ps)))) next)
+begin-parts asked texts held (Some f) others next are =
+    (reported_as (refusal_of (uncut_fault texts f).fault) (uncut_fault texts f), [], refl, uncut-is texts f)
+begin-parts asked texts held None others next are = by (miscounted asked held)
   where
-    by : (o : Option PartKind) → BeginWith (judged_as refusal_of (or_else (fault_as fault.PartCount o) others))
-        (and_then (refused_as refusal.PartCount (unless o (Ok parts))) next)
+    by : (o : Option PartKind) → BeginWith (judged_as refusal_of (or_else (option_to_list (option_map (uncounted_fault asked held) o)) others))
+        (and_then (refused_as refusal.PartCount (unless o (Ok held))) next)
     by None = are
-    by (Some k) = (fault_of_whole (refusal.PartCount k) None, [], refl, refl)
+    by (Some k) = (reported_as (refusal.PartCount k) (uncounted_fault asked held k), [], refl, refl)
 
 -- the auction that parts describe, with these forms and groups
 abbrev auction_in : List Part → Terms → List Offers → List (List ℕ) → Auction
@@ -166,10 +176,11 @@ texts_in last_wins parts =
 
 -- tests, and what is unmet of them
 begin-wants : {A : Type 0} (tests : List (Bool × Unmet)) (x : A)
-    → BeginWith (judged_as refusal_of (faults_as fault.Unmet (all_failed 0 tests))) (unless (first_failed (refused_unless tests)) (Ok x))
+    → BeginWith (judged_as refusal_of (map unmet_fault (failed tests))) (unless (first_failed (refused_unless tests)) (Ok x))
 begin-wants [] x = refl
 begin-wants ((true, u) ∷ more) x = begin-wants more x
-begin-wants ((false, u) ∷ more) x = (unseen 0 (refusal_of (fault.Unmet u)), judged_as refusal_of (faults_as fault.Unmet (all_failed 0 more)), refl, refl)
+begin-wants ((false, u) ∷ more) x =
+    (reported_as (refusal_of (fault.Unmet u)) (unmet_fault u), judged_as refusal_of (map unmet_fault (failed more)), refl, refl)
 
 -- of an auction that the texts in parts describe
 begin-unmet : (command : Option Target) (last_wins : Bool) (parts : List Part) (auction : Auction) → texts_in last_wins parts ≡ Ok auction
@@ -214,7 +225,7 @@ begin-input asked input =
     let command = target_of asked in
     subst (λ (r : Result Auction Refusal). BeginWith (judged_as refusal_of (input_faults asked input)) r)
     (taken-after command (parsed_parts asked input) (texts_in input.last_wins))
-    (begin-parts asked parts (input_fault asked input) (faults_in_parts command input.last_wins parts) (λ ps. with_wanted command (texts_in input.last_wins ps))
+    (begin-parts asked input.texts parts (input_fault asked input) (faults_in_parts command input.last_wins parts) (λ ps. with_wanted command (texts_in input.last_wins ps))
     (begin-taken command _ _ (texts_in input.last_wins parts)
     (begin-texts input.last_wins (text_numbers (codes "%form") parts) (auction_in parts) (only_text (parts_named (codes "%rules") parts))
     (parts_named (codes "%form") parts) (only_text (parts_named (codes "%groups") parts)))

@@ -1,5 +1,4 @@
 pub mod BeginFacts
-pub mod DetailFacts
 pub mod ExplainFacts
 pub mod FormsFacts
 pub mod InputBeginsFacts

@@ -4,12 +4,11 @@ use Rattle.std.proofs.Common.{length-take, refl, sym, take, take_all}
 use Rattle.std.proofs.Common.{map}
 use Rattle.std.proofs.lemmas.List.{length-map, map-append, take-map, take-take}
 use Rattle.std.specs.Prelude.{◌^◌, min}
-use Rattle.auction_terms.specs.declared.faults.Found.{Found}
 use Rattle.auction_terms.specs.declared.limits.TheConstants.{MOST_FAULTS}
 use Rattle.auction_terms.specs.Judged.{Fault, Holds, HoldsMore, kept_fault, reported_as}
 use Rattle.auction_terms.specs.declared.judge.All.{All}
 use Rattle.auction_terms.specs.declared.judge.FaultAt.{FaultAt}
-use Rattle.input_faults.specs.FaultsAs.{faults_as, judged_as, unseen}
+use Rattle.input_faults.specs.FaultsAs.{judged_as}
 use Rattle.input_faults.specs.inside.Finding.{FindsMore}
 
 -- none

@@ -1,24 +1,23 @@
 -- What a command wants, and an input hasn't got.
-use Rattle.std.proofs.Common.{◌≡◌, ◌<◌, ◌+◌, ◌++◌, ◌∷◌, ◌∙◌, ℕ, Bool, true, false, List, [], None, Result, Ok, Err, ap, length, refl, slice_index_or, sym, take}
+use Rattle.std.proofs.Common.{◌≡◌, ◌<◌, ◌+◌, ◌++◌, ◌∷◌, ◌∙◌, ℕ, Bool, true, false, List, [], None, Result, Ok, Err, ap, length, map, refl, slice_index_or, sym, take}
 use Rattle.std.proofs.lemmas.List.{take_more}
 use Rattle.auction_input.specs.Parts.{Part}
 use Rattle.auction_input.specs.declared.refusal.Refusal.{Refusal}
 use Rattle.auction_input.specs.declared.wanted.Unmet.{Unmet}
-use Rattle.auction_terms.specs.AllFaults.{all_failed}
+use Rattle.auction_terms.specs.AllFaults.{failed}
 use Rattle.auction_terms.specs.Judged.{Fault as Judged}
-use Rattle.input_faults.specs.FaultsAs.{faults_as, unseen}
 use Rattle.input_faults.specs.InputFaults.{unmet_faults}
+use Rattle.input_faults.specs.PartFaults.{unmet_fault}
 use Rattle.input_faults.specs.declared.fault.Fault.{Fault}
-use Rattle.input_faults.specs.declared.fault.Fault.TheVariants as fault
 
 abbrev pub unmet_of : List (Bool × Unmet) → List (Judged Fault)
-unmet_of tests = faults_as fault.Unmet (all_failed 0 tests)
+unmet_of tests = map unmet_fault (failed tests)
 
 -- tests after others
 pub unmet-both : (first second : List (Bool × Unmet)) → unmet_of (first ++ second) ≡ unmet_of first ++ unmet_of second
 unmet-both [] second = refl
 unmet-both ((true, u) ∷ more) second = unmet-both more second
-unmet-both ((false, u) ∷ more) second = ap (λ (fs : List (Judged Fault)). unseen 0 (fault.Unmet u) ∷ fs) (unmet-both more second)
+unmet-both ((false, u) ∷ more) second = ap (λ (fs : List (Judged Fault)). unmet_fault u ∷ fs) (unmet-both more second)
 
 -- one test more
 pub unmet-next : (tests : List (Bool × Unmet)) (n : ℕ) (d : Bool × Unmet) → n < length tests

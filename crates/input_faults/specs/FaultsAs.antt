@@ -1,21 +1,11 @@
 -- Faults of a text, as those of a whole input.
 use Rattle.std.specs.Prelude.{◌≡◌, ℕ, List, [], ◌∷◌, Option, None, Result, Ok, Err, if◌then◌else◌, length, map, nat_lt, option_map, option_to_list}
-use Rattle.auction_terms.specs.AllFaults.{found}
 use Rattle.auction_terms.specs.Judged.{Fault, fault_of_whole, reported_as}
-use Rattle.auction_terms.specs.declared.faults.Found.{Found}
 use Rattle.auction_terms.specs.declared.limits.TheConstants.{TEXT_LIMIT}
 
 -- each fault at its place, reported as another
 abbrev pub judged_as : {F G : Type 0} → (F → G) → List (Fault F) → List (Fault G)
 judged_as whole faults = map (λ at. reported_as (whole at.fault) at) faults
-
--- a fault at a field, of which the bytes and the cause aren't known
-abbrev pub unseen : {F : Type 0} → ℕ → F → Fault F
-unseen field fault = record { field = field; text = []; fault = fault; cause = None }
-
--- faults of which the bytes aren't known, each at its place and reported as another
-abbrev pub faults_as : {F G : Type 0} → (F → G) → List (Found F) → List (Fault G)
-faults_as whole faults = map (λ at. unseen at.field (whole at.fault)) faults
 
 -- a fault, if there is one, which is of no field
 abbrev pub fault_as : {F G : Type 0} → (F → G) → Option F → List (Fault G)

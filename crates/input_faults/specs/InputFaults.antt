@@ -1,7 +1,7 @@
 -- All faults of an input, in the order in which they are reported. After faulty parts nothing is looked at, and after faulty rules no form
 -- and no groups; each form is, whatever the others are; whose forms are in several texts, and how many calls they take, is looked at where
 -- every form is read; what a command wants of the groups and of the numbers of parts, where the groups are.
-use Rattle.std.specs.Prelude.{◌++◌, ℕ, Bool, List, [], Option, None, Result, Ok, Err, codes}
+use Rattle.std.specs.Prelude.{◌++◌, ℕ, Bool, List, [], Option, None, Result, Ok, Err, codes, map, option_map, option_to_list}
 use Rattle.auction_input.specs.Calls.{one_too_many}
 use Rattle.auction_input.specs.FormTexts.{form_elsewhere}
 use Rattle.auction_input.specs.Input.{Input}
@@ -13,7 +13,7 @@ use Rattle.auction_input.specs.Wanted.{numbers_in, unmet_refusal, wants}
 use Rattle.auction_input.specs.declared.form_texts.AnotherForm.{AnotherForm}
 use Rattle.auction_input.specs.declared.refusal.Refusal.{Refusal}
 use Rattle.auction_input.specs.declared.refusal.Refusal.TheVariants as refusal
-use Rattle.auction_terms.specs.AllFaults.{all_failed, all_faults, or_else}
+use Rattle.auction_terms.specs.AllFaults.{all_faults, failed, or_else}
 use Rattle.auction_terms.specs.FirstFault.{first_fault}
 use Rattle.auction_terms.specs.GroupsText.{group_faults}
 use Rattle.auction_terms.specs.Judged.{Fault as Judged}
@@ -26,7 +26,8 @@ use Rattle.auction_terms.specs.declared.rules_text.RulesFault.TheVariants as rul
 use Rattle.bid_forms.specs.FormText.{form_faults}
 use Rattle.bid_forms.specs.Offers.{Offers}
 use Rattle.bid_forms.specs.declared.form_text.FormFault.TheVariants as form
-use Rattle.input_faults.specs.FaultsAs.{fault_as, faults_as, judged_as, judged_of_sized}
+use Rattle.input_faults.specs.FaultsAs.{fault_as, judged_as, judged_of_sized}
+use Rattle.input_faults.specs.PartFaults.{uncounted_fault, uncut_fault, unmet_fault}
 use Rattle.input_faults.specs.declared.fault.Fault.{Fault}
 use Rattle.input_faults.specs.declared.fault.Fault.TheVariants as fault
 use Rattle.auction_input.specs.Requests.{target_of}
@@ -46,7 +47,9 @@ refusal_of (fault.Unmet u) = unmet_refusal u
 
 -- the fault of the parts
 abbrev pub faults_of_parts : Request → Input → List (Judged Fault)
-faults_of_parts asked input = or_else (fault_as fault.Parts (input_fault asked input)) (fault_as fault.PartCount (miscounted asked (input_parts input)))
+faults_of_parts asked input =
+    or_else (option_to_list (option_map (uncut_fault input.texts) (input_fault asked input)))
+    (option_to_list (option_map (uncounted_fault asked (input_parts input)) (miscounted asked (input_parts input))))
 
 -- the faults of the rules
 abbrev pub faults_of_rules : List ℕ → List (Judged Fault)
@@ -92,7 +95,7 @@ faults_of_texts last_wins rules numbers forms groups = faults_of_rules rules ++ 
 
 -- what a command wants, and these parts haven't got, where their groups are read
 abbrev pub unmet_faults : Option Target → List Part → Result (List (List ℕ)) Refusal → List (Judged Fault)
-unmet_faults command parts (Ok groups) = faults_as fault.Unmet (all_failed 0 (wants command (numbers_in parts groups)))
+unmet_faults command parts (Ok groups) = map unmet_fault (failed (wants command (numbers_in parts groups)))
 unmet_faults command parts (Err r) = []
 
 -- what a command wants under these rules and the parts haven't got, if their groups are accepted

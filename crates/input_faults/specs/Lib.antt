@@ -1,10 +1,11 @@
 pub mod FaultsAs
+pub mod PartFaults
 pub mod InputFaults
 pub mod Shown
 pub mod FileNames
 pub mod PlacedText
 pub mod Details
-pub mod TextDetails
+pub mod FaultObjects
 pub mod FaultLines
 pub mod Explained
 pub mod inside

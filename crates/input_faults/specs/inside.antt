@@ -1,3 +1,2 @@
 pub mod HeldLines
-pub mod DetailText
 pub mod Finding

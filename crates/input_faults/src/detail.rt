@@ -1,48 +1,30 @@
-//! What is at a fault, and what was wanted there.
+//! What is at a fault, and what is wrong with it.
 
-ghost use Rattle.std.specs.Prelude.{◌≡◌, ◌++◌, codes};
-ghost use Rattle.auction_terms.specs.Judged.{kept_fault};
-ghost use Rattle.auction_terms.specs.Wording.{wording_text};
-ghost use Rattle.input_faults.specs.Details.{beginning_message, fault_message, place_message};
-ghost use Rattle.input_faults.specs.inside.DetailText.{detail_text};
+ghost use Rattle.std.specs.Prelude.{◌≡◌};
+ghost use Rattle.auction_terms.specs.Judged.{cause_text, kept_fault};
 ghost use Rattle.byte_sinks.specs.Adds.{Adds};
+ghost use Rattle.input_faults.specs.Details.{beginning_message, cause_message, detail, detail_by, place_message, uncut_detail};
 
 use crate::fault::Fault;
 use crate::shown::add_shown;
 use crate::wording::add_wording;
-use auction_terms::{FaultAt, Wording};
+use auction_input::PartFault;
+use auction_terms::{Cause, FaultAt, Wording};
 use byte_sinks::{Sink, Writer};
 
-/// What is at a fault, and what was wanted there.
-#[derive(Clone, Copy)]
-pub enum Detail<'d> {
-    Nothing,
-    /// The first line of a text, which heads no part.
-    Beginning(&'d [u8]),
-    /// Words on the whole record or line.
-    Whole(Wording),
-    /// Words with more than two numbers.
-    Both(Wording, Wording),
-    /// The number of a field, what is there, what is wrong with it, and the name of the category that was wanted.
-    Column(usize, &'d [u8], Wording, &'d [u8]),
-    /// What is wrong with a whole record or line.
-    Cause(Wording),
-    /// Words, the number of a field or name after them, what is there, and what is wrong with it.
-    Place(&'static str, usize, &'d [u8], Wording),
-}
-
-/// The detail of a fault that tells its cause. The words come before the number of its field or name, if it is of one.
-pub fn fault_detail<'d>(words: &'static str, at: &'d FaultAt<Fault>) -> Detail<'d>
-    ensures { detail_text result ≡ fault_message words.now (kept_fault at.now) }
+/// Adds what is wrong, in words.
+pub fn add_cause<S: Sink>(writer: &mut Writer<'_, S>, cause: &Cause)
+    ensures { Adds S.state writer.old writer.new (cause_text cause.now) }
 {
-    match at.cause {
-        None => Detail::Nothing,
-        Some(cause) => {
-            if at.field == 0 {
-                Detail::Cause(cause)
-            } else {
-                Detail::Place(words, at.field, at.text.as_slice(), cause)
-            }
+    match cause {
+        Cause::Words(words) => add_wording(writer, *words),
+        Cause::Both(words, more) => {
+            add_wording(writer, *words);
+            add_wording(writer, *more);
+        }
+        Cause::Wanted(words, name) => {
+            writer.add(words.as_bytes());
+            writer.add(name.as_slice());
         }
     }
 }
@@ -52,65 +34,81 @@ fn add_place<S: Sink>(
     writer: &mut Writer<'_, S>,
     words: &'static str,
     number: usize,
-    value: &[u8],
-    cause: Wording,
+    text: &[u8],
+    cause: &Cause,
 )
     ensures { Adds S.state writer.old writer.new
-        (place_message words.now number value.now (wording_text cause)) }
+        (place_message words.now number text.now (cause_text cause.now)) }
 {
     add_wording(writer, Wording::Between(words, number as u64, ": "));
-    add_shown(writer, value);
+    add_shown(writer, text);
     writer.add(b" ");
-    add_wording(writer, cause);
+    add_cause(writer, cause);
 }
 
-// Adds the number of a field, what is there, what is wrong with it, and the name that was wanted.
-fn add_column<S: Sink>(
+// Adds what is wrong at a field or name, or with the whole record or line.
+fn add_at<S: Sink>(
     writer: &mut Writer<'_, S>,
-    number: usize,
-    value: &[u8],
-    cause: Wording,
-    name: &[u8],
+    words: &'static str,
+    at: &FaultAt<Fault>,
+    cause: &Cause,
 )
     ensures { Adds S.state writer.old writer.new
-        (place_message (codes ", field ") number value.now
-        (wording_text cause ++ (codes " " ++ name.now))) }
+        (cause_message words.now at.now.field at.now.text (cause_text cause.now)) }
 {
-    add_place(writer, ", field ", number, value, cause);
-    writer.add(b" ");
-    writer.add(name);
+    if at.field == 0 {
+        writer.add(b": ");
+        add_cause(writer, cause);
+    } else {
+        add_place(writer, words, at.field, at.text.as_slice(), cause);
+    }
 }
 
-// Adds the first line of a text, which heads no part.
-fn add_beginning<S: Sink>(writer: &mut Writer<'_, S>, line: &[u8])
-    ensures { Adds S.state writer.old writer.new (beginning_message line.now) }
+// Adds the first line of a text, which heads no part, and what is wrong with it.
+fn add_beginning<S: Sink>(writer: &mut Writer<'_, S>, line: &[u8], cause: &Cause)
+    ensures { Adds S.state writer.old writer.new (beginning_message line.now (cause_text cause.now)) }
 {
     writer.add(b": the text begins with ");
     add_shown(writer, line);
-    writer.add(b" and has no %rules before it");
+    writer.add(b" and ");
+    add_cause(writer, cause);
 }
 
-/// Adds a detail.
-pub fn add_detail<S: Sink>(writer: &mut Writer<'_, S>, detail: &Detail<'_>)
-    ensures { Adds S.state writer.old writer.new (detail_text detail.now) }
+// Adds what is wrong with an input that isn't cut into parts, where its refusal doesn't say it.
+fn add_uncut<S: Sink>(writer: &mut Writer<'_, S>, line: &[u8], fault: PartFault, cause: &Cause)
+    ensures { Adds S.state writer.old writer.new (uncut_detail line.now fault (cause_text cause.now)) }
 {
-    match *detail {
-        Detail::Nothing => writer.add(b""),
-        Detail::Beginning(line) => add_beginning(writer, line),
-        Detail::Whole(words) => add_wording(writer, words),
-        Detail::Both(words, more) => {
-            add_wording(writer, words);
-            add_wording(writer, more);
-        }
-        Detail::Column(number, value, cause, name) => {
-            add_column(writer, number, value, cause, name);
-        }
-        Detail::Cause(cause) => {
-            writer.add(b": ");
-            add_wording(writer, cause);
-        }
-        Detail::Place(words, number, value, cause) => {
-            add_place(writer, words, number, value, cause);
-        }
+    match fault {
+        PartFault::BeforeFirst => add_beginning(writer, line, cause),
+        PartFault::PartName { part: _ }
+        | PartFault::OfVersion1 { part: _ }
+        | PartFault::OutOfMemory => writer.add(b""),
+    }
+}
+
+// Adds what is wrong, in words that suit the fault.
+fn add_detail_by<S: Sink>(writer: &mut Writer<'_, S>, at: &FaultAt<Fault>, cause: &Cause)
+    ensures { Adds S.state writer.old writer.new
+        (detail_by (kept_fault at.now) at.now.fault (cause_text cause.now)) }
+{
+    match at.fault {
+        Fault::Parts(fault) => add_uncut(writer, at.text.as_slice(), fault, cause),
+        Fault::Groups(_) => add_at(writer, ", name ", at, cause),
+        Fault::PartCount(_)
+        | Fault::Rules(_)
+        | Fault::Form { .. }
+        | Fault::AnotherForm(_)
+        | Fault::CallLimit { .. }
+        | Fault::Unmet(_) => add_at(writer, ", field ", at, cause),
+    }
+}
+
+/// Adds the detail of a fault.
+pub fn add_detail<S: Sink>(writer: &mut Writer<'_, S>, at: &FaultAt<Fault>)
+    ensures { Adds S.state writer.old writer.new (detail (kept_fault at.now)) }
+{
+    match &at.cause {
+        Some(cause) => add_detail_by(writer, at, cause),
+        None => writer.add(b""),
     }
 }

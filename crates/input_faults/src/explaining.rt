@@ -12,7 +12,7 @@ use auction_input::{Input, Refusal, Request};
 use byte_sinks::Sink;
 use std::alloc::Global;
 
-/// Writes a line for each fault of the input of a request, up to `MOST_FAULTS` lines, and how many more there are. Tells
+/// Writes a line for each fault of the input of a request, in the request's format, up to `MOST_FAULTS` lines, and how many more there are. Tells
 /// whether there is a fault; where there is none, nothing is put.
 pub fn explain<S: Sink>(
     alloc: Global,
@@ -32,7 +32,7 @@ pub fn explain<S: Sink>(
     if faults.kept.is_empty() {
         return Ok(false);
     }
-    let lines = lines_of(alloc, request, input, &faults)?;
+    let lines = lines_of(alloc, input.texts(), request.format(), &faults)?;
     put_lines(&lines, out)?;
     Ok(true)
 }

@@ -14,21 +14,24 @@ ghost use Rattle.input_faults.specs.declared.fault.Fault as declared;
 
 use crate::fault::Fault;
 use crate::merging::{add_another, add_call, add_unmet};
+use crate::part_faults::{uncounted_fault, uncut_fault};
 use crate::reading::{Together, groups_in, take_forms, take_groups, take_rules};
 use auction_input::{
     Input, Numbers, Part, PartFault, PartKind, Request, Target, miscounted, proof_wants,
     solution_wants, split_parts, text_numbers_of, text_of, texts_of,
 };
-use auction_terms::{All, FaultAt, Groups, MOST_FAULTS, Rules};
+use auction_terms::{All, Groups, MOST_FAULTS, Rules};
 use std::alloc::{AllocError, Global};
 
-/// Tests that a fault of parts isn't that memory was refused.
-pub(crate) fn check_part_fault(fault: PartFault) -> Result<(), AllocError>
+// Tests that a fault of parts isn't that memory was refused.
+fn check_part_fault(fault: PartFault) -> Result<(), AllocError>
     ensures { OnOk result (fault ≢ PartFault.OutOfMemory) }
 {
     match fault {
         PartFault::OutOfMemory => Err(AllocError),
-        _ => Ok(()),
+        PartFault::BeforeFirst | PartFault::PartName { .. } | PartFault::OfVersion1 { .. } => Ok(
+            (),
+        ),
     }
 }
 
@@ -50,14 +53,14 @@ fn take_parts<'t>(
         Ok(parts) => parts,
         Err(fault) => {
             check_part_fault(fault)?;
-            faults.add(FaultAt::of_whole(Fault::Parts(fault), None))?;
+            faults.add(uncut_fault(input.texts(), fault))?;
             return Ok(None);
         }
     };
     match miscounted(request, parts.as_slice()) {
         None => Ok(Some(parts)),
         Some(kind) => {
-            faults.add(FaultAt::of_whole(Fault::PartCount(kind), None))?;
+            faults.add(uncounted_fault(request, parts.as_slice(), kind))?;
             Ok(None)
         }
     }

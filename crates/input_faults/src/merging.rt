@@ -1,17 +1,19 @@
 //! Faults of a text, added to those of an input.
 
-ghost use Rattle.std.specs.Prelude.{◌∷◌, [], List, OnOk};
-ghost use Rattle.auction_terms.specs.AllFaults.{all_failed};
+ghost use Rattle.std.specs.Prelude.{◌∷◌, [], List, OnOk, map};
+ghost use Rattle.auction_terms.specs.AllFaults.{failed};
 ghost use Rattle.auction_terms.specs.Judged.{Fault as Judged, Holds};
 ghost use Rattle.auction_terms.specs.declared.limits.TheConstants.{MOST_FAULTS};
 ghost use Rattle.auction_terms.specs.declared.groups_text.GroupFault.{GroupFault};
 ghost use Rattle.auction_terms.specs.declared.rules_text.RulesFault.{RulesFault};
 ghost use Rattle.bid_forms.specs.declared.form_text.FormFault.{FormFault};
-ghost use Rattle.input_faults.specs.FaultsAs.{fault_as, faults_as, judged_as};
+ghost use Rattle.input_faults.specs.FaultsAs.{fault_as, judged_as};
+ghost use Rattle.input_faults.specs.PartFaults.{unmet_fault};
 ghost use Rattle.input_faults.specs.inside.Finding.{FindsMore};
 ghost use Rattle.input_faults.specs.declared.fault.Fault.TheVariants as fault;
 
 use crate::fault::Fault;
+use crate::part_faults::unmet_fault;
 use auction_input::{AnotherForm, Unmet};
 use auction_terms::{All, FaultAt, GroupFault, RulesFault};
 use bid_forms::FormFault;
@@ -86,20 +88,18 @@ pub fn add_call(faults: &mut All<Fault>, refused: Option<usize>) -> Result<(), A
 
 // Adds what is unmet where a test fails.
 fn add_test(faults: &mut All<Fault>, test: (bool, Unmet)) -> Result<(), AllocError>
-    ensures { OnOk result (FindsMore faults.old faults.new
-        (faults_as fault.Unmet (all_failed 0 (test ∷ [])))) }
+    ensures { OnOk result (FindsMore faults.old faults.new (map unmet_fault (failed (test ∷ [])))) }
 {
     let (met, unmet) = test;
     if met {
         return Ok(());
     }
-    faults.add(FaultAt::of_whole(Fault::Unmet(unmet), None))
+    faults.add(unmet_fault(unmet))
 }
 
 /// Adds what is unmet of these tests.
 pub fn add_unmet(faults: &mut All<Fault>, tests: &[(bool, Unmet)]) -> Result<(), AllocError>
-    ensures { OnOk result (FindsMore faults.old faults.new
-        (faults_as fault.Unmet (all_failed 0 tests.now))) }
+    ensures { OnOk result (FindsMore faults.old faults.new (map unmet_fault (failed tests.now))) }
 {
     for test in tests {
         add_test(faults, *test)?;

@@ -34,8 +34,8 @@ pub fn add_file_name<S: Sink>(writer: &mut Writer<'_, S>, name: &[u8])
     }
 }
 
-// The name of the file of a text.
-fn file_name(texts: &[Given], text: usize) -> &[u8]
+/// The name of the file of a text.
+pub(crate) fn file_name(texts: &[Given], text: usize) -> &[u8]
     ensures { result.now ≡ file_name texts.now text }
 {
     match texts.get(text) {

@@ -43,8 +43,8 @@ pub(crate) fn add_shown_bytes<S: Sink>(writer: &mut Writer<'_, S>, bytes: &[u8])
     }
 }
 
-// The bytes of a text that are shown.
-fn front(text: &[u8]) -> &[u8]
+/// The bytes of a text that are shown.
+pub(crate) fn front(text: &[u8]) -> &[u8]
     ensures { result.now ≡ take 40 text.now }
 {
     if text.len() > SHOWN_LEN {

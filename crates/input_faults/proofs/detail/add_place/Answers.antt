@@ -4,4 +4,4 @@ use Rattle.input_faults.proofs.detail.add_place.Goals as goal
 
 pub returns : goal.returns
 returns g c =
-    Adds-to (Adds-then c.add_wording.ensures (Adds-then c.add_shown.ensures (Adds-then c.add.ensures c.add_wording-2.ensures))) (simp append_assoc)
+    Adds-to (Adds-then c.add_wording.ensures (Adds-then c.add_shown.ensures (Adds-then c.add.ensures c.add_cause.ensures))) (simp append_assoc)

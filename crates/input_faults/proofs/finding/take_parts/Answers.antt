@@ -1,9 +1,8 @@
-use Rattle.std.proofs.Common.{◌∙◌, None, Some, sym}
+use Rattle.std.proofs.Common.{◌∙◌, None, Some, ap, sym}
 use Rattle.input_faults.proofs.MergeFacts.{finds-none}
 use Rattle.auction_input.specs.Parts.{parts_held}
-use Rattle.auction_terms.specs.Judged.{fault_of_whole}
 use Rattle.auction_terms.specs.declared.limits.TheConstants.{MOST_FAULTS}
-use Rattle.input_faults.specs.declared.fault.Fault.TheVariants as fault
+use Rattle.input_faults.specs.PartFaults.{uncounted_fault, uncut_fault}
 use Rattle.input_faults.proofs.PartsFacts.{part-reported, parts-counted, parts-unknown}
 use Rattle.input_faults.proofs.finding.take_parts.Goals as goal
 
@@ -13,7 +12,7 @@ returns-in-Err c =
     let input = c.args.input.now in
     let f = c.in-Err.fault in
     let is = parts-unknown asked input f (part-reported asked input f c.in-Err.ensures c.in_ok-check_part_fault-in-Err.ensures) in
-    record { faults = rw (is, ← c.of_whole.ensures) (c.in_ok-add-in-Err.ensures MOST_FAULTS); parts = (fault_of_whole (fault.Parts f) None, is) }
+    record { faults = rw is (rw (c.uncut_fault.ensures ∙ ap (λ texts. uncut_fault texts f) c.texts.ensures) at c.in_ok-add-in-Err.ensures MOST_FAULTS); parts = (uncut_fault input.texts f, is) }
 
 pub returns-in-None : goal.returns-in-None
 returns-in-None c =
@@ -28,4 +27,4 @@ returns c =
     let kind = c.in-Some.kind in
     let counted = rw c.as_slice.ensures.value at c.miscounted.ensures in
     let is = parts-counted c.args.request.now c.args.input.now (parts_held c.in-Ok.parts.items) (Some kind) none held (sym counted ∙ c.in-Some.is) in
-    record { faults = rw (is, ← c.of_whole-in-Some.ensures) (c.in_ok-add-in-Some.ensures MOST_FAULTS); parts = (fault_of_whole (fault.PartCount kind) None, is) }
+    record { faults = rw is (rw (c.uncounted_fault.ensures ∙ ap (λ held. uncounted_fault c.args.request.now (parts_held held) kind) c.as_slice-in-Some.ensures.value) at c.in_ok-add-in-Some.ensures MOST_FAULTS); parts = (uncounted_fault c.args.request.now (parts_held c.in-Ok.parts.items) kind, is) }

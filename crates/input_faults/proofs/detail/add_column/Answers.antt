@@ -1,6 +1,0 @@
-use Rattle.std.proofs.Common.{append_assoc}
-use Rattle.byte_sinks.proofs.AddingFacts.{Adds-then, Adds-to}
-use Rattle.input_faults.proofs.detail.add_column.Goals as goal
-
-pub returns : goal.returns
-returns g c = Adds-to (Adds-then c.add_place.ensures (Adds-then c.add.ensures c.add-2.ensures)) (simp append_assoc)
