@@ -21,11 +21,10 @@ from commands import (
     parse_rows,
     read_text,
     run,
-    write_script,
 )
 from damage import ACCEPTED, damage_input
 from wdp import files
-from wdp.office.judge import explain, parse_finding
+from wdp.office.judge import explain
 from wdp.program import find_program
 from wdp.texts import accepted
 from wdp.texts.accepted import Bid, Category, Pool
@@ -219,20 +218,6 @@ def test_a_line_break_in_a_name_forges_no_line(office: OfficeFolder) -> None:
         assert seen.status in (1, 2)
         assert "x\\ntotal 1\\x1b" in printed
         assert all(map(str.isprintable, printed.split("\n")))
-
-
-def test_an_older_program_and_odd_names(tmp_path: Path) -> None:
-    # one without details, and one that counts
-    for said in ("input: wrong number of rules", "rules: 1 TooLarge; echo and 12 more"):
-        program = write_script(tmp_path / "wdp", f"echo {said}; exit 1")
-        found = explain(str(program), b"x" * 1_000_000)
-        assert [each.refusal for each in found.findings] == [said.split(";")[0]]
-        assert found.more == 12 * ("12" in said)
-    odd = parse_finding(
-        "groups: 3 UnknownBidder at line 2, name 1: ', name 9: x' is no bidder's name"
-    )
-    assert odd.field == 1
-    assert odd.cause == "', name 9: x' is no bidder's name"
 
 
 def test_an_accepted_input_is_read_however_it_is_written() -> None:

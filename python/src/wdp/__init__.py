@@ -9,7 +9,7 @@ round it.
 from wdp.api import Auction
 from wdp.comparison import Change, Comparison, Standing
 from wdp.lost.bids import Fate, LostBid, LostBids
-from wdp.office.judge import Explained, Finding
+from wdp.office.findings import Explained, Finding
 from wdp.outcome import Outcome
 from wdp.results import (
     Allocation,

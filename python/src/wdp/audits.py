@@ -11,6 +11,7 @@ import re
 from collections.abc import Iterable, Sequence
 from dataclasses import dataclass
 
+from wdp.office.findings import LeftOutBid
 from wdp.results import Allocation, Winner
 from wdp.texts.accepted import KINDS
 from wdp.texts.parts import Part, find_end_of_groups, list_groups, parse_parts
@@ -24,7 +25,6 @@ _MARK = re.compile(rb"# award ([1-9][0-9]?)\n")
 # of the solution of a group that was added; by the second, the line before its own was ended
 _ADDED = b"# added\n"
 _ADDED_TO_UNENDED = b"# added after an unended line\n"
-_BID = re.compile(r"bid ([0-9]+) ")
 
 
 @dataclass(frozen=True)
@@ -165,18 +165,13 @@ def _reorder_multipliers(line: bytes, order: Sequence[int]) -> bytes:
     return b" ".join([*fields[:2], *(multipliers[index] for index in order), *rest])
 
 
-def find_left_out_bid(award: Allocation, left_out: Iterable[tuple[str, str]]) -> Winner | None:
-    """The first winning bid of an award that is in no program; None if there is none.
-
-    `left_out` are the bidders' names with why a bid is in no program, as `wdp explain` says it.
-    """
-    bids = {(name, int(match[1])) for name, why in left_out if (match := _BID.match(why))}
+def find_left_out_bid(award: Allocation, left_out: Iterable[LeftOutBid]) -> Winner | None:
+    """The first winning bid of an award that is in no program; None if there is none."""
+    bids = {(bid.bidder, bid.bid) for bid in left_out}
     return next((winner for winner in award.winners if (winner.bidder, winner.bid) in bids), None)
 
 
-def check_first(
-    number: int, awards: Sequence[Allocation], left_out: Iterable[tuple[str, str]]
-) -> None:
+def check_first(number: int, awards: Sequence[Allocation], left_out: Iterable[LeftOutBid]) -> None:
     """Raises WrongArgument if there is no award of this number, and Refused if no audit can have it
     first.
     """

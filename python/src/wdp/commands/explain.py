@@ -15,6 +15,7 @@ from wdp.commands.arguments import add_choices, read_choices
 from wdp.files import Unreadable, put, read
 from wdp.office.auction_files import AuctionFiles
 from wdp.office.faults import Fault, format_count, format_lines, format_total
+from wdp.office.findings import LeftOutBid
 from wdp.office.judge import explain
 from wdp.office.places import make_faults_of_input
 from wdp.program import find_program
@@ -43,16 +44,16 @@ class _Explanation:
     lines: list[str]
 
 
-def _format_left_out(counts: dict[str, int], left_out: Sequence[tuple[str, str]]) -> list[str]:
+def _format_left_out(counts: dict[str, int], left_out: Sequence[LeftOutBid]) -> list[str]:
     """A line for each form, with its number of bids, and for each form that is replaced and bid
     that is in no program.
     """
     lines: list[str] = []
     for name, count in counts.items():
-        reasons = [reason for bidder, reason in left_out if bidder == name]
-        kept = count - sum(reason.startswith("bid ") for reason in reasons)
+        of_bidder = [bid for bid in left_out if bid.bidder == name]
+        kept = count - sum(bid.form is None for bid in of_bidder)
         lines.append(f"{name}: {format_count(count, 'bid')}, {kept} kept")
-        lines += [f"{name}: {reason}" for reason in reasons]
+        lines += [f"{name}: {bid.why}" for bid in of_bidder]
     return lines
 
 
@@ -70,13 +71,13 @@ def _explain_input(options: argparse.Namespace, program: str) -> _Explanation:
     explained = explain(program, data, with_bids=options.bids)
     faults = make_faults_of_input(explained, data, source)
     if faults:
-        has_rules = explained.findings[0].refused.part in ("form", "groups")
+        has_rules = explained.findings[0].part in ("form", "groups")
         return _Explanation(faults, has_rules=has_rules, lines=[])
     lines: list[str] = []
     if options.bids:
         auction = accepted.read(data, source)
         counts = {name: len(bids) for name, bids in auction.bids.items()}
-        lines = _format_left_out(counts, explained.left_out)
+        lines = _format_left_out(counts, explained.bids)
     return _Explanation([], has_rules=True, lines=lines)
 
 

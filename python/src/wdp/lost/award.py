@@ -13,6 +13,7 @@ from wdp.lost.bids import BidKey
 from wdp.lost.inputs import keep_first_group
 from wdp.lost.lowering import fits_alone
 from wdp.office.faults import suggest_name
+from wdp.office.findings import LeftOutBid
 from wdp.office.judge import explain
 from wdp.runs.contents import FIRST_GROUP, Contents, Goals, name_file
 from wdp.runs.means import Means
@@ -23,7 +24,6 @@ from wdp.texts.accepted import Accepted, Bid
 from wdp.texts.refusals import WrongArgument
 
 _COLUMN = re.compile(r"X([0-9]+)_([0-9]+)")
-_REASON = re.compile(r"bid ([0-9]+) (.+)")
 
 
 @dataclass(frozen=True, eq=False)
@@ -61,7 +61,7 @@ class ProvedAward:
             problem=problem,
             ones=frozenset(problem.read_ones(solution)),
             certificate=certificate,
-            reasons=_list_reasons(explain(means.program, alone, with_bids=True).left_out),
+            reasons=_list_reasons(explain(means.program, alone, with_bids=True).bids),
         )
 
     @cached_property
@@ -138,10 +138,6 @@ def compile_first(data: bytes, means: Means) -> bytes:
     return contents.store.read(name_file("program", FIRST_GROUP))
 
 
-def _list_reasons(left_out: Iterable[tuple[str, str]]) -> dict[BidKey, str]:
+def _list_reasons(left_out: Iterable[LeftOutBid]) -> dict[BidKey, str]:
     """Why bids are in no program, of those of the forms that count."""
-    reasons = {}
-    for name, why in left_out:
-        if match := _REASON.fullmatch(why):
-            reasons[BidKey(name, int(match[1]))] = match[2]
-    return reasons
+    return {BidKey(each.bidder, each.bid): each.words for each in left_out if each.bid is not None}

@@ -11,7 +11,8 @@ from wdp.files import Unreadable
 from wdp.office.choices import Choices
 from wdp.office.faults import Fault, format_count, quote, suggest_name
 from wdp.office.forms import FormFolder
-from wdp.office.judge import Finding, explain
+from wdp.office.findings import Finding, LeftOutBid
+from wdp.office.judge import explain
 from wdp.office.places import explain_value, limit_faults, make_faults, make_input_fault
 from wdp.office.reading import MOST_OF_A_FORM, Groups, check_end, read_groups, read_rules_file
 from wdp.office.sheets import NOT_STORED, File, read_pairs
@@ -37,7 +38,7 @@ class AuctionFiles:
     folder: FormFolder = field(init=False)
     groups: Groups = field(default_factory=Groups)
     faults: list[Fault] = field(default_factory=list)
-    left_out: list[tuple[str, str]] = field(default_factory=list)
+    left_out: list[LeftOutBid] = field(default_factory=list)
     text: bytes = b""
 
     def __post_init__(self) -> None:
@@ -80,7 +81,7 @@ class AuctionFiles:
         self.faults = self.folder.faults
         self.text = self._join(has_groups=bool(groups))
         explained = explain(self.program, self.text, with_bids=True)
-        self.left_out = explained.left_out
+        self.left_out = explained.bids
         findings = explained.by_part()
         for number, form in enumerate(self.folder.counting, 1):
             self._check_form(form, findings["form", number], is_all=not explained.more)
@@ -92,7 +93,7 @@ class AuctionFiles:
         rows = self.groups.rows
         faults = make_faults(findings["groups", None], path, rows, bidders=self.rules.bidders)
         self.faults += faults_of_groups + limit_faults(faults, path)
-        if explained.findings and explained.findings[0].refused.part == "input":
+        if explained.findings and explained.findings[0].part == "input":
             fault = make_input_fault(explained.findings[0], self.text, "the joined input")
             self.faults.append(fault)
         if explained.more:
@@ -124,7 +125,7 @@ class AuctionFiles:
         """
         # (a quote that isn't closed makes one field of all that follows)
         beyond = form.unclosed or MOST_OF_A_FORM + 1
-        within = [finding for finding in findings if (finding.refused.record or 0) < beyond]
+        within = [finding for finding in findings if (finding.record or 0) < beyond]
         faults = make_faults(within, form.path, form.rows, bidders=self.rules.bidders)
         # (a formula without a value isn't also an empty field)
         blank = {fault.place for fault in form.faults if fault.text == NOT_STORED}

@@ -1,117 +1,159 @@
 """What `wdp explain` finds in an input: whether there is a fault, which, and where."""
-import re
-from collections import defaultdict
-from dataclasses import dataclass, field
+from collections.abc import Callable
+from typing import TypeVar
 
-from wdp.frames import Columns, Tabular, make_columns
-from wdp.office.faults import decode_escapes, quote
+from wdp.office.faults import quote
+from wdp.office.findings import BYTES_BEFORE, NOT_KNOWN, Explained, Finding, LeftOutBid
 from wdp.program import Limits, run_process
+from wdp.texts.members import Members, read_object
 from wdp.texts.refusals import Refused
 
+_T = TypeVar("_T")
 # bytes of what the program prints: ten thousand faults, or a line for each of a million bids
 _MOST_OF_ANSWER = 256 * 1024 * 1024
-_LINE = re.compile(
-    r"((?:rules|groups|form [0-9]{1,9}): [0-9]{1,2} [A-Za-z]+"
-    r"(?: at (?:record|line) [0-9]{1,9})?(?:, earlier bid [0-9]{1,9})?"
-    r"|form [0-9]{1,9}: CallLimit|input: [a-z0-9 ]+)"
-    r"(?:, (?:field|name) ([0-9]{1,9}))?(?:: (.+))?"
-)
-_MORE = re.compile(r"and ([0-9]{1,9}) more")
-_REPLACED = "form [0-9]{1,9} is replaced by form [0-9]{1,9}"
-_BID = re.compile(rf"([A-Za-z0-9]{{1,16}}): (bid [0-9]{{1,9}} .+|{_REPLACED})")
-PartKey = tuple[str | None, int | None]  # the kind of a part, and of a form its number
 
 
-@dataclass(frozen=True)
-class Finding:
-    """A fault: the refusal of an input that has it alone, the faulty field or name from 1, and the
-    cause.
-    """
-
-    refused: Refused
-    field: int | None = None
-    cause: str | None = None
-
-    @property
-    def refusal(self) -> str:
-        """The program's line for the fault, without `wdp: `."""
-        return self.refused.text.removeprefix("wdp: ")
+def _read_finding(members: Members) -> Finding:
+    """The fault of these members, which are taken in the order that they have in a line."""
+    if members.take("file") is not None:
+        raise ValueError("an input that is one text has no files")
+    part = members.take_text("part")
+    if part == "input":
+        return _read_fault_of_input(members)
+    if part in ("rules", "form", "groups"):
+        return _read_fault_of_part(members, part)
+    raise ValueError(f"{part} is no part")
 
 
-@dataclass(frozen=True)
-class Explained(Tabular):
-    """All faults in order, and how many more are counted; if there is none, of each bid in no
-    program the bidder and why.
-    """
-
-    findings: list[Finding] = field(default_factory=list)
-    more: int = 0
-    left_out: list[tuple[str, str]] = field(default_factory=list)
-
-    def _columns(self) -> Columns:
-        if self.left_out:
-            return make_columns(["bidder", "why"], self.left_out)
-        rows = [
-            (
-                finding.refused.part,
-                finding.refused.number,
-                finding.refused.kind,
-                finding.refused.record or finding.refused.line,
-                finding.field,
-                finding.cause,
-            )
-            for finding in self.findings
-        ]
-        return make_columns(["part", "number", "kind", "record", "field", "cause"], rows)
-
-    def by_part(self) -> defaultdict[PartKey, list[Finding]]:
-        """The findings of each part, in their order."""
-        parts: defaultdict[PartKey, list[Finding]] = defaultdict(list)
-        for finding in self.findings:
-            parts[finding.refused.part, finding.refused.number].append(finding)
-        return parts
-
-
-def _split_line(pattern: re.Pattern[str], line: str) -> list[str]:
-    """The pieces of a line, empty ones too."""
-    match = pattern.fullmatch(line)
-    if not match:
-        raise Refused(f"wdp explain printed a line that isn't understood: {quote(line)}")
-    return list(match.groups(""))
-
-
-def parse_finding(line: str) -> Finding:
-    """The finding of a line that `wdp explain` prints; Refused if it is no such line."""
-    refusal, number, cause = _split_line(_LINE, line)
-    cause = re.sub("^1 fields ", "1 field ", decode_escapes(cause))
+def _read_fault_of_input(members: Members) -> Finding:
+    """A fault of an input as a whole, or of its parts."""
+    number = members.find_number("number", least=1)
+    fault = members.take_text("fault")
+    if (number is not None) != (fault == NOT_KNOWN):
+        raise ValueError("a part has no number, or a number no part")
+    has_found = fault == BYTES_BEFORE
     return Finding(
-        refused=Refused("wdp: " + refusal),
-        field=int(number) if number else None,
-        cause=cause or None,
+        part="input",
+        number=number,
+        fault=fault,
+        found=members.take_text("found") if has_found else None,
+        is_cut=has_found and members.find_mark("cut"),
+        wrong=members.take_text("cause") if has_found else members.find_text("cause"),
     )
 
 
-def _parse_left_out(line: str) -> tuple[str, str]:
-    """The bidder of a bid that is in no program, and why it isn't."""
-    name, why = _split_line(_BID, line)
-    return name, why
+def _read_fault_of_part(members: Members, part: str) -> Finding:
+    """A fault of rules, a form or groups."""
+    is_of_groups = part == "groups"
+    number = members.take_number("number", least=1) if part == "form" else None
+    fault = members.take_text("fault")
+    code = None if fault == "CallLimit" else members.take_number("code")
+    record = members.find_number("line" if is_of_groups else "record")
+    is_repeated = fault == "RepeatedPackage"
+    earlier_bid = members.take_number("earlier_bid", least=1) if is_repeated else None
+    field = None
+    if record is not None:
+        field = members.find_number("name" if is_of_groups else "field", least=1)
+    has_found = field is not None
+    return Finding(
+        part=part,
+        number=number,
+        fault=fault,
+        code=code,
+        record=record,
+        earlier_bid=earlier_bid,
+        field=field,
+        found=members.take_text("found") if has_found else None,
+        is_cut=has_found and members.find_mark("cut"),
+        wrong=members.take_text("cause") if has_found else members.find_text("cause"),
+    )
+
+
+def _read_left_out(members: Members) -> LeftOutBid:
+    """The bid that is in no program, or the form that is replaced, of these members."""
+    bidder = members.take_text("bidder")
+    if members.has("form"):
+        form = members.take_number("form", least=1)
+        return LeftOutBid(bidder, form=form, words=_read_replaced(members))
+    bid = members.take_number("bid", least=1)
+    return LeftOutBid(bidder, bid=bid, words=_read_reason(members))
+
+
+def _read_replaced(members: Members) -> str:
+    """Why a form doesn't count, in words."""
+    if members.take_text("reason") != "Replaced":
+        raise ValueError("this is no reason of a form")
+    return f"is replaced by form {members.take_number('by', least=1)}"
+
+
+def _read_reason(members: Members) -> str:
+    """Why a bid is in no program, in words."""
+    reason = members.take_text("reason")
+    if reason == "OverSupply":
+        category = members.take_text("category")
+        asked = members.take_number("asked")
+        supply = members.take_number("supply")
+        return f"asks for {asked} of {category}, of which there are {supply}"
+    if reason == "OverCap":
+        pool = members.take_text("pool")
+        load = members.take_number("load")
+        cap = members.take_number("cap")
+        return f"loads pool {pool} with {load}, above its cap of {cap}"
+    if reason == "BelowWorth":
+        return f"brings {members.take_number('less')} less than its lots are worth unsold"
+    if reason == "Dominated":
+        return f"is dominated by bid {members.take_number('by', least=1)}"
+    raise ValueError(f"{reason} is no reason of a bid")
+
+
+def _read_more(members: Members) -> int:
+    """How many more faults there are."""
+    return members.take_number("more")
+
+
+def _refuse_line(line: str) -> Refused:
+    return Refused(f"wdp explain printed a line that isn't understood: {quote(line)}")
+
+
+def _parse_line(line: str, read: Callable[[Members], _T]) -> _T:
+    """What a line of `wdp explain` says; Refused if it is no such line."""
+    try:
+        return read_object(line, read)
+    except ValueError:
+        raise _refuse_line(line) from None
+
+
+def _parse_faults(lines: list[str]) -> Explained:
+    """The faults of these lines, and the count of others if it is the last line of several."""
+    *before, last = lines
+    more = 0
+    if before and last.startswith('{"more"'):
+        more = _parse_line(last, _read_more)
+        lines = before
+    return Explained([_parse_line(line, _read_finding) for line in lines], more)
+
+
+def _split_lines(output: bytes) -> list[str]:
+    """The lines of an answer; Refused if the last one isn't ended."""
+    *lines, rest = output.decode("utf-8", "surrogateescape").split("\n")
+    if rest:
+        raise _refuse_line(rest)
+    return lines
 
 
 def explain(program: str, text: bytes, with_bids: bool = False) -> Explained:
     """What `wdp explain` finds in an input; with bids, which of them are in no program."""
-    command = [program, "explain"]
+    command = [program, "explain", "--json"]
     if with_bids:
         command.append("--bids")
     ended = run_process(command, text, Limits(_MOST_OF_ANSWER))
-    lines = ended.output.decode("ascii", "backslashreplace").splitlines()
-    is_right = ended.status == 0 and (with_bids or not lines) or ended.status == 1 and lines
-    if ended.messages or not is_right:
+    has_lines = bool(ended.output)
+    is_accepted = ended.status == 0 and (with_bids or not has_lines)
+    has_faults = ended.status == 1 and has_lines
+    if ended.messages or not (is_accepted or has_faults):
         why = (ended.messages.splitlines() or [f"it ended with status {ended.status}"])[0]
         raise Refused(f"wdp explain: {why}")
-    if ended.status == 0:
-        return Explained(left_out=[_parse_left_out(line) for line in lines])
-    more = 0
-    if last := _MORE.fullmatch(lines[-1]):
-        more = int(last[1])
-        lines.pop()
-    return Explained([parse_finding(line) for line in lines], more)
+    lines = _split_lines(ended.output)
+    if has_faults:
+        return _parse_faults(lines)
+    return Explained(bids=[_parse_line(line, _read_left_out) for line in lines])

@@ -9,8 +9,8 @@ from dataclasses import dataclass
 from itertools import islice
 
 from wdp.office.faults import Fault, format_count, quote, suggest_name
-from wdp.office.judge import Explained, Finding, PartKey
-from wdp.texts.parts import MOST_OF_INPUT, Part, list_names, parse_parts
+from wdp.office.findings import BYTES_BEFORE, NOT_KNOWN, Explained, Finding, PartKey
+from wdp.texts.parts import Part, list_names, parse_parts
 from wdp.texts.tables import TableRow
 
 _MONTH = "(?:jan|feb|mar|apr|may|jun|jul|aug|sep|oct|nov|dec)[a-z]*"
@@ -49,7 +49,9 @@ _CAUSES = {
     "EmptyLine": "the line is empty; the group of nobody is written -",
     "CallLimit": "a bidder has at most 1,000 forms",
 }
-_NumberedRows = dict[int | str | None, TableRow]  # by the `at` of a refusal
+# the parts of which an input has more than it may have, by the fault
+_REPEATED = {"wrong number of rules": "rules", "wrong number of groups": "groups"}
+_NumberedRows = dict[int | None, TableRow]  # by the record of a finding
 _SEPARATORS = {";": "semicolons", "\t": "tabs", "|": "bars", ",": "commas"}
 
 
@@ -84,16 +86,15 @@ def explain_value(value: str) -> str:
 
 def _describe(finding: Finding, row: TableRow | None, bidders: Sequence[str]) -> str:
     """A finding in words; its row adds what is there."""
-    kind = finding.refused.kind or ""
-    if finding.refused.field:
-        return f"bid {finding.refused.field} has the same package"
-    text = finding.cause or _CAUSES.get(kind) or finding.refusal
+    if finding.earlier_bid:
+        return f"bid {finding.earlier_bid} has the same package"
+    text = finding.cause or _CAUSES.get(finding.fault) or finding.refusal
     if not row or not finding.field or finding.field > len(row.values):
         return text
     value = row.values[finding.field - 1]
-    if kind in ("NumberText", "AmountText", "QuantityText"):
+    if finding.fault in ("NumberText", "AmountText", "QuantityText"):
         return text + explain_value(value)
-    if kind == "UnknownBidder":
+    if finding.fault == "UnknownBidder":
         return text + suggest_name(value, bidders)
     return text
 
@@ -103,10 +104,10 @@ def _describe_alike(finding: Finding, row: TableRow | None, width: int) -> _Alik
 
     `width` is how many fields the form's first row has.
     """
-    refused = finding.refused
-    if row is None or refused.part != "form" or refused.at == 1 or refused.kind == "TooManyBids":
+    is_of_bid = finding.part == "form" and finding.record != 1
+    if row is None or not is_of_bid or finding.fault == "TooManyBids":
         return None
-    if refused.kind != "FieldCount":
+    if finding.fault != "FieldCount":
         is_bid = any(value.strip("0") for value in row.values)
         return None if is_bid else _OF_ZEROS
     for separator, name in _SEPARATORS.items():
@@ -134,14 +135,14 @@ def make_faults(
     faults = []
     for alike, group in _group_alike(findings, by_number):
         first = group[0]
-        row = by_number.get(first.refused.at)
+        row = by_number.get(first.record)
         place = path + head
-        if row and first.refused.kind not in ("NoCategory", "NoBidder"):
+        if row and first.fault not in ("NoCategory", "NoBidder"):
             place = f"{path}:{row.place((first.field or 1) - 1)}"
         if alike is None:
             text = _describe(first, row, bidders)
         else:
-            text = alike.describe({by_number[finding.refused.at].line for finding in group})
+            text = alike.describe({by_number[finding.record].line for finding in group})
         faults.append(Fault(place, text, refusal=first.refusal))
     return faults
 
@@ -155,14 +156,14 @@ def _group_alike(
     width = len(rows[1].values) if rows else 0
     groups: dict[_Alike | int, list[Finding]] = {}
     for number, finding in enumerate(findings):
-        alike = _describe_alike(finding, rows.get(finding.refused.at), width)
+        alike = _describe_alike(finding, rows.get(finding.record), width)
         groups.setdefault(alike or number, []).append(finding)
     return [(key if isinstance(key, _Alike) else None, group) for key, group in groups.items()]
 
 
 def _pick_rows(findings: Sequence[Finding], rows: Iterable[TableRow]) -> _NumberedRows:
     """The first row and those that findings are about, by their numbers from 1."""
-    numbers = {1} | {each.refused.at for each in findings if isinstance(each.refused.at, int)}
+    numbers = {1} | {each.record for each in findings if each.record is not None}
     numbered = enumerate(islice(rows, max(numbers)), 1)
     return {number: row for number, row in numbered if number in numbers}
 
@@ -178,30 +179,28 @@ def limit_faults(faults: list[Fault], path: str, more: int = 0) -> list[Fault]:
 
 def make_input_fault(finding: Finding, data: bytes, source: str) -> Fault:
     """A fault of an input as a whole, or of its parts."""
-    refusal = finding.refusal
     parts = parse_parts(data)
-    line = 1 if refusal.endswith("before the first part") else None
-    text = finding.cause or refusal.removeprefix("input: ")
-    wrong_number = re.search("wrong number of (rules|groups)", refusal)
-    if refusal == "input: too large":
-        text = f"it has more than {MOST_OF_INPUT:,} bytes"
-    elif finding.refused.number:
-        part = next(islice(parts, finding.refused.number - 1, None))
+    text = finding.cause or finding.fault
+    line = None
+    if finding.fault == BYTES_BEFORE:
+        line = 1
+    elif finding.fault == NOT_KNOWN and finding.number:
+        part = next(islice(parts, finding.number - 1, None))
         text = f"{quote('%' + part.kind)} is no head of a part: %rules, %form or %groups"
         line = part.line
-    elif wrong_number:
-        lines = (part.line for part in parts if part.kind == wrong_number[1])
+    elif kind := _REPEATED.get(finding.fault):
+        lines = (part.line for part in parts if part.kind == kind)
         line = next(islice(lines, 1, None), None)
     place = source if line is None else f"{source}:{line}"
-    return Fault(place, text, refusal=refusal)
+    return Fault(place, text, refusal=finding.refusal)
 
 
 def make_faults_of_input(explained: Explained, data: bytes, source: str) -> list[Fault]:
     """The faults of an input that is one file."""
     findings = explained.findings
     if not findings:
-        return limit_faults([], source, explained.more)
-    if findings[0].refused.part == "input":
+        return []
+    if findings[0].part == "input":
         return [make_input_fault(findings[0], data, source)]
     parts: dict[PartKey, Part] = {}
     forms = 0

@@ -4,7 +4,7 @@ bidders.
 from collections.abc import Iterator, Sequence
 from dataclasses import astuple
 from itertools import groupby
-from operator import itemgetter
+from operator import attrgetter
 
 from wdp.office.auction_files import AuctionFiles
 from wdp.office.faults import CellValue, align_rows, format_count, format_lines
@@ -97,8 +97,8 @@ def _tabulate_bidders(rules: AcceptedRules) -> list[str]:
 def _format_left_out(auction: AuctionFiles) -> Iterator[str]:
     """The lines of the receipt about bids that are in no program."""
     yield f"Bids in no program, since they can't change the result: {len(auction.left_out):,}"
-    for name, bids in groupby(auction.left_out, itemgetter(0)):
-        reasons = [reason for _, reason in bids]
+    for name, bids in groupby(auction.left_out, attrgetter("bidder")):
+        reasons = [bid.why for bid in bids]
         count = format_count(auction.forms[name].bids or 0, "bid")
         yield f"{name}: {len(reasons):,} of {count}"
         yield from ("  " + reason for reason in reasons[:_MOST_SHOWN])

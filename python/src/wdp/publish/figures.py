@@ -10,6 +10,7 @@ from typing import Literal
 
 from wdp.audits import find_left_out_bid
 from wdp.office.faults import format_number
+from wdp.office.findings import LeftOutBid
 from wdp.results import Allocation, Report
 from wdp.texts.accepted import Accepted
 
@@ -134,7 +135,7 @@ class AwardFigures:
 
 
 @dataclass(frozen=True)
-class LeftOutBid:
+class LeftOutFigures:
     """A bid that is in no program: the bidder, and which bid it is and why, in words."""
 
     bidder: str
@@ -185,7 +186,7 @@ class Figures:
     award: int
     drawn: int | None
     awards: Sequence[AwardFigures]
-    left_out: Sequence[LeftOutBid]
+    left_out: Sequence[LeftOutFigures]
     names: Mapping[str, str]
     input_sha256: str
     report_sha256: str
@@ -368,10 +369,10 @@ def make_awards(
     report: Report,
     auction: Accepted,
     *,
-    left_out: Sequence[tuple[str, str]],
+    left_out: Sequence[LeftOutBid],
 ) -> list[AwardFigures]:
     """The awards that are known to tie, numbered from 1 in this order; `left_out` are the bids in
-    no program, each with the bidder's name and why.
+    no program.
     """
     return [
         AwardFigures(

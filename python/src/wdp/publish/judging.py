@@ -5,6 +5,7 @@ from collections.abc import Sequence
 from dataclasses import dataclass
 
 from wdp import audits
+from wdp.office.findings import LeftOutBid
 from wdp.program import Limits, ask
 from wdp.results import Allocation, Report
 from wdp.texts import accepted
@@ -152,15 +153,15 @@ def judge_audit(
     sources: Sources,
     audit: AuditSource,
     *,
-    left_out: Sequence[tuple[str, str]],
+    left_out: Sequence[LeftOutBid],
 ) -> PublishedAward:
     """The award of an audit that is published: the one that comes first in it, or the one that was
     drawn.
 
     The report, if there is one, is that of the award that comes first or, if an award was drawn,
-    perhaps that of award 1. `left_out` are the input's bids in no program, each with the bidder's
-    name and why. Raises Refused if the audit isn't one of the input, if the program refuses it, or if it prints
-    another report of it, and WrongArgument if there is nothing to draw, or no such award.
+    perhaps that of award 1. `left_out` are the input's bids in no program. Raises Refused if the
+    audit isn't one of the input, if the program refuses it, or if it prints another report of it,
+    and WrongArgument if there is nothing to draw, or no such award.
     """
     added_bytes = _count_added_bytes(sources.input.text, audit)
     try:

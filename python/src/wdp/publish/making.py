@@ -3,6 +3,7 @@ judged them.
 """
 from collections.abc import Mapping, Sequence
 
+from wdp.office.findings import LeftOutBid
 from wdp.office.judge import explain
 from wdp.program import read_version
 from wdp.publish import figures
@@ -54,15 +55,13 @@ def make_results(program: str, sources: Sources, options: PageOptions) -> Result
     return Results(made, award.audit)
 
 
-def _explain_input(program: str, source: Source) -> Sequence[tuple[str, str]]:
-    """The bids of an input that are in no program, each with the bidder's name and why; Refused if
-    the input has a fault.
-    """
+def _explain_input(program: str, source: Source) -> Sequence[LeftOutBid]:
+    """The bids of an input that are in no program; Refused if the input has a fault."""
     explained = explain(program, source.text, with_bids=True)
     if explained.findings:
         hint = f"wdp-office explain {source.name} says where"
         raise Refused(f"{source.name}: {explained.findings[0].refused.text}; {hint}")
-    return explained.left_out
+    return explained.bids
 
 
 def _make_figures(
@@ -72,7 +71,7 @@ def _make_figures(
     sources: Sources,
     options: PageOptions,
     names: Mapping[str, str],
-    left_out: Sequence[tuple[str, str]],
+    left_out: Sequence[LeftOutBid],
     version: str,
 ) -> figures.Figures:
     """The figures of an award that is published."""
@@ -97,7 +96,7 @@ def _make_figures(
         award=award.number,
         drawn=sources.audit.drawn if sources.audit else None,
         awards=figures.make_awards(award.awards, report, auction, left_out=left_out),
-        left_out=[figures.LeftOutBid(bidder=bidder, why=why) for bidder, why in left_out],
+        left_out=[figures.LeftOutFigures(bidder=bid.bidder, why=bid.why) for bid in left_out],
         names=names,
         input_sha256=compute_digest(sources.input.text),
         report_sha256=compute_digest(report_of_input),

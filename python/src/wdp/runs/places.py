@@ -104,7 +104,7 @@ def _run_for_award(run: Run, award: int) -> int:
     program = run.means.program
     data = run.folder.read(INPUT)
     report = judge(program, "verify", run.folder.read(AUDIT)).report
-    left_out = explain(program, data, with_bids=True).left_out
+    left_out = explain(program, data, with_bids=True).bids
     audits.check_first(award, report.awards, left_out)
     audit = audits.put_first(run.contents.format_audit(with_prices=False), award)
     folder = Folder(run.folder.path(AWARDS) / str(award))
