@@ -14,11 +14,10 @@ from damage import ACCEPTED, damage_input
 from tied_auctions import input_text, random_auction
 from trials import cases, left_out
 from trials.details import is_line_of
+from trials.faulty_inputs import PLANTED, limits, planted
 from trials.judging import row, seen
-from trials.planted import BID_PLANTS, GROUP_PLANTS, MOST_LINES, RULES, Planted
-from trials.worked import ALPHA, auction, rules_and
+from trials.planted import BID_PLANTS, GROUP_PLANTS, RULES, Planted
 
-MIB, HUGE = 1 << 20, 3_000_000
 PARTS = b"%rules %form %groups %solution %certificate %unique %tie %prices %cover %rule".split()
 OF_VERSION_1 = ": %weights is of version 1, and wdp-office prices makes %rule in its place"
 # so many damages of each version, and auctions whose bids are left out, are tried in one test; and of those are at least so many
@@ -124,18 +123,6 @@ def test_damaged(wdp, first):
     assert not [kind for kind, least in LEAST_DAMAGES.items() if counts[kind] < least], counts
 
 
-def planted(count, bids, has_other_headers, number):
-    draw = random.Random(f"planted {count} {has_other_headers} {number}")
-    return Planted(draw, bids, has_other_headers).plant(count)
-
-
-# how many faults in how many bids, whether with other headers, and how many auctions
-SIZES = [(0, 60, False, 1), (2, 60, False, 20), (10, 60, False, 10), (10, 60, True, 10)]
-SIZES += [(1_000, 200, False, 3), (1_000, 200, True, 3)]
-PLANTED = [(*size, number) for *size, times in SIZES for number in range(times)]
-PLANTED += [(MOST_LINES + more, 3_000, bool(more), 0) for more in (0, 1, 2_345)]
-
-
 @pytest.mark.parametrize("size", PLANTED, ids=str)
 def test_planted(wdp, size):
     auction = planted(*size)
@@ -157,43 +144,6 @@ def test_behind_faulty_rules_nothing_is_told_of_forms_and_groups(wdp, count, num
     rules = [it[record in chosen] for record, it in enumerate(RULES, 1)]
     wanted = ["rules: {2} at record %d{3}".format(*RULES[it - 1]) % it for it in chosen]
     expect_all(wdp, Planted(draw, 60).plant(10).text(rules), wanted)
-
-
-# what a long field of the worked auction begins with, behind a text that stands once, what it is filled up with, and what is told
-LONG = r"""bidder,|Beta|B|rules: 5 NameText at record 5, field 2: |isn't a letter and then letters or digits, at most 16
-\n|30|9|form 1: 5 AmountText at record 2, field 1: |isn't 1 to 18 digits
-30,1,"||\x0a|form 1: 8 QuantityText at record 2, field 3: |isn't 1 to 18 digits
--\n|Beta|B|groups: 3 UnknownBidder at line 2, name 1: |is no bidder's name"""
-
-
-def limits():
-    yield "large rules", "%rules\n" + "\n" * (4 * MIB + 1), ["rules: 1 TooLarge"]
-    worked = auction("-\nBeta\n").replace("30,1,0", '30,1,"0"')
-    for line in LONG.splitlines():
-        before, start, filling, told, wrong = line.split("|")
-        old, more = (it.encode().decode("unicode_escape") for it in (before + start, filling))
-        shown = start + filling * (40 - len(start))
-        yield told, worked.replace(old, old + more * HUGE, 1), [f"{told}'{shown}'... {wrong}"]
-    nobody = "groups: 3 UnknownBidder at line %d, name 1: 'Nobody' is no bidder's name"
-    short = "form %d: 2 Header at record 1: 1 fields in place of 3"
-    many = "%form\nAlpha,A,B\n" * 1_001
-    groups, calls = "%groups\nNobody\n", [nobody % 1, "form 1001: CallLimit"]
-    yield "1,001 forms", rules_and() + many + groups, calls
-    yield "1,002 forms, a faulty one", rules_and("x\n") + many + groups, [short % 1, nobody % 1]
-    large = rules_and(ALPHA + "\n" * 4 * MIB, "x\n") + "%groups\n" + "-\n" * 2 * MIB + "-"
-    yield "large texts", large, ["form 1: 1 TooLarge", short % 2, "groups: 1 TooLarge"]
-    told = [nobody % 1025, "groups: 5 TooManyGroups at line 1025: more than 1024 groups"]
-    told += ["groups: 2 EmptyLine at line 1026", told[1].replace("1025", "1026")]
-    yield "1,026 groups", auction("-\n" * 1_024 + "Nobody\n\n"), told
-    # a bid with a fault is none of the 4,000
-    amount, room = ("5 AmountText", 1), ("14 TooManyBids", None)
-    for faults in ({4_002: [room]}, {10: [amount]}, {4_002: [amount, room]}):
-        planted = Planted(random.Random("limits"), 4_002)
-        planted.told = {(1, record): it for record, it in [*faults.items(), (4_003, [room])]}
-        for record in (record for record, it in faults.items() if amount in it):
-            planted.forms[1][record - 1][0] = ""
-        planted.forms = {1: planted.forms[1]}
-        yield f"4,002 bids, faulty in {faults}", planted.text(), planted.lines()
 
 
 @pytest.mark.parametrize("text, wanted", [pytest.param(*row, id=name) for name, *row in limits()])
