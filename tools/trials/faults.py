@@ -10,6 +10,8 @@ from trials.program import ROOT
 
 # a fault's number and name, in a string of a source and in the line that refuses a text
 NUMBERED = re.compile(r'(?:"|: )([0-9]+ ([A-Z][A-Za-z]+))')
+# the same where a source has them apart
+CODE = re.compile(r'Code::new\(([0-9]+), "([A-Z][A-Za-z]+)"\)')
 VARIANT = re.compile(r"((?: +/// .*\n)+) +([A-Z]\w+)")
 MESSAGE = re.compile(r"FileFault::(?!OutOfMemory)(\w+)\S* => \[(.*?)\]", re.DOTALL)
 # a row of the file: a star, if its fault is a common one; words; a change; and the line that refuses the changed text
@@ -73,7 +75,10 @@ class Section(NamedTuple):
         """The doc comment of each fault of the sources, by number and name; empty if it has none."""
         source = "".join(path.read_text() for path in Path(ROOT, "crates").glob(self.sources))
         docs = docs_of(source)
-        return {fault: docs.get(name, "") for fault, name in NUMBERED.findall(source)}
+        named = NUMBERED.findall(source)
+        named += [(f"{number} {name}", name) for number, name in CODE.findall(source)]
+        named.sort(key=lambda fault: int(fault[0].split()[0]))
+        return {fault: docs.get(name, "") for fault, name in named}
 
     def without_meaning(self) -> list[Row]:
         """The rows whose fault is none that the sources number."""

@@ -22,17 +22,17 @@ use Rattle.input_faults.specs.declared.fault.Fault.{Fault}
 use Rattle.input_faults.specs.declared.fault.Fault.TheVariants as fault
 
 -- a member after others, whose value is a string
-abbrev pub text_of : List ℕ → List ℕ → List ℕ
-text_of name text = text_member (codes ", ") name text
+abbrev pub next_text : List ℕ → List ℕ → List ℕ
+next_text name text = text_member (codes ", ") name text
 
 -- a member after others, whose value is a number
-abbrev pub number_of : List ℕ → ℕ → List ℕ
-number_of name n = number_member (codes ", ") name n
+abbrev pub next_number : List ℕ → ℕ → List ℕ
+next_number name n = number_member (codes ", ") name n
 
 -- a member after others, whose value is a number, if it has one
-abbrev pub number_if : List ℕ → Option ℕ → List ℕ
-number_if name None = []
-number_if name (Some n) = number_of name n
+abbrev pub next_number_if : List ℕ → Option ℕ → List ℕ
+next_number_if name None = []
+next_number_if name (Some n) = next_number name n
 
 -- the first member: the name of the file that the fault is in, or null, where no file is named
 abbrev pub file_member : List Given → Option Spot → List ℕ
@@ -40,9 +40,9 @@ file_member texts None = member_name (codes "{") (codes "file") ++ codes "null"
 file_member texts (Some at) = text_member (codes "{") (codes "file") (shown_name (file_name texts at.text))
 
 -- the number of a part among those of its file, where it has a spot in one
-abbrev pub number_at : Option Spot → ℕ → ℕ
-number_at None n = n
-number_at (Some at) n = at.number
+abbrev pub number_in_file : Option Spot → ℕ → ℕ
+number_in_file None n = n
+number_in_file (Some at) n = at.number
 
 -- the part that a fault is of
 abbrev pub part_of : Fault → List ℕ
@@ -72,12 +72,12 @@ part_number (fault.Unmet u) = None
 
 -- the part that a fault is of, with its number, if it has one
 abbrev pub part_members : Option Spot → Fault → List ℕ
-part_members spot f = text_of (codes "part") (part_of f) ++ number_if (codes "number") (option_map (number_at spot) (part_number f))
+part_members spot f = next_text (codes "part") (part_of f) ++ next_number_if (codes "number") (option_map (number_in_file spot) (part_number f))
 
 -- the name of a fault, and its number; a fault without a code is that memory was refused
 abbrev pub code_members : Option FaultCode → List ℕ
-code_members None = text_of (codes "fault") (codes "out of memory")
-code_members (Some code) = text_of (codes "fault") code.name ++ number_of (codes "code") code.number
+code_members None = next_text (codes "fault") (codes "out of memory")
+code_members (Some code) = next_text (codes "fault") code.name ++ next_number (codes "code") code.number
 
 -- the name of the fault of an input that isn't cut into parts
 abbrev pub uncut_name : PartFault → List ℕ
@@ -89,23 +89,23 @@ uncut_name parts.OutOfMemory = codes "out of memory"
 -- the name of the fault of a form, its number, the record, and an earlier bid
 abbrev pub form_fault_members : FormFault → List ℕ
 form_fault_members f =
-    (code_members (form_code f) ++ number_if (codes "record") (form_place f)) ++ number_if (codes "earlier_bid") (earlier_bid f)
+    (code_members (form_code f) ++ next_number_if (codes "record") (form_place f)) ++ next_number_if (codes "earlier_bid") (earlier_bid f)
 
 -- the name of a fault, its number, if it has one, the record or line, and an earlier bid
 abbrev pub named_members : Fault → List ℕ
-named_members (fault.Parts f) = text_of (codes "fault") (uncut_name f)
-named_members (fault.PartCount kind) = text_of (codes "fault") (wrong_number kind)
-named_members (fault.Rules f) = code_members (rules_code f) ++ number_if (codes "record") (rules_place f)
+named_members (fault.Parts f) = next_text (codes "fault") (uncut_name f)
+named_members (fault.PartCount kind) = next_text (codes "fault") (wrong_number kind)
+named_members (fault.Rules f) = code_members (rules_code f) ++ next_number_if (codes "record") (rules_place f)
 named_members (fault.Form n f) = form_fault_members f
-named_members (fault.AnotherForm f) = text_of (codes "fault") (codes "another form")
-named_members (fault.Groups f) = code_members (group_code f) ++ number_if (codes "line") (group_place f)
-named_members (fault.CallLimit n) = text_of (codes "fault") (codes "CallLimit")
-named_members (fault.Unmet unmet.FirstGroupNotEmpty) = text_of (codes "fault") (codes "group 1 is not empty")
-named_members (fault.Unmet (unmet.Number kind count by)) = text_of (codes "fault") (wrong_number kind)
+named_members (fault.AnotherForm f) = next_text (codes "fault") (codes "another form")
+named_members (fault.Groups f) = code_members (group_code f) ++ next_number_if (codes "line") (group_place f)
+named_members (fault.CallLimit n) = next_text (codes "fault") (codes "CallLimit")
+named_members (fault.Unmet unmet.FirstGroupNotEmpty) = next_text (codes "fault") (codes "group 1 is not empty")
+named_members (fault.Unmet (unmet.Number kind count by)) = next_text (codes "fault") (wrong_number kind)
 
 -- whose form is in which other file, where a fault is about that
 abbrev pub other_members : List Given → Fault → List ℕ
-other_members texts (fault.AnotherForm f) = text_of (codes "bidder") f.bidder ++ text_of (codes "other_file") (shown_name (file_name texts f.first_text))
+other_members texts (fault.AnotherForm f) = next_text (codes "bidder") f.bidder ++ next_text (codes "other_file") (shown_name (file_name texts f.first_text))
 other_members texts (fault.Parts f) = []
 other_members texts (fault.PartCount kind) = []
 other_members texts (fault.Rules f) = []
@@ -120,11 +120,11 @@ cut_member text = if nat_lt 40 (length text) then member_name (codes ", ") (code
 
 -- what is found: the first 40 bytes, and whether there are more
 abbrev pub found_members : List ℕ → List ℕ
-found_members text = text_of (codes "found") (flat_map shown_byte (take 40 text)) ++ cut_member text
+found_members text = next_text (codes "found") (flat_map shown_byte (take 40 text)) ++ cut_member text
 
 -- the number of a field or name, and what is there; 0 is that of a whole record or line
 abbrev pub field_members : List ℕ → ℕ → List ℕ → List ℕ
-field_members name n text = if n == 0 then [] else number_of name n ++ found_members text
+field_members name n text = if n == 0 then [] else next_number name n ++ found_members text
 
 -- what a fault is about: the first line of a text, or what is at a field or name
 abbrev pub place_members : Judged Fault → Fault → List ℕ
@@ -143,7 +143,7 @@ place_members at (fault.Unmet u) = field_members (codes "field") at.field at.tex
 -- what is wrong, if there are words for it
 abbrev pub cause_member : Option (List ℕ) → List ℕ
 cause_member None = []
-cause_member (Some cause) = text_of (codes "cause") cause
+cause_member (Some cause) = next_text (codes "cause") cause
 
 -- the object of a fault that is at this spot, on a line of its own
 abbrev pub object_at : List Given → Option Spot → Judged Fault → List ℕ

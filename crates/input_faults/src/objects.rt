@@ -5,7 +5,7 @@ ghost use Rattle.auction_input.specs.Line.{wrong_number};
 ghost use Rattle.auction_terms.specs.Judged.{cause_text, kept_fault};
 ghost use Rattle.auction_terms.specs.Wording.{code_seen};
 ghost use Rattle.byte_sinks.specs.Adds.{Adds};
-ghost use Rattle.input_faults.specs.FaultObjects.{cause_member, code_members, cut_member, fault_object, field_members, file_member, form_fault_members, found_members, named_members, number_at, number_if, number_of, other_members, part_members, part_number, part_of, place_members, text_of, uncut_name};
+ghost use Rattle.input_faults.specs.FaultObjects.{cause_member, code_members, cut_member, fault_object, field_members, file_member, form_fault_members, found_members, named_members, number_in_file, next_number_if, next_number, other_members, part_members, part_number, part_of, place_members, next_text, uncut_name};
 ghost use Rattle.input_faults.specs.FileNames.{shown_name};
 ghost use Rattle.input_faults.specs.Shown.{shown_byte};
 ghost use Rattle.input_faults.specs.declared.fault.Fault.TheVariants as whole;
@@ -61,21 +61,21 @@ fn cause_words(alloc: Global, cause: &Cause) -> Result<Vec<u8>, AllocError>
 
 // Adds a member after others, whose value is a string.
 fn add_text<S: Sink>(writer: &mut Writer<'_, S>, name: &[u8], text: &[u8])
-    ensures { Adds S.state writer.old writer.new (text_of name.now text.now) }
+    ensures { Adds S.state writer.old writer.new (next_text name.now text.now) }
 {
     add_text_member(writer, b", ", name, text);
 }
 
 // Adds a member after others, whose value is a number.
 fn add_number<S: Sink>(writer: &mut Writer<'_, S>, name: &[u8], number: u64)
-    ensures { Adds S.state writer.old writer.new (number_of name.now number) }
+    ensures { Adds S.state writer.old writer.new (next_number name.now number) }
 {
     add_number_member(writer, b", ", name, number);
 }
 
 // Adds a member after others, whose value is a number, if it has one.
 fn add_number_if<S: Sink>(writer: &mut Writer<'_, S>, name: &[u8], number: Option<u32>)
-    ensures { Adds S.state writer.old writer.new (number_if name.now number) }
+    ensures { Adds S.state writer.old writer.new (next_number_if name.now number) }
 {
     match number {
         Some(number) => add_number(writer, name, number as u64),
@@ -103,8 +103,8 @@ fn add_file<S: Sink>(
 }
 
 // The number of a part among those of its file, where it has a spot in one.
-fn number_at(spot: Option<Spot>, number: usize) -> usize
-    ensures { result ≡ number_at spot number }
+fn number_in_file(spot: Option<Spot>, number: usize) -> usize
+    ensures { result ≡ number_in_file spot number }
 {
     match spot {
         Some(spot) => spot.number,
@@ -143,10 +143,10 @@ fn part_number(fault: &Fault) -> Option<usize>
 // Adds the number of a part, if it has one.
 fn add_part_number<S: Sink>(writer: &mut Writer<'_, S>, spot: Option<Spot>, number: Option<usize>)
     ensures { Adds S.state writer.old writer.new
-        (number_if (codes "number") (option_map (number_at spot) number)) }
+        (next_number_if (codes "number") (option_map (number_in_file spot) number)) }
 {
     match number {
-        Some(number) => add_number(writer, b"number", number_at(spot, number) as u64),
+        Some(number) => add_number(writer, b"number", number_in_file(spot, number) as u64),
         None => writer.add(b""),
     }
 }
@@ -185,14 +185,14 @@ fn uncut_name(fault: PartFault) -> &'static str
 
 // Adds the name of the fault of an input that isn't cut into parts.
 fn add_uncut<S: Sink>(writer: &mut Writer<'_, S>, fault: PartFault)
-    ensures { Adds S.state writer.old writer.new (text_of (codes "fault") (uncut_name fault)) }
+    ensures { Adds S.state writer.old writer.new (next_text (codes "fault") (uncut_name fault)) }
 {
     add_text(writer, b"fault", uncut_name(fault).as_bytes());
 }
 
 // Adds that there are too few or too many parts of a kind.
 fn add_wrong_number<S: Sink>(writer: &mut Writer<'_, S>, kind: PartKind)
-    ensures { Adds S.state writer.old writer.new (text_of (codes "fault") (wrong_number kind)) }
+    ensures { Adds S.state writer.old writer.new (next_text (codes "fault") (wrong_number kind)) }
 {
     add_text(writer, b"fault", kind.wrong_number().as_bytes());
 }
@@ -205,7 +205,7 @@ fn add_coded<S: Sink>(
     place: Option<u32>,
 )
     ensures { Adds S.state writer.old writer.new
-        (code_members (option_map code_seen code) ++ number_if name.now place) }
+        (code_members (option_map code_seen code) ++ next_number_if name.now place) }
 {
     add_code(writer, code);
     add_number_if(writer, name, place);
@@ -311,7 +311,7 @@ fn add_numbered<S: Sink>(
     at: &FaultAt<Fault>,
 ) -> Result<(), AllocError>
     ensures { OnOk result (Adds S.state writer.old writer.new
-        (number_of name.now at.now.field ++ found_members at.now.text)) }
+        (next_number name.now at.now.field ++ found_members at.now.text)) }
 {
     add_number(writer, name, at.field as u64);
     add_found(alloc, writer, at.text.as_slice())?;

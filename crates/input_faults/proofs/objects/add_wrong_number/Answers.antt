@@ -1,8 +1,8 @@
 use Rattle.std.proofs.Common.{◌∙◌, ap}
 use Rattle.std.specs.Prelude.{codes}
 use Rattle.byte_sinks.proofs.AddingFacts.{Adds-to}
-use Rattle.input_faults.specs.FaultObjects.{text_of}
+use Rattle.input_faults.specs.FaultObjects.{next_text}
 use Rattle.input_faults.proofs.objects.add_wrong_number.Goals as goal
 
 pub returns : goal.returns
-returns g c = Adds-to c.add_text.ensures (ap (text_of (codes "fault")) (c.as_bytes.ensures.value ∙ c.wrong_number.ensures))
+returns g c = Adds-to c.add_text.ensures (ap (next_text (codes "fault")) (c.as_bytes.ensures.value ∙ c.wrong_number.ensures))
