@@ -7,6 +7,7 @@ use Rattle.std.specs.Prelude.{⊤, if◌then◌else◌, nat_le, not, slice_index
 use Rattle.std.specs.List.{zip}
 use Rattle.std.specs.Option.{option_map, option_or}
 use Rattle.byte_sinks.specs.Sinks.{Outlet}
+use Rattle.byte_sinks.specs.declared.json.Format.{Format}
 use Rattle.answers.specs.Answer.{answer, output_of}
 use Rattle.answers.specs.Exact.{Writes}
 use Rattle.answers.specs.ExplainedFor.{ExplainsFor, IsNamed, IsOfParts, IsRefusedBy, IsTakenBy, RefusesSo}
@@ -350,15 +351,15 @@ verify-so workers (Ok auction) r is =
     (first_failed (refused_unless (wants (Some target.Verify) (numbers_of auction)))) auction r is)
 
 -- the lines of bids, where they are asked for
-abbrev lines_of : Bool → Auction → Result (List ℕ) Refusal
-lines_of bids auction = Ok (if bids then left_out_lines auction.rules auction.form_bidders (reasons_of auction.sale.lots auction.sale.book) else [])
+abbrev lines_of : Bool → Format → Auction → Result (List ℕ) Refusal
+lines_of bids format auction = Ok (if bids then left_out_lines format auction.rules auction.form_bidders (reasons_of auction.sale.lots auction.sale.book) else [])
 
-explain-so : (bids : Bool) (command : Option Target) (parsed : Result Auction Refusal) (r : Refusal) → with_wanted command parsed ≡ Err r
-    → and_then parsed (output_of (Explain bids command)) ≡ Err r
-explain-so bids None (Ok auction) r is = cc
-explain-so bids None (Err f) r is = ap (λ (e : Refusal). Err e) (err-is f r is)
-explain-so bids (Some command) (Err f) r is = ap (λ (e : Refusal). Err e) (err-is f r is)
-explain-so bids (Some command) (Ok auction) r is = stopped (λ found. lines_of bids auction) (wanted (Some command) auction) r is
+explain-so : (bids : Bool) (command : Option Target) (format : Format) (parsed : Result Auction Refusal) (r : Refusal) → with_wanted command parsed ≡ Err r
+    → and_then parsed (output_of (Explain bids command format)) ≡ Err r
+explain-so bids None format (Ok auction) r is = cc
+explain-so bids None format (Err f) r is = ap (λ (e : Refusal). Err e) (err-is f r is)
+explain-so bids (Some command) format (Err f) r is = ap (λ (e : Refusal). Err e) (err-is f r is)
+explain-so bids (Some command) format (Ok auction) r is = stopped (λ found. lines_of bids format auction) (wanted (Some command) auction) r is
 
 refuses-so : (asked : Request) (command : Target) (input : Input) (r : Refusal) → target_of asked ≡ Some command
     → parsed_taken asked input ≡ Err r → RefusesSo asked input r
@@ -371,7 +372,8 @@ refuses-so (Map group) command input r is parsed =
     stopped (output_of (Map group)) (parsed_auction (Map group) input) r (sym (onto-all (parsed_auction (Map group) input)) ∙ parsed)
 refuses-so (Report workers) command input r is parsed = report-so workers (parsed_auction (Report workers) input) r parsed
 refuses-so (Verify workers) command input r is parsed = verify-so workers (parsed_auction (Verify workers) input) r parsed
-refuses-so (Explain bids whose) command input r is parsed = explain-so bids whose (parsed_auction (Explain bids whose) input) r parsed
+refuses-so (Explain bids whose format) command input r is parsed =
+    explain-so bids whose format (parsed_auction (Explain bids whose format) input) r parsed
 
 -- ---- what is taken
 
@@ -436,24 +438,24 @@ taken-so (Report workers) (Ok found) auction is = free-then (winners_of_groups f
     (report-taken found (met-so (first_failed (refused_unless (solution_wants (numbers_of found)))) found auction is)) (λ won is. tt)
 taken-so (Verify workers) (Ok found) auction is =
     verify-taken workers found (met-so (first_failed (refused_unless (wants (Some target.Verify) (numbers_of found)))) found auction is)
-taken-so (Explain bids None) (Ok found) auction is = tt
-taken-so (Explain bids (Some command)) (Ok found) auction is =
-    subst (λ (o : Option Refusal). IsFree (and_then (unless o (Ok found)) (λ again. lines_of bids found)))
+taken-so (Explain bids None format) (Ok found) auction is = tt
+taken-so (Explain bids (Some command) format) (Ok found) auction is =
+    subst (λ (o : Option Refusal). IsFree (and_then (unless o (Ok found)) (λ again. lines_of bids format found)))
     (sym (met-so (first_failed (refused_unless (wants (Some command) (numbers_of found)))) found auction is)) tt
 
 -- ---- the law
 
 -- what a request for a command takes is what `explain` takes for it
-parsed-for : (bids : Bool) (asked : Request) (command : Target) (input : Input) → target_of asked ≡ Some command
-    → parsed_taken asked input ≡ parsed_taken (Explain bids (Some command)) input
-parsed-for bids Check command input is = cc
-parsed-for bids Forms command input is = cc
-parsed-for bids Text command input is = ap (λ (o : Option Target). parsed_taken (Explain bids o) input) is
-parsed-for bids (Compile workers) command input is = ap (λ (o : Option Target). parsed_taken (Explain bids o) input) is
-parsed-for bids (Map group) command input is = ap (λ (o : Option Target). parsed_taken (Explain bids o) input) is
-parsed-for bids (Report workers) command input is = ap (λ (o : Option Target). parsed_taken (Explain bids o) input) is
-parsed-for bids (Verify workers) command input is = ap (λ (o : Option Target). parsed_taken (Explain bids o) input) is
-parsed-for bids (Explain others whose) command input is = ap (λ (o : Option Target). parsed_taken (Explain bids o) input) is
+parsed-for : (bids : Bool) (format : Format) (asked : Request) (command : Target) (input : Input) → target_of asked ≡ Some command
+    → parsed_taken asked input ≡ parsed_taken (Explain bids (Some command) format) input
+parsed-for bids format Check command input is = cc
+parsed-for bids format Forms command input is = cc
+parsed-for bids format Text command input is = ap (λ (o : Option Target). parsed_taken (Explain bids o format) input) is
+parsed-for bids format (Compile workers) command input is = ap (λ (o : Option Target). parsed_taken (Explain bids o format) input) is
+parsed-for bids format (Map group) command input is = ap (λ (o : Option Target). parsed_taken (Explain bids o format) input) is
+parsed-for bids format (Report workers) command input is = ap (λ (o : Option Target). parsed_taken (Explain bids o format) input) is
+parsed-for bids format (Verify workers) command input is = ap (λ (o : Option Target). parsed_taken (Explain bids o format) input) is
+parsed-for bids format (Explain others whose other) command input is = ap (λ (o : Option Target). parsed_taken (Explain bids o format) input) is
 
 free-answer : (asked : Request) (command : Target) (input : Input) (auction : Auction) → target_of asked ≡ Some command
     → parsed_taken asked input ≡ Ok auction → IsFree (answer asked input)
@@ -466,9 +468,9 @@ if-err-at parsed r free is = subst (λ (t : Result _ Refusal). IsFree t) is free
 
 pub explains-for : (command : Target) (input : Input) → ExplainsFor command input
 explains-for command input = record {
-  refused = λ bids r parsed asked is. refuses-so asked command input r is (parsed-for bids asked command input is ∙ parsed);
-  taken = λ bids auction parsed asked is r answered. if-err-at (answer asked input) r
-      (free-answer asked command input auction is (parsed-for bids asked command input is ∙ parsed)) answered;
+  refused = λ bids format r parsed asked is. refuses-so asked command input r is (parsed-for bids format asked command input is ∙ parsed);
+  taken = λ bids format auction parsed asked is r answered. if-err-at (answer asked input) r
+      (free-answer asked command input auction is (parsed-for bids format asked command input is ∙ parsed)) answered;
 }
 
 -- ---- what follows of an explanation
@@ -484,37 +486,38 @@ refused-so Text input r is = is-err _ r is
 refused-so (Compile workers) input r is = is-err _ r is
 refused-so (Map group) input r is = is-err _ r is
 refused-so (Report workers) input r is = is-err _ r is
-refused-so (Explain bids whose) input r is = is-err _ r is
+refused-so (Explain bids whose format) input r is = is-err _ r is
 
 which-err : {A : Type 0} (parsed : Result A Refusal) → IsErr parsed → (r : Refusal) × (parsed ≡ Err r)
 which-err (Ok x) is = cc
 which-err (Err r) is = (r, refl)
 
 -- an input of which faults are reported is refused by the command
-pub refused-by : (bids : Bool) (command : Option Target) (input : Input) → IsErr (parsed_taken (Explain bids command) input) → IsRefusedBy command input
-refused-by bids None input wrong asked never = absurd never
-refused-by bids (Some command) input wrong asked is =
-    let (r, parsed) = which-err (parsed_taken (Explain bids (Some command)) input) wrong in
-    refused-so asked input r ((explains-for command input).refused bids r parsed asked is)
+pub refused-by : (bids : Bool) (command : Option Target) (format : Format) (input : Input) → IsErr (parsed_taken (Explain bids command format) input)
+    → IsRefusedBy command input
+refused-by bids None format input wrong asked never = absurd never
+refused-by bids (Some command) format input wrong asked is =
+    let (r, parsed) = which-err (parsed_taken (Explain bids (Some command) format) input) wrong in
+    refused-so asked input r ((explains-for command input).refused bids format r parsed asked is)
 
 -- where the answer is there, the auction has what is wanted
-has-taken : (bids : Bool) (command : Option Target) (parsed : Result Auction Refusal) (out : List ℕ)
-    → and_then parsed (output_of (Explain bids command)) ≡ Ok out → (auction : Auction) × (with_wanted command parsed ≡ Ok auction)
-has-taken bids None (Ok auction) out is = (auction, refl)
-has-taken bids (Some command) (Ok auction) out is = by (first_failed (refused_unless (wants (Some command) (numbers_of auction)))) is
+has-taken : (bids : Bool) (command : Option Target) (format : Format) (parsed : Result Auction Refusal) (out : List ℕ)
+    → and_then parsed (output_of (Explain bids command format)) ≡ Ok out → (auction : Auction) × (with_wanted command parsed ≡ Ok auction)
+has-taken bids None format (Ok auction) out is = (auction, refl)
+has-taken bids (Some command) format (Ok auction) out is = by (first_failed (refused_unless (wants (Some command) (numbers_of auction)))) is
   where
     by : (o : Option Refusal) → and_then (unless o (Ok auction)) (λ taken. Ok
-        (if bids then left_out_lines auction.rules auction.form_bidders (reasons_of auction.sale.lots auction.sale.book) else [])) ≡ Ok out
+        (if bids then left_out_lines format auction.rules auction.form_bidders (reasons_of auction.sale.lots auction.sale.book) else [])) ≡ Ok out
         → (x : Auction) × (unless o (Ok auction) ≡ Ok x)
     by None e = (auction, refl)
     by (Some r) e = cc
-has-taken bids command (Err r) out is = cc
+has-taken bids command format (Err r) out is = cc
 
 pub taken-for : (asked : Request) (input : Input) (before after : Outlet) → Writes (answer asked input) before after → IsTakenFor asked input
-taken-for (Explain bids None) input before after (out, parsed, sent) = λ asked never r answered of. never
-taken-for (Explain bids (Some command)) input before after (out, parsed, sent) =
-    let (auction, has) = has-taken bids (Some command) (parsed_auction (Explain bids (Some command)) input) out parsed in
-    (explains-for command input).taken bids auction has
+taken-for (Explain bids None format) input before after (out, parsed, sent) = λ asked never r answered of. never
+taken-for (Explain bids (Some command) format) input before after (out, parsed, sent) =
+    let (auction, has) = has-taken bids (Some command) format (parsed_auction (Explain bids (Some command) format) input) out parsed in
+    (explains-for command input).taken bids format auction has
 taken-for Check input before after writes = tt
 taken-for Forms input before after writes = tt
 taken-for Text input before after writes = tt

@@ -6,6 +6,7 @@ use Rattle.auction_input.specs.Input.{Input}
 use Rattle.answers.specs.Exact.{IsUnwritten, Writes}
 use Rattle.answers.specs.Answer.{answer, output_of}
 use Rattle.byte_sinks.specs.Sinks.{GoesWhole, Outlet}
+use Rattle.byte_sinks.specs.declared.json.Format.{Format}
 use Rattle.answers.specs.Runs.{AsksAnswer}
 use Rattle.auction_input.specs.Auction.{Auction, parsed_auction}
 use Rattle.auction_input.specs.declared.refusal.Refusal.{Refusal}
@@ -25,46 +26,46 @@ abbrev no_lines : Result (List ℕ) Refusal
 no_lines = Ok []
 
 -- where an auction is parsed that has what is wanted, the answer is there
-found-answer : (command : Option Target) (parsed : Result Auction Refusal) (auction : Auction) → with_wanted command parsed ≡ Ok auction
-    → and_then parsed (output_of (Explain false command)) ≡ Ok []
-found-answer None (Ok found) auction is = refl
-found-answer (Some command) (Ok found) auction is = by (first_failed (refused_unless (wants (Some command) (numbers_of found)))) is
+found-answer : (command : Option Target) (format : Format) (parsed : Result Auction Refusal) (auction : Auction) → with_wanted command parsed ≡ Ok auction
+    → and_then parsed (output_of (Explain false command format)) ≡ Ok []
+found-answer None format (Ok found) auction is = refl
+found-answer (Some command) format (Ok found) auction is = by (first_failed (refused_unless (wants (Some command) (numbers_of found)))) is
   where
     by : (o : Option Refusal) → unless o (Ok found) ≡ Ok auction → and_then (unless o (Ok found)) (λ taken. no_lines) ≡ Ok []
     by None e = refl
     by (Some r) e = cc
-found-answer None (Err r) auction is = cc
-found-answer (Some command) (Err r) auction is = cc
+found-answer None format (Err r) auction is = cc
+found-answer (Some command) format (Err r) auction is = cc
 
 -- where nothing is wrong, and bids aren't asked for, nothing is written
-nothing-written : (command : Option Target) (text : Input) (parsed : Result Auction Refusal) (before after : Outlet)
-    → parsed_taken (Explain false command) text ≡ parsed → (IsErr parsed → IsTrue false)
-    → GoesWhole before after (explanation (Explain false command) text)
-    → Writes (answer (Explain false command) text) before after
-nothing-written command text (Ok auction) before after is sound written = (
+nothing-written : (command : Option Target) (format : Format) (text : Input) (parsed : Result Auction Refusal) (before after : Outlet)
+    → parsed_taken (Explain false command format) text ≡ parsed → (IsErr parsed → IsTrue false)
+    → GoesWhole before after (explanation (Explain false command format) text)
+    → Writes (answer (Explain false command format) text) before after
+nothing-written command format text (Ok auction) before after is sound written = (
   [],
-  found-answer command (parsed_auction (Explain false command) text) auction is,
+  found-answer command format (parsed_auction (Explain false command format) text) auction is,
   subst (GoesWhole before after) (nothing-explained
-      (Explain false command) text auction is) written,
+      (Explain false command format) text auction is) written,
 )
-nothing-written command text (Err r) before after is sound written = (let never = sound refl in cc)
+nothing-written command format text (Err r) before after is sound written = (let never = sound refl in cc)
 
-pub unasked : (bids faulty : Bool) (command : Option Target) (text : Input) (before after : Outlet) → bids ≡ false → faulty ≡ false
-    → IsTrue faulty ↔ IsErr (parsed_taken (Explain bids command) text)
-    → GoesWhole before after (explanation (Explain bids command) text) → Writes (answer (Explain bids command) text) before after
-unasked true faulty command text before after off sound both written = absurd (true≢false off)
-unasked false faulty command text before after off sound both written =
-    nothing-written command text (parsed_taken (Explain false command) text) before after refl (λ wrong. sym sound ∙ both.1 wrong) written
+pub unasked : (bids faulty : Bool) (command : Option Target) (format : Format) (text : Input) (before after : Outlet) → bids ≡ false → faulty ≡ false
+    → IsTrue faulty ↔ IsErr (parsed_taken (Explain bids command format) text)
+    → GoesWhole before after (explanation (Explain bids command format) text) → Writes (answer (Explain bids command format) text) before after
+unasked true faulty command format text before after off sound both written = absurd (true≢false off)
+unasked false faulty command format text before after off sound both written =
+    nothing-written command format text (parsed_taken (Explain false command format) text) before after refl (λ wrong. sym sound ∙ both.1 wrong) written
 
 -- where no fault is found, an auction is parsed
 no-fault : {A E : Type 0} (parsed : Result A E) → (IsErr parsed → ⊥) → IsOk parsed
 no-fault (Ok x) none = refl
 no-fault (Err r) none = absurd (none refl)
 
-pub asks-bids : (bids faulty : Bool) (command : Option Target) (text : Input) → bids ≡ true → faulty ≡ false
-    → IsTrue faulty ↔ IsErr (parsed_taken (Explain bids command) text) → AsksAnswer (Explain bids command) text
-asks-bids bids faulty command text asked sound both =
-    (asked, no-fault (parsed_taken (Explain bids command) text) (λ wrong. true≢false (sym (both.1 wrong) ∙ sound)))
+pub asks-bids : (bids faulty : Bool) (command : Option Target) (format : Format) (text : Input) → bids ≡ true → faulty ≡ false
+    → IsTrue faulty ↔ IsErr (parsed_taken (Explain bids command format) text) → AsksAnswer (Explain bids command format) text
+asks-bids bids faulty command format text asked sound both =
+    (asked, no-fault (parsed_taken (Explain bids command format) text) (λ wrong. true≢false (sym (both.1 wrong) ∙ sound)))
 
 -- where nothing was put before
 pub unreported : (asked : Request) (text : Input) (explained before after : Outlet) (r : Refusal) → explained ≡ before
@@ -72,37 +73,37 @@ pub unreported : (asked : Request) (text : Input) (explained before after : Outl
 unreported asked text explained before after r same unwritten = subst (λ (s : Outlet). IsUnwritten asked text s after r) same unwritten
 
 -- what a text is explained by
-abbrev pub IsTextExplained : Bool → Option Target → Input → Outlet → Outlet → Bool → Type 0
-IsTextExplained bids command text before after faulty =
-    MatchBool faulty (IsErr (parsed_taken (Explain bids command) text) × GoesWhole before after (explanation (Explain bids command) text))
-    (Writes (answer (Explain bids command) text) before after)
+abbrev pub IsTextExplained : Bool → Option Target → Format → Input → Outlet → Outlet → Bool → Type 0
+IsTextExplained bids command format text before after faulty =
+    MatchBool faulty (IsErr (parsed_taken (Explain bids command format) text) × GoesWhole before after (explanation (Explain bids command format) text))
+    (Writes (answer (Explain bids command format) text) before after)
 
-abbrev pub IsTextUnexplained : Bool → Option Target → Input → Outlet → Outlet → Refusal → Type 0
-IsTextUnexplained bids command text before after r =
-    IsCutShort (explanation (Explain bids command) text) before after r
-    ⊎ (AsksAnswer (Explain bids command) text × IsUnwritten (Explain bids command) text before after r)
+abbrev pub IsTextUnexplained : Bool → Option Target → Format → Input → Outlet → Outlet → Refusal → Type 0
+IsTextUnexplained bids command format text before after r =
+    IsCutShort (explanation (Explain bids command format) text) before after r
+    ⊎ (AsksAnswer (Explain bids command format) text × IsUnwritten (Explain bids command format) text before after r)
 
 -- ---- what is written of an auction
 
 -- of one that has what is wanted, as where nothing is
-pub bids-as : (bids : Bool) (command : Option Target) (auction : Auction) → bids ≡ true → wanted command auction ≡ Ok auction
-    → output_of (Explain bids command) auction ≡ output_of (Explain true None) auction
-bids-as bids command auction asked has =
+pub bids-as : (bids : Bool) (command : Option Target) (format : Format) (auction : Auction) → bids ≡ true → wanted command auction ≡ Ok auction
+    → output_of (Explain bids command format) auction ≡ output_of (Explain true None format) auction
+bids-as bids command format auction asked has =
     ap (λ (parsed : Result Auction Refusal). and_then parsed (λ taken. Ok
-    (if bids then left_out_lines auction.rules auction.form_bidders (reasons_of auction.sale.lots auction.sale.book) else []))) has
-    ∙ ap (λ (b : Bool). output_of (Explain b None) auction) asked
+    (if bids then left_out_lines format auction.rules auction.form_bidders (reasons_of auction.sale.lots auction.sale.book) else []))) has
+    ∙ ap (λ (b : Bool). output_of (Explain b None format) auction) asked
 
 -- of one that hasn't
-pub bids-refused : (bids : Bool) (command : Option Target) (auction : Auction) (r : Refusal) → wanted command auction ≡ Err r
-    → output_of (Explain bids command) auction ≡ Err r
-bids-refused bids command auction r unmet =
+pub bids-refused : (bids : Bool) (command : Option Target) (format : Format) (auction : Auction) (r : Refusal) → wanted command auction ≡ Err r
+    → output_of (Explain bids command format) auction ≡ Err r
+bids-refused bids command format auction r unmet =
     ap (λ (parsed : Result Auction Refusal). and_then parsed (λ taken. Ok
-    (if bids then left_out_lines auction.rules auction.form_bidders (reasons_of auction.sale.lots auction.sale.book) else []))) unmet
+    (if bids then left_out_lines format auction.rules auction.form_bidders (reasons_of auction.sale.lots auction.sale.book) else []))) unmet
 
 -- where bids aren't asked for
-pub as-unasked : (bids : Bool) (command : Option Target) (auction : Auction) → bids ≡ false → wanted command auction ≡ Ok auction
-    → output_of (Explain bids command) auction ≡ Ok []
-as-unasked bids command auction off has =
+pub as-unasked : (bids : Bool) (command : Option Target) (format : Format) (auction : Auction) → bids ≡ false → wanted command auction ≡ Ok auction
+    → output_of (Explain bids command format) auction ≡ Ok []
+as-unasked bids command format auction off has =
     ap (λ (parsed : Result Auction Refusal). and_then parsed (λ taken. Ok
-    (if bids then left_out_lines auction.rules auction.form_bidders (reasons_of auction.sale.lots auction.sale.book) else []))) has
-    ∙ ap (λ (b : Bool). output_of (Explain b None) auction) off
+    (if bids then left_out_lines format auction.rules auction.form_bidders (reasons_of auction.sale.lots auction.sale.book) else []))) has
+    ∙ ap (λ (b : Bool). output_of (Explain b None format) auction) off

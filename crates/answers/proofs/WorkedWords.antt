@@ -6,6 +6,7 @@ use Rattle.clap.proofs.OnLiterals.{clap_on_literals}
 use Rattle.clap.specs.declared.error.kind.ErrorKind.TheVariants as kind
 use Rattle.auction_input.specs.declared.request.Request.TheVariants as request
 use Rattle.auction_input.specs.declared.request.Target.TheVariants as target
+use Rattle.byte_sinks.specs.declared.json.Format.TheVariants as format
 use Rattle.answers.specs.Asked.{asked, faults_of, for_answer, for_help}
 
 abbrev compiled : List Text
@@ -67,13 +68,23 @@ help_with_files = refl
 
 -- what a command wants is reported by its name
 explained_for_a_report : asked (codes "wdp" ∷ codes "explain" ∷ codes "a" ∷ codes "--for" ∷ codes "report" ∷ codes "--bids" ∷ []) ≡ for_answer (record {
-  request = request.Explain true (Some target.Report);
+  request = request.Explain true (Some target.Report) format.Words;
   last_wins = false;
   files = codes "a" ∷ [];
   output = None;
 })
 unfolding clap_on_literals
 explained_for_a_report = refl
+
+-- what is found is printed as JSON
+explained_as_json : asked (codes "wdp" ∷ codes "explain" ∷ codes "--json" ∷ codes "--bids" ∷ []) ≡ for_answer (record {
+  request = request.Explain true None format.Json;
+  last_wins = false;
+  files = [];
+  output = None;
+})
+unfolding clap_on_literals
+explained_as_json = refl
 
 explained_for_none : faults_of (codes "wdp" ∷ codes "explain" ∷ codes "--for=check" ∷ []) ≡ kind.InvalidValue ∷ []
 unfolding clap_on_literals

@@ -11,6 +11,8 @@ use Rattle.auction_input.specs.declared.request.Request.{Request}
 use Rattle.auction_input.specs.declared.request.Target.TheVariants as target
 use Rattle.auction_input.specs.declared.request.Target.{Target}
 use Rattle.answers.specs.declared.words.Command.{Command}
+use Rattle.byte_sinks.specs.declared.json.Format.TheVariants as format
+use Rattle.byte_sinks.specs.declared.json.Format.{Format}
 use Rattle.auction_terms.specs.declared.limits.TheConstants.{MOST_GROUPS}
 use Rattle.clap.specs.Kinds.{or_else}
 use Rattle.clap.specs.Simple.{on_top}
@@ -45,6 +47,10 @@ bids = record (new_rule (codes "bids")) { long = Some (codes "bids"); action = S
 abbrev pub explained_for : Rule
 explained_for = record (new_rule (codes "for")) { long = Some (codes "for"); value_names = 1 }
 
+-- whether an explanation is printed as JSON: no, where nothing is said
+abbrev pub json : Rule
+json = record (new_rule (codes "json")) { long = Some (codes "json"); action = Some action.SetTrue }
+
 -- whether a bidder may have forms in several files, of which the last one counts: no, where nothing is said
 abbrev pub last_wins : Rule
 last_wins = record (new_rule (codes "last-wins")) { long = Some (codes "last-wins"); action = Some action.SetTrue }
@@ -78,7 +84,7 @@ commands =
     for_forms (with_rule (new_app (codes "map")) group) ∷
     for_forms (with_rule (new_app (codes "report")) workers) ∷
     for_forms (with_rule (new_app (codes "verify")) workers) ∷
-    for_forms (with_rule (with_rule (new_app (codes "explain")) bids) explained_for) ∷
+    for_forms (with_rule (with_rule (with_rule (new_app (codes "explain")) bids) explained_for) json) ∷
     for_forms (new_app (codes "forms")) ∷
     new_app (codes "help") ∷ []
 
@@ -99,6 +105,10 @@ option_flag id rows = option_map_or (λ text. bytes_eq text (codes "true")) (fir
 abbrev pub option_target : Text → List Row → Option Target
 option_target id rows = option_and_then target_named (first_of id rows)
 
+-- how an explanation is printed: in words, or as JSON where an option without a value is there
+abbrev pub option_format : Text → List Row → Format
+option_format id rows = if option_flag id rows then format.Json else format.Words
+
 -- the texts of an argument, in order
 abbrev pub option_texts : Text → List Row → List Text
 option_texts id rows = unwrap_or (all_of id rows) []
@@ -112,7 +122,8 @@ request_named (Some (name, rows)) =
     else if bytes_eq name (codes "map") then request.Map (option_number (codes "group") MOST_GROUPS rows)
     else if bytes_eq name (codes "report") then request.Report (option_number (codes "workers") MOST_WORKERS rows)
     else if bytes_eq name (codes "verify") then request.Verify (option_number (codes "workers") MOST_WORKERS rows)
-    else if bytes_eq name (codes "explain") then request.Explain (option_flag (codes "bids") rows) (option_target (codes "for") rows)
+    else if bytes_eq name (codes "explain") then
+    request.Explain (option_flag (codes "bids") rows) (option_target (codes "for") rows) (option_format (codes "json") rows)
     else if bytes_eq name (codes "forms") then request.Forms
     else request.Text
 

@@ -10,6 +10,7 @@ use Rattle.auction_input.specs.Requests.{target_of}
 use Rattle.auction_input.specs.declared.request.Request.TheVariants.{Explain, Verify}
 use Rattle.auction_input.specs.declared.request.Request.{Request}
 use Rattle.auction_input.specs.declared.request.Target.{Target}
+use Rattle.byte_sinks.specs.declared.json.Format.{Format}
 
 -- an input is refused for its parts: for the name of one, for a number of them, or since the first group isn't empty
 abbrev pub IsOfParts : Refusal → Type 0
@@ -38,6 +39,7 @@ RefusesSo asked input r = answer asked input ≡ Err r
 
 -- what `explain` prints for a command is what the command does
 pub record ExplainsFor (command : Target) (input : Input) : Type 0 where
-  pub refused : (bids : Bool) (r : Refusal) → parsed_taken (Explain bids (Some command)) input ≡ Err r → (asked : Request)
+  pub refused : (bids : Bool) (format : Format) (r : Refusal) → parsed_taken (Explain bids (Some command) format) input ≡ Err r → (asked : Request)
       → target_of asked ≡ Some command → RefusesSo asked input r
-  pub taken : (bids : Bool) (auction : Auction) → parsed_taken (Explain bids (Some command)) input ≡ Ok auction → IsTakenBy (Some command) input
+  pub taken : (bids : Bool) (format : Format) (auction : Auction) → parsed_taken (Explain bids (Some command) format) input ≡ Ok auction
+      → IsTakenBy (Some command) input

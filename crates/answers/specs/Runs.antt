@@ -2,6 +2,7 @@
 use Rattle.std.specs.Prelude.{◌≡◌, ◌≢◌, ◌⊎◌, ◌<◌, ℕ, ⊤, Bool, List, Option, None, Some, Result, IsErr, IsOk, IsSome, Ok, Err, codes, length, true}
 use Rattle.auction_input.specs.Input.{Input}
 use Rattle.byte_sinks.specs.Sinks.{GoesWhole, Outlet}
+use Rattle.byte_sinks.specs.declared.json.Format.{Format}
 use Rattle.auction_input.specs.Wanted.{parsed_taken}
 use Rattle.auction_input.specs.Line.{Puts, line}
 use Rattle.auction_input.specs.FileTexts.{IsFound, IsInputRead, IsUnread, Shelf, sent_to}
@@ -31,7 +32,7 @@ Reads shelf asked left left' input = IsInputRead shelf.content asked.files left 
 
 -- where `explain` finds no fault, the command that it names doesn't refuse the input for its parts
 abbrev pub IsTakenFor : Request → Input → Type 0
-IsTakenFor (Explain bids whose) input = IsTakenBy whose input
+IsTakenFor (Explain bids whose format) input = IsTakenBy whose input
 IsTakenFor asked input = ⊤
 
 -- the sink of the output as an answer begins: sent to the file that is named, where one is
@@ -59,7 +60,7 @@ IsAnswered shelf asked before after =
 
 -- an answer, or the first refusal in its place, is what the request asks of the input; `explain` only of one without a fault, and where bids are asked for
 abbrev pub AsksAnswer : Request → Input → Type 0
-AsksAnswer (Explain bids command) input = (bids ≡ true) × IsOk (parsed_taken (Explain bids command) input)
+AsksAnswer (Explain bids command format) input = (bids ≡ true) × IsOk (parsed_taken (Explain bids command format) input)
 AsksAnswer asked input = ⊤
 
 -- why a command line isn't answered, by the line that says it
@@ -78,8 +79,8 @@ pub data IsRefused (shelf : Shelf) (asked : CommandLine) (before after : Outside
       → IsUnwritten asked.request input (begun asked.output before.output) after.output r
       → IsRefused shelf asked before after (placed_line input.texts r)
   -- or not all lines of its faults are
-  by_lines : {r : Refusal} → (bids : Bool) → (whose : Option Target) → asked.request ≡ Explain bids whose → HasLooked shelf asked → (input : Input)
-      → Reads shelf asked before.left after.left input
+  by_lines : {r : Refusal} → (bids : Bool) → (whose : Option Target) → (format : Format) → asked.request ≡ Explain bids whose format
+      → HasLooked shelf asked → (input : Input) → Reads shelf asked before.left after.left input
       → IsCutShort (explanation asked.request input) (begun asked.output before.output) after.output r
       → IsRefused shelf asked before after (placed_line input.texts r)
 
@@ -110,9 +111,10 @@ pub record HasExplained (shelf : Shelf) (asked : Asked) (before after : Outside)
   pub command : CommandLine
   pub bids : Bool
   pub whose : Option Target
+  pub format : Format
   pub input : Input
   pub asks : asked ≡ for_answer command
-  pub explains : command.request ≡ Explain bids whose
+  pub explains : command.request ≡ Explain bids whose format
   pub looked : HasLooked shelf command
   pub read : Reads shelf command before.left after.left input
   pub faulty : IsErr (parsed_taken command.request input)

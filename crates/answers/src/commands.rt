@@ -2,6 +2,7 @@
 
 ghost use Rattle.std.specs.Prelude.{◌≢◌, Bool, IfErr, OnOk, Option};
 ghost use Rattle.auction_input.specs.declared.request.Target.{Target};
+ghost use Rattle.byte_sinks.specs.declared.json.Format.{Format};
 ghost use Rattle.answers.specs.Answer.{answer, output_of};
 ghost use Rattle.answers.specs.Exact.{IsUnwritten, Writes};
 ghost use Rattle.answers.specs.Runs.{AsksAnswer};
@@ -43,7 +44,7 @@ pub fn answer<R: Threads + Wait + Sync + AllocGlobal, S: Sink>(
     out: &mut S,
 ) -> Result<(), Refusal>
     requires limits { IsRequestWithinLimits request }
-    requires answered { (bids : Bool) (command : Option Target) → request ≢ Request.Explain bids command }
+    requires answered { (bids : Bool) (command : Option Target) (format : Format) → request ≢ Request.Explain bids command format }
     ensures written { OnOk result (Writes (answer request input.now) (S.state out.old)
         (S.state out.new)) }
     ensures sold { OnOk result (HasSold request input.now) }
@@ -101,7 +102,11 @@ fn write_output<R: Threads + Wait + Sync + AllocGlobal, S: Sink>(
         Request::Map { group } => write_winners(rt, auction, group, out),
         Request::Report { workers } => write_costs(rt, auction, workers, out),
         Request::Verify { workers } => write_verified(rt, auction, workers, out),
-        Request::Explain { bids, target } => write_bids_of(rt, auction, bids, target, out),
+        Request::Explain {
+            bids,
+            target,
+            format,
+        } => write_bids_of(rt, auction, bids, target, format, out),
         Request::Check | Request::Forms => unreachable!(),
     }
 }

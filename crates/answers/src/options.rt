@@ -68,6 +68,16 @@ pub(crate) fn explained_for<'a>(alloc: Global) -> Arg<'a>
         .help("Take the input as this command does: text, compile, map, report or verify")
 }
 
+pub(crate) fn json<'a>(alloc: Global) -> Arg<'a>
+    ensures rule { rule_of result ≡ asked.json }
+    ensures local { result.global ≡ false }
+{
+    Arg::new(alloc, "json")
+        .long("json")
+        .help("Print JSON, one object a line")
+        .action(ArgAction::SetTrue)
+}
+
 pub(crate) fn last_wins<'a>(alloc: Global) -> Arg<'a>
     ensures rule { rule_of result ≡ asked.last_wins }
     ensures local { result.global ≡ false }

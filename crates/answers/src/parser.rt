@@ -5,7 +5,7 @@ ghost use Rattle.clap.specs.Simple.{on_top};
 ghost use Rattle.clap.specs.Words.{app_of, new_app, rule_of, with_rule};
 ghost use Rattle.answers.specs.Asked as asked;
 
-use crate::options::{bids, explained_for, file, files, group, last_wins, output, workers};
+use crate::options::{bids, explained_for, file, files, group, json, last_wins, output, workers};
 use clap::{Arg, Command};
 use std::alloc::{AllocError, Global};
 
@@ -65,7 +65,7 @@ const VERIFY: Page = Page {
 const EXPLAIN: Page = Page {
     name: "explain",
     about: "Prints all faults of an input",
-    below: "Input: %rules, a %form for each form, optionally %groups; other parts are ignored, or counted with --for COMMAND\nOutput: a line for each fault; the status is 1 if there is a fault\nExample: wdp explain examples/worked.txt",
+    below: "Input: %rules, a %form for each form, optionally %groups; other parts are ignored, or counted with --for COMMAND\nOutput: a line for each fault, with --json an object; the status is 1 if there is a fault\nExample: wdp explain examples/worked.txt",
 };
 
 const FORMS: Page = Page {
@@ -146,12 +146,13 @@ fn add_with<'a>(
 // Adds `explain`.
 fn add_explain<'a>(list: &mut Vec<Command<'a>>, alloc: Global) -> Result<(), AllocError>
     ensures { OnOk result (map app_of list.new.items
-        ≡ map app_of list.old.items ++ asked.for_forms (with_rule (with_rule
-        (new_app (codes "explain")) asked.bids) asked.explained_for) ∷ []) }
+        ≡ map app_of list.old.items ++ asked.for_forms (with_rule (with_rule (with_rule
+        (new_app (codes "explain")) asked.bids) asked.explained_for) asked.json) ∷ []) }
 {
     let command = described(alloc, EXPLAIN)
         .arg(bids(alloc))?
-        .arg(explained_for(alloc))?;
+        .arg(explained_for(alloc))?
+        .arg(json(alloc))?;
     add(list, for_forms(alloc, command)?)
 }
 

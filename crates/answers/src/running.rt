@@ -26,7 +26,7 @@ use auction_input::{
     FilePlace, FileRefusal, Files, Input, Output, Refusal, Request, Source, Target, Unread,
     read_inputs,
 };
-use byte_sinks::Sink;
+use byte_sinks::{Format, Sink};
 use clap::Error;
 use clap::error::ErrorKind;
 use std::alloc::Global;
@@ -188,7 +188,11 @@ fn answer_input<R: Threads + Wait + Sync + AllocGlobal, S: Sink, F: Sink>(
         × (F.state faults.new ≡ F.state faults.old)) }
 {
     match request {
-        Request::Explain { bids, target } => explain_request(rt, bids, target, input, out, faults),
+        Request::Explain {
+            bids,
+            target,
+            format,
+        } => explain_request(rt, bids, target, format, input, out, faults),
         request => match answer(rt, request, input, out) {
             Ok(()) => 0,
             Err(refusal) => {
@@ -205,21 +209,22 @@ fn explain_request<R: Threads + Wait + Sync + AllocGlobal, S: Sink, F: Sink>(
     rt: &R,
     bids: bool,
     target: Option<Target>,
+    format: Format,
     input: &Input,
     out: &mut S,
     faults: &mut F,
 ) -> u8
     ensures status { result ≤ 1 }
-    ensures written { result ≡ 0 → Writes (answer (Request.Explain bids target) input.now)
+    ensures written { result ≡ 0 → Writes (answer (Request.Explain bids target format) input.now)
         (S.state out.old) (S.state out.new) }
     ensures quiet { result ≡ 0 → F.state faults.new ≡ F.state faults.old }
-    ensures refused { result ≡ 1 → IsReportedSo (IsLeftUnanswered (Request.Explain bids target) input.now
+    ensures refused { result ≡ 1 → IsReportedSo (IsLeftUnanswered (Request.Explain bids target format) input.now
         (S.state out.old) (S.state out.new)) (F.state faults.old) (F.state faults.new)
-        ⊎ (HasExplainedInput (Request.Explain bids target) input.now
+        ⊎ (HasExplainedInput (Request.Explain bids target format) input.now
         (S.state out.old) (S.state out.new)
         × (F.state faults.new ≡ F.state faults.old)) }
 {
-    match explain_input(rt, bids, target, input, out) {
+    match explain_input(rt, bids, target, format, input, out) {
         Ok(false) => 0,
         Ok(true) => 1,
         Err(refusal) => {

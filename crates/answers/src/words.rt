@@ -9,12 +9,13 @@ ghost use Rattle.clap.specs.Words.{FailsBy, HasKind, Row, fault_of, first_of, fo
 ghost use Rattle.clap.specs.declared.error.kind.ErrorKind.TheVariants as kind;
 ghost use Rattle.answers.specs.Asked as asked;
 ghost use Rattle.answers.specs.Asked.{by_fault, command_line_of, faults_of, for_answer, command_fault, named, option_flag};
-ghost use Rattle.answers.specs.Asked.{option_number, option_target, option_texts, request_named, target_fault, text_of, wdp};
+ghost use Rattle.answers.specs.Asked.{option_format, option_number, option_target, option_texts, request_named, target_fault, text_of, wdp};
 ghost use Rattle.auction_input.specs.Requests.{IsRequestWithinLimits};
 
 use crate::parser::parser;
 use auction_input::{Request, Target};
 use auction_terms::{MOST_GROUPS, MOST_WORKERS};
+use byte_sinks::Format;
 use clap::error::ErrorKind;
 use clap::{ArgMatches, Command as Words, Error};
 use std::alloc::{AllocError, Global};
@@ -64,6 +65,17 @@ fn has_flag(matches: &ArgMatches<'_>, id: &str) -> bool
     match matches.get_str(id) {
         Some(text) => text == "true",
         None => false,
+    }
+}
+
+// How an explanation is to be printed.
+fn format_of(matches: &ArgMatches<'_>) -> Format
+    ensures { result ≡ option_format (codes "json") (rows_of (found_of matches.now)) }
+{
+    if has_flag(matches, "json") {
+        Format::Json
+    } else {
+        Format::Words
     }
 }
 
@@ -117,6 +129,7 @@ fn request_by(
     group: usize,
     bids: bool,
     target: Option<Target>,
+    format: Format,
 ) -> Request
     requires workers { (1 ≤ workers) × (workers ≤ MOST_WORKERS) }
     requires group { (1 ≤ group) × (group ≤ MOST_GROUPS) }
@@ -125,6 +138,7 @@ fn request_by(
         → group ≡ option_number (codes "group") MOST_GROUPS rows
         → bids ≡ option_flag (codes "bids") rows
         → target ≡ option_target (codes "for") rows
+        → format ≡ option_format (codes "json") rows
         → result ≡ request_named (Some (name.now, rows)) }
     ensures limits { IsRequestWithinLimits result }
 {
@@ -134,7 +148,11 @@ fn request_by(
         "map" => Request::Map { group },
         "report" => Request::Report { workers },
         "verify" => Request::Verify { workers },
-        "explain" => Request::Explain { bids, target },
+        "explain" => Request::Explain {
+            bids,
+            target,
+            format,
+        },
         "forms" => Request::Forms,
         _ => Request::Text,
     }
@@ -148,7 +166,8 @@ fn request_of(name: &str, matches: &ArgMatches<'_>) -> Request
     let workers = number_of(matches, "workers", MOST_WORKERS);
     let group = number_of(matches, "group", MOST_GROUPS as usize);
     let bids = has_flag(matches, "bids");
-    request_by(name, workers, group, bids, target_of(matches))
+    let target = target_of(matches);
+    request_by(name, workers, group, bids, target, format_of(matches))
 }
 
 // What the words of a command say.

@@ -18,6 +18,7 @@ use Rattle.auction_input.specs.declared.request.Target.{Target}
 use Rattle.auction_input.specs.declared.request.Request.TheVariants.{Explain}
 use Rattle.answers.specs.Exact.{Ends, IsUnwritten}
 use Rattle.byte_sinks.specs.Sinks.{GoesWhole, Outlet}
+use Rattle.byte_sinks.specs.declared.json.Format.{Format}
 use Rattle.answers.specs.Runs.{AsksAnswer, Finds, HasLooked, IsShown, NamesFiles}
 
 -- why the files of a command line aren't there to be read or to be written
@@ -48,10 +49,10 @@ abbrev pub IsLeftUnanswered : Request → Input → Outlet → Outlet → List �
 IsLeftUnanswered asked input before after parsed =
     (r : Refusal) × (parsed ≡ placed_line input.texts r)
     × ((AsksAnswer asked input × IsUnwritten asked input before after r) ⊎
-    ((bids : Bool) × (whose : Option Target) × (asked ≡ Explain bids whose) × IsCutShort (explanation asked input) before after r))
+    ((bids : Bool) × (whose : Option Target) × (format : Format) × (asked ≡ Explain bids whose format) × IsCutShort (explanation asked input) before after r))
 
 -- `explain` is asked for, an input with faults is explained, and no put fails
 abbrev pub HasExplainedInput : Request → Input → Outlet → Outlet → Type 0
 HasExplainedInput asked input before after =
-    (bids : Bool) × (whose : Option Target) × (asked ≡ Explain bids whose) × IsErr (parsed_taken asked input)
+    (bids : Bool) × (whose : Option Target) × (format : Format) × (asked ≡ Explain bids whose format) × IsErr (parsed_taken asked input)
     × GoesWhole before after (explanation asked input)

@@ -12,7 +12,7 @@ ghost use Rattle.input_faults.specs.FaultLines.{explanation};
 
 use crate::commands::answer_auction;
 use auction_input::{Auction, Input, Refusal, Request, Target, check_wanted};
-use byte_sinks::Sink;
+use byte_sinks::{Format, Sink};
 use input_faults::explain;
 use presolve::{Reasons, write_left_out};
 use std::sync::Wait;
@@ -24,20 +24,25 @@ pub fn explain_input<R: Threads + Wait + Sync + AllocGlobal, S: Sink>(
     rt: &R,
     bids: bool,
     target: Option<Target>,
+    format: Format,
     input: &Input,
     out: &mut S,
 ) -> Result<bool, Refusal>
     ensures explained { IfOk result (λ faulty. MatchBool faulty
-        (IsErr (parsed_taken (Request.Explain bids target) input.now) × GoesWhole (S.state out.old) (S.state out.new) (explanation (Request.Explain bids target) input.now))
-        (Writes (answer (Request.Explain bids target) input.now) (S.state out.old) (S.state out.new))) }
+        (IsErr (parsed_taken (Request.Explain bids target format) input.now) × GoesWhole (S.state out.old) (S.state out.new) (explanation (Request.Explain bids target format) input.now))
+        (Writes (answer (Request.Explain bids target format) input.now) (S.state out.old) (S.state out.new))) }
     ensures refused { IfErr result (λ r. IsCutShort
-        (explanation (Request.Explain bids target) input.now)
+        (explanation (Request.Explain bids target format) input.now)
         (S.state out.old) (S.state out.new) r
-        ⊎ (AsksAnswer (Request.Explain bids target) input.now
-        × IsUnwritten (Request.Explain bids target) input.now
+        ⊎ (AsksAnswer (Request.Explain bids target format) input.now
+        × IsUnwritten (Request.Explain bids target format) input.now
         (S.state out.old) (S.state out.new) r)) }
 {
-    let request = Request::Explain { bids, target };
+    let request = Request::Explain {
+        bids,
+        target,
+        format,
+    };
     let faulty = explain(rt.alloc(), &request, input, out)?;
     if faulty {
         return Ok(true);
@@ -54,11 +59,12 @@ pub fn explain_input<R: Threads + Wait + Sync + AllocGlobal, S: Sink>(
 fn write_left_out_of<R: Threads + Sync + AllocGlobal, S: Sink>(
     rt: &R,
     auction: &Auction<'_>,
+    format: Format,
     out: &mut S,
 ) -> Result<(), Refusal>
-    ensures written { OnOk result (Writes (output_of (Request.Explain true None) (held auction.now))
+    ensures written { OnOk result (Writes (output_of (Request.Explain true None format) (held auction.now))
         (S.state out.old) (S.state out.new)) }
-    ensures refused { IfErr result (Ends (output_of (Request.Explain true None) (held auction.now))
+    ensures refused { IfErr result (Ends (output_of (Request.Explain true None format) (held auction.now))
         (S.state out.old) (S.state out.new)) }
 {
     let reasons = Reasons::new(rt, rt.alloc(), &auction.book)?;
@@ -66,6 +72,7 @@ fn write_left_out_of<R: Threads + Sync + AllocGlobal, S: Sink>(
         auction.book.rules(),
         auction.form_bidders.as_slice(),
         &reasons,
+        format,
         out,
     )?;
     Ok(())
@@ -78,16 +85,17 @@ pub fn write_bids_of<R: Threads + Sync + AllocGlobal, S: Sink>(
     auction: &Auction<'_>,
     bids: bool,
     target: Option<Target>,
+    format: Format,
     out: &mut S,
 ) -> Result<(), Refusal>
-    ensures written { OnOk result (Writes (output_of (Request.Explain bids target) (held auction.now))
+    ensures written { OnOk result (Writes (output_of (Request.Explain bids target format) (held auction.now))
         (S.state out.old) (S.state out.new)) }
-    ensures refused { IfErr result (Ends (output_of (Request.Explain bids target) (held auction.now))
+    ensures refused { IfErr result (Ends (output_of (Request.Explain bids target format) (held auction.now))
         (S.state out.old) (S.state out.new)) }
 {
     check_wanted(target, auction)?;
     if bids {
-        return write_left_out_of(rt, auction, out);
+        return write_left_out_of(rt, auction, format, out);
     }
     Ok(())
 }
