@@ -80,7 +80,8 @@ const OUT_OF_MEMORY: &str = "out of memory";
 pub const BEFORE_FIRST: &str = "bytes before the first part";
 
 /// What is reported of a part that only inputs of version 1 have, after its number.
-pub const OF_VERSION_1: &str = "%weights is of version 1, and wdp-office prices makes %rule in its place";
+pub const OF_VERSION_1: &str =
+    "%weights is of version 1, and wdp-office prices makes %rule in its place";
 
 // What is reported of an input that isn't taken.
 fn in_input(fault: InputFault) -> Message<'static>

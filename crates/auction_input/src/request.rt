@@ -39,7 +39,9 @@ pub enum Request {
     /// The sizes of an MPS text.
     Check,
     /// The programs of all groups, by so many workers.
-    Compile { workers: usize },
+    Compile {
+        workers: usize,
+    },
     /// All faults of an input, as a command takes it if one is named; where there is none, and this is asked for, which bids are in
     /// no program. Both are printed as lines in words, or of JSON.
     Explain {
@@ -48,11 +50,17 @@ pub enum Request {
         format: Format,
     },
     /// What a solution wins without a group, which counts from 1.
-    Map { group: usize },
+    Map {
+        group: usize,
+    },
     /// What the solutions of all groups win, and the groups' opportunity costs, by so many workers.
-    Report { workers: usize },
+    Report {
+        workers: usize,
+    },
     /// The same, where certificates show that nobody wins more, by so many workers.
-    Verify { workers: usize },
+    Verify {
+        workers: usize,
+    },
     /// The digests of the texts of the rules and of each bidder's last form.
     Forms,
 }

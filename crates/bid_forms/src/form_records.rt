@@ -25,8 +25,8 @@ use crate::seen::{Seen, earlier};
 use crate::sums::{is_empty_package, points_of, reserve_of};
 use arrayvec::ArrayVec;
 use auction_terms::{
-    All, Bid, Category, Cause, FaultAt, Front, GREATEST_AMOUNT, GREATEST_QUANTITY, MOST_BIDS, Package,
-    Quantities, Rules, Wording, count_cause, field, limits_cause, most_cause, number,
+    All, Bid, Category, Cause, FaultAt, Front, GREATEST_AMOUNT, GREATEST_QUANTITY, MOST_BIDS,
+    Package, Quantities, Rules, Wording, count_cause, field, limits_cause, most_cause, number,
 };
 use csv::ByteRecord;
 use std::alloc::AllocError;

@@ -16,8 +16,8 @@ use crate::form::{Form, eligibility_of};
 use crate::form_records::{Entry, header_fault, take_bid};
 use crate::seen::Seen;
 use auction_terms::{
-    All, Bid, Code, FaultAt, GREATEST_AMOUNT, MOST_FAULTS, RecordReader, Rules, TEXT_LIMIT, Wording,
-    field,
+    All, Bid, Code, FaultAt, GREATEST_AMOUNT, MOST_FAULTS, RecordReader, Rules, TEXT_LIMIT,
+    Wording, field,
 };
 use csv::ByteRecord;
 use std::alloc::{AllocError, Global};
