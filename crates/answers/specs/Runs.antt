@@ -72,7 +72,7 @@ pub data IsRefused (shelf : Shelf) (asked : CommandLine) (before after : Outside
   by_output : (fault : FileFault) → IsSome asked.output → HasLooked shelf asked → after.left ≡ before.left → after.output ≡ before.output
       → IsRefused shelf asked before after (refusal_line asked (record { file = place.Written; fault = fault }))
   -- not all is read, and nothing is written
-  by_input : (f : Unread) → HasLooked shelf asked → IsUnread asked.files f before.left after.left before.failed_reads after.failed_reads
+  by_input : (f : Unread) → HasLooked shelf asked → IsUnread shelf asked.files f before.left after.left before.failed_reads after.failed_reads
       → after.output ≡ begun asked.output before.output → IsRefused shelf asked before after (unread_line asked f)
   -- the answer that is asked of what was read isn't written
   by_text : {r : Refusal} → HasLooked shelf asked → (input : Input) → Reads shelf asked before.left after.left input → AsksAnswer asked.request input

@@ -130,7 +130,7 @@ fn read_input<D: Files, I: Read>(
     ensures read { IfOk result (Reads (D.shelf files.now) (command_line_of command.now)
         (I.remaining input.old.reader) (I.remaining input.new.reader)) }
     ensures unfailed { OnOk result (input.new.failures ≡ input.old.failures) }
-    ensures unread { IfErr result (λ f. IsUnread (command_line_of command.now).files f
+    ensures unread { IfErr result (λ f. IsUnread (D.shelf files.now) (command_line_of command.now).files f
         (I.remaining input.old.reader) (I.remaining input.new.reader) input.old.failures
         input.new.failures) }
 {

@@ -1,11 +1,15 @@
 -- What is read of files by their names.
-use Rattle.std.specs.Prelude.{◌≡◌, ◌≤◌, ◌-◌, ◌||◌, if◌then◌else◌, ⊤, ℕ, Bool, List, [], ◌∷◌, Option, None, Some, Result, String, codes, length, map, not, sum_by}
+use Rattle.std.specs.Prelude.{◌≡◌, ◌≤◌, ◌+◌, ◌-◌, ◌++◌, ◌==◌, ◌||◌, if◌then◌else◌, ⊤, ℕ, Bool, List, [], ◌∷◌, Option, None, Some, Result, Ok, Err, String, codes, false, length, map, nat_le, not, slice_index_or, sum_by, true}
 use Rattle.std.specs.Bool.{MatchBool}
 use Rattle.std.specs.Option.{option_map}
 use Rattle.std.specs.Io.KnownBytes.{Consumes, IsAtEnd}
 use Rattle.std.specs.Str.{bytes_eq}
+use Rattle.auction_terms.specs.FirstFault.{first_failed}
 use Rattle.auction_input.specs.Input.{Given, unnamed}
 use Rattle.auction_input.specs.ReadInput.{IsUntaken, IsWhole}
+use Rattle.auction_input.specs.declared.files.FileFault.{FileFault}
+use Rattle.auction_input.specs.declared.files.FileFault.TheVariants as fault
+use Rattle.auction_input.specs.declared.files.FilePlace.TheVariants as place_of_file
 use Rattle.auction_input.specs.declared.files.FileRefusal.{FileRefusal}
 use Rattle.auction_input.specs.declared.input.Unread.{Unread}
 use Rattle.auction_input.specs.declared.input.Unread.TheVariants as unread
@@ -17,6 +21,8 @@ use Rattle.byte_sinks.specs.Sinks.{HasFailed, Outlet}
 pub record Shelf : Type 0 where
   -- the bytes of the file of a name
   pub content : List ℕ → Option (List ℕ)
+  -- what opening the file of a name finds: nothing against it, or why it isn't opened
+  pub opened : List ℕ → Option (Result (Unit {0}) FileFault)
   -- what a look at the files that are read, and at the one that is written, finds: nothing against them, or the first refusal
   pub looked : List (List ℕ) → Option (List ℕ) → Option (Result (Unit {0}) FileRefusal)
 
@@ -60,23 +66,85 @@ AreRead content (name ∷ names) left left' texts =
     (bytes : List ℕ) × (more : List Given) × (mid : Option (List ℕ)) × (texts ≡ record { name = name; bytes = bytes } ∷ more)
     × IsTextOf content name left mid bytes × AreRead content names mid left' more
 
--- the texts that a command reads: without names standard input, as one text by itself; else the texts of the names, which have no more
--- bytes together than an input may have
+-- what is wrong with the text at a place among so many: with others it may not be empty, and where one follows its last line has an end
+abbrev pub fault_among : List ℕ → ℕ → ℕ → Option FileFault
+fault_among text place count =
+    if count == 1 then None
+    else first_failed ((not (length text == 0), fault.Empty) ∷ (
+      nat_le count (place + 1) || slice_index_or text (length text -
+          1) 0 == 10,
+      fault.NoLineEnd,
+    ) ∷ [])
+
+-- nothing is wrong with texts that are at their places among so many, the first of them at this one
+abbrev pub AreSound : ℕ → ℕ → List Given → Type 0
+AreSound place count [] = ⊤
+AreSound place count (text ∷ texts) = (fault_among text.bytes place count ≡ None) × AreSound (place + 1) count texts
+
+-- how many bytes texts have together
+abbrev pub bytes_in : List Given → ℕ
+bytes_in texts = sum_by (λ given. length given.bytes) texts
+
+-- the texts that a command reads: without names standard input, as one text by itself; else the texts of the names, with each of which
+-- nothing is wrong, and which have no more bytes together than an input may have
 abbrev pub IsInputRead : (List ℕ → Option (List ℕ)) → List (List ℕ) → Option (List ℕ) → Option (List ℕ) → List Given → Type 0
 IsInputRead content [] left left' texts = (bytes : List ℕ) × IsWhole INPUT_LIMIT left left' bytes × (texts ≡ unnamed bytes ∷ [])
-IsInputRead content names left left' texts = AreRead content names left left' texts × (sum_by (λ given. length given.bytes) texts ≤ INPUT_LIMIT)
+IsInputRead content names left left' texts =
+    AreRead content names left left' texts × AreSound 0 (length names) texts × (bytes_in texts ≤ INPUT_LIMIT)
 
--- what is read of standard input where not all texts are
-abbrev pub IsReadInPart : Option (List ℕ) → Option (List ℕ) → Type 0
-IsReadInPart left left' = (front : List ℕ) × Consumes left left' front
+-- a file begins with these bytes, if its bytes are known
+abbrev pub BeginsWith : Option (List ℕ) → List ℕ → Type 0
+BeginsWith None bytes = ⊤
+BeginsWith (Some whole) bytes = (rest : List ℕ) × (whole ≡ bytes ++ rest)
 
--- why texts of names aren't read: a read of standard input failed, or none did
-abbrev pub IsUnreadOf : Unread → Option (List ℕ) → Option (List ℕ) → ℕ → ℕ → Type 0
-IsUnreadOf (unread.Input input.ReadFailed) left left' reads reads' = HasFailed reads reads' × IsReadInPart left left'
-IsUnreadOf f left left' reads reads' = (reads' ≡ reads) × IsReadInPart left left'
+-- what is read by a name, to its end or not: the first bytes of standard input, or of a file, of which standard input knows nothing
+abbrev pub IsFrontOf : (List ℕ → Option (List ℕ)) → List ℕ → Option (List ℕ) → Option (List ℕ) → List ℕ → Type 0
+IsFrontOf content name left left' bytes =
+    MatchBool (is_standard_input name) (Consumes left left' bytes) ((left' ≡ left) × BeginsWith (content name) bytes)
+
+-- a file at a place isn't read for this reason
+abbrev pub refused_at : ℕ → FileFault → Unread
+refused_at place f = unread.File (record { file = place_of_file.Read place; fault = f })
+
+-- why the text of a name isn't read, which is at a place among so many, and where there is room for so many bytes
+pub data IsTextUnread (shelf : Shelf) (name : List ℕ) (place count room : ℕ) (left left' : Option (List ℕ)) (reads reads' : ℕ) : Unread → Type 0 where
+  -- its file can't be opened
+  unopened : (f : FileFault) → is_standard_input name ≡ false → IsFound (shelf.opened name) (Err f) → left' ≡ left → reads' ≡ reads
+      → IsTextUnread shelf name place count room left left' reads reads' (refused_at place f)
+  -- a read of its file fails
+  file_failed : (bytes : List ℕ) → is_standard_input name ≡ false → IsFrontOf shelf.content name left left' bytes → length bytes ≤ room + 1
+      → HasFailed reads reads' → IsTextUnread shelf name place count room left left' reads reads' (refused_at place fault.ReadFailed)
+  -- a read of standard input fails
+  input_failed : (bytes : List ℕ) → is_standard_input name ≡ true → IsFrontOf shelf.content name left left' bytes → length bytes ≤ room + 1
+      → HasFailed reads reads' → IsTextUnread shelf name place count room left left' reads reads' (unread.Input input.ReadFailed)
+  -- it has more bytes than there is room for, of which one is read
+  too_large : (bytes : List ℕ) → IsFrontOf shelf.content name left left' bytes → length bytes ≡ room + 1 → reads' ≡ reads
+      → IsTextUnread shelf name place count room left left' reads reads' (unread.Input input.TooLarge)
+  -- memory is short
+  memory_short : (bytes : List ℕ) → IsFrontOf shelf.content name left left' bytes → length bytes ≤ room + 1 → reads' ≡ reads
+      → IsTextUnread shelf name place count room left left' reads reads' (unread.Input input.OutOfMemory)
+  -- it is read to its end, and something is wrong with it at its place
+  faulty : (f : FileFault) → (bytes : List ℕ) → IsTextOf shelf.content name left left' bytes → length bytes ≤ room
+      → fault_among bytes place count ≡ Some f → reads' ≡ reads → IsTextUnread shelf name place count room left left' reads reads' (refused_at place f)
+
+-- why not all texts of names are read: the texts of the first names are, nothing is wrong with them, and that of the next name isn't
+pub record IsUnreadOf (shelf : Shelf) (names : List (List ℕ)) (f : Unread) (left left' : Option (List ℕ)) (reads reads' : ℕ) : Type 0 where
+  pub first : List (List ℕ)
+  pub next : List ℕ
+  pub others : List (List ℕ)
+  pub names_are : names ≡ first ++ next ∷ others
+  pub texts : List Given
+  -- what standard input has left when the next text begins
+  pub between : Option (List ℕ)
+  pub read : AreRead shelf.content first left between texts
+  pub sound : AreSound 0 (length names) texts
+  -- how many bytes the next text may have
+  pub room : ℕ
+  pub fit : bytes_in texts + room ≡ INPUT_LIMIT
+  pub unread : IsTextUnread shelf next (length first) (length names) room between left' reads reads' f
 
 -- why the input isn't read
-abbrev pub IsUnread : List (List ℕ) → Unread → Option (List ℕ) → Option (List ℕ) → ℕ → ℕ → Type 0
-IsUnread [] (unread.Input f) left left' reads reads' = IsUntaken INPUT_LIMIT f left left' reads reads'
-IsUnread [] (unread.File f) left left' reads reads' = ⊥
-IsUnread names f left left' reads reads' = IsUnreadOf f left left' reads reads'
+abbrev pub IsUnread : Shelf → List (List ℕ) → Unread → Option (List ℕ) → Option (List ℕ) → ℕ → ℕ → Type 0
+IsUnread shelf [] (unread.Input f) left left' reads reads' = IsUntaken INPUT_LIMIT f left left' reads reads'
+IsUnread shelf [] (unread.File f) left left' reads reads' = ⊥
+IsUnread shelf names f left left' reads reads' = IsUnreadOf shelf names f left left' reads reads'

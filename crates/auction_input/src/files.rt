@@ -1,6 +1,6 @@
 //! Files, as a run sees them.
 
-ghost use Rattle.std.specs.Prelude.{◌≡◌, IfOk, OnErr, OnOk, flat_map};
+ghost use Rattle.std.specs.Prelude.{◌≡◌, IfErr, IfOk, OnErr, OnOk, flat_map};
 ghost use Rattle.std.specs.Option.{option_map};
 ghost use Rattle.auction_input.specs.FileTexts.{IsFound, Shelf, is_standard_output, named_files, sent_to};
 ghost use Rattle.auction_input.specs.FileWords.{fault_words, kind_words};
@@ -134,7 +134,7 @@ pub fn is_standard_output(name: &str) -> bool
 
 /// Files by their names.
 pub trait Files {
-    /// What contracts see of them: their bytes, and what a look at them finds, where that is known.
+    /// What contracts see of them: their bytes, and what opening them and a look at them finds, where that is known.
     ghost shelf: { Self → Shelf };
 
     type File: Read + Drop;
@@ -146,7 +146,9 @@ pub trait Files {
 
     /// Opens a file that isn't standard input.
     fn open(&self, name: &str) -> Result<Self::File, FileFault>
-        ensures { IfOk result (λ file. Self.File.remaining file ≡ (shelf self.now).content name.now) };
+        ensures content { IfOk result (λ file. Self.File.remaining file ≡ (shelf self.now).content name.now) }
+        ensures opened { OnOk result (IsFound ((shelf self.now).opened name.now) (Ok tt)) }
+        ensures unopened { IfErr result (λ f. IsFound ((shelf self.now).opened name.now) (Err f)) };
 }
 
 /// A sink that may be sent to a file.

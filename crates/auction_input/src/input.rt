@@ -1,11 +1,10 @@
 //! Reading the input.
 
-ghost use Rattle.std.specs.Prelude.{◌≡◌, ◌≢◌, ◌≤◌, ◌<◌, ◌++◌, ◌∷◌, [], ℕ, IfErr, IfOk, List, None, OnOk, length, sum_by};
-ghost use Rattle.auction_input.specs.FileTexts.{AreRead, IsContent, IsInputRead, IsTextOf, IsUnread, IsUnreadOf, is_standard_input, named_files};
+ghost use Rattle.std.specs.Prelude.{◌≡◌, ◌≢◌, ◌≤◌, ◌<◌, ◌++◌, ◌∷◌, [], ℕ, IfErr, IfOk, List, None, OnOk, Option, false, length};
+ghost use Rattle.auction_input.specs.FileTexts.{AreRead, AreSound, IsContent, IsInputRead, IsTextOf, IsTextUnread, IsUnread, IsUnreadOf, bytes_in, fault_among, is_standard_input, named_files, refused_at};
 ghost use Rattle.auction_input.specs.Input.{input_of};
-ghost use Rattle.auction_input.specs.inside.FileTexts.{fault_among};
+ghost use Rattle.auction_input.specs.inside.FileTexts.{file_unread};
 ghost use Rattle.auction_input.specs.ReadInput.{IsUntaken, IsWhole};
-ghost use Rattle.auction_input.specs.declared.files.FilePlace.TheVariants as place_of_file;
 
 use crate::files::{FileFault, FilePlace, FileRefusal, Files};
 use crate::given::{Given, Input};
@@ -78,7 +77,7 @@ fn read_bytes<I: Read>(
 
 // A file at that place isn't read.
 fn refused(place: usize, fault: FileFault) -> Unread
-    ensures { result ≡ Unread.File (record { file = place_of_file.Read place; fault = fault }) }
+    ensures { result ≡ refused_at place fault }
 {
     Unread::File(FileRefusal {
         file: FilePlace::Read(place),
@@ -86,27 +85,46 @@ fn refused(place: usize, fault: FileFault) -> Unread
     })
 }
 
-// Reads the file of a name, which is at that place, with at most so many bytes.
+// Why a file at that place isn't read, whose bytes aren't taken.
+fn file_unread(place: usize, fault: InputFault) -> Unread
+    ensures { result ≡ file_unread place fault }
+{
+    match fault {
+        InputFault::ReadFailed => refused(place, FileFault::ReadFailed),
+        InputFault::TooLarge | InputFault::OutOfMemory => Unread::Input(fault),
+    }
+}
+
+// Reads the file of a name, which is at that place, with at most so many bytes, and counts a read that fails.
 fn read_file<D: Files>(
     alloc: Global,
     files: &D,
     name: &str,
     place: usize,
+    failures: &mut u64,
     limit: usize,
 ) -> Result<Vec<u8>, Unread>
-    requires { limit ≤ INPUT_LIMIT }
+    requires limit { limit ≤ INPUT_LIMIT }
+    requires file { is_standard_input name.now ≡ false }
     ensures within { IfOk result (λ text. length text.items ≤ limit) }
     ensures content { IfOk result (λ text. IsContent ((D.shelf files.now).content name.now) text.items) }
-    ensures unread { IfErr result (λ f. f ≢ Unread.Input InputFault.ReadFailed) }
+    ensures unfailed { OnOk result (failures.new ≡ failures.old) }
+    ensures unread { IfErr result (λ f. (count : ℕ) (left : Option (List ℕ)) → IsTextUnread
+        (D.shelf files.now) name.now place count limit left left failures.old failures.new f) }
 {
     let file = match files.open(name) {
         Ok(file) => file,
         Err(fault) => return Err(refused(place, fault)),
     };
-    match read_bytes(alloc, &mut Source::new(file), limit) {
+    let mut source = Source {
+        reader: file,
+        failures: *failures,
+    };
+    let read = read_bytes(alloc, &mut source, limit);
+    *failures = source.failures;
+    match read {
         Ok(bytes) => Ok(bytes),
-        Err(InputFault::ReadFailed) => Err(refused(place, FileFault::ReadFailed)),
-        Err(fault) => Err(Unread::Input(fault)),
+        Err(fault) => Err(file_unread(place, fault)),
     }
 }
 
@@ -131,11 +149,12 @@ fn read_named<D: Files, I: Read>(
     ensures text { IfOk result (λ text. IsTextOf (D.shelf files.now).content name.now
         (I.remaining input.old.reader) (I.remaining input.new.reader) text.items) }
     ensures unfailed { OnOk result (input.new.failures ≡ input.old.failures) }
-    ensures unread { IfErr result (λ f. IsUnreadOf f (I.remaining input.old.reader)
-        (I.remaining input.new.reader) input.old.failures input.new.failures) }
+    ensures unread { IfErr result (λ f. (count : ℕ) → IsTextUnread (D.shelf files.now) name.now place
+        count limit (I.remaining input.old.reader) (I.remaining input.new.reader) input.old.failures
+        input.new.failures f) }
 {
     if !is_standard_input(name) {
-        return read_file(alloc, files, name, place, limit);
+        return read_file(alloc, files, name, place, &mut input.failures, limit);
     }
     match read_bytes(alloc, input, limit) {
         Ok(bytes) => Ok(bytes),
@@ -178,8 +197,9 @@ fn read_given<D: Files, I: Read>(
         (I.remaining input.old.reader) (I.remaining input.new.reader) given.bytes) }
     ensures sound { IfOk result (λ given. fault_among given.bytes place count ≡ None) }
     ensures unfailed { OnOk result (input.new.failures ≡ input.old.failures) }
-    ensures unread { IfErr result (λ f. IsUnreadOf f (I.remaining input.old.reader)
-        (I.remaining input.new.reader) input.old.failures input.new.failures) }
+    ensures unread { IfErr result (λ f. IsTextUnread (D.shelf files.now) name.now place count limit
+        (I.remaining input.old.reader) (I.remaining input.new.reader) input.old.failures
+        input.new.failures f) }
 {
     let bytes = match read_named(alloc, files, name, place, input, limit) {
         Ok(bytes) => bytes,
@@ -210,11 +230,12 @@ fn read_each<D: Files, I: Read>(
 ) -> Result<Vec<Given>, Unread>
     ensures read { IfOk result (λ texts. AreRead (D.shelf files.now).content (named_files names.now)
         (I.remaining input.old.reader) (I.remaining input.new.reader) texts.items) }
-    ensures within { IfOk result (λ texts. sum_by (λ given. length given.bytes) texts.items
-        ≤ INPUT_LIMIT) }
+    ensures sound { IfOk result (λ texts. AreSound 0 (length names.now) texts.items) }
+    ensures within { IfOk result (λ texts. bytes_in texts.items ≤ INPUT_LIMIT) }
     ensures unfailed { OnOk result (input.new.failures ≡ input.old.failures) }
-    ensures unread { IfErr result (λ f. IsUnreadOf f (I.remaining input.old.reader)
-        (I.remaining input.new.reader) input.old.failures input.new.failures) }
+    ensures unread { IfErr result (λ f. IsUnreadOf (D.shelf files.now) (named_files names.now) f
+        (I.remaining input.old.reader) (I.remaining input.new.reader) input.old.failures
+        input.new.failures) }
 {
     let mut texts = Vec::new(alloc);
     let mut room = INPUT_LIMIT;
@@ -256,7 +277,7 @@ pub fn read_inputs<D: Files, I: Read>(
     ensures read { IfOk result (λ read. IsInputRead (D.shelf files.now).content (named_files names.now)
         (I.remaining input.old.reader) (I.remaining input.new.reader) read.texts) }
     ensures unfailed { OnOk result (input.new.failures ≡ input.old.failures) }
-    ensures unread { IfErr result (λ f. IsUnread (named_files names.now) f
+    ensures unread { IfErr result (λ f. IsUnread (D.shelf files.now) (named_files names.now) f
         (I.remaining input.old.reader) (I.remaining input.new.reader) input.old.failures
         input.new.failures) }
 {

@@ -151,7 +151,7 @@ impl<'r> Disk<'r> {
 }
 
 impl Files for Disk<'_> {
-    ghost shelf = { λ _. record { content = λ _. None; looked = λ _ _. None } };
+    ghost shelf = { λ _. record { content = λ _. None; opened = λ _. None; looked = λ _ _. None } };
 
     type File = File;
 

@@ -1,15 +1,13 @@
--- Which texts of files may stand among others.
-use Rattle.std.specs.Prelude.{◌+◌, ◌-◌, ◌==◌, ◌||◌, ℕ, List, [], ◌∷◌, Option, None, if◌then◌else◌, length, nat_le, not, slice_index_or}
-use Rattle.auction_input.specs.declared.files.FileFault.{FileFault}
+-- How the reasons are told for which a file isn't read.
+use Rattle.std.specs.Prelude.{ℕ}
+use Rattle.auction_input.specs.FileTexts.{refused_at}
 use Rattle.auction_input.specs.declared.files.FileFault.TheVariants as fault
-use Rattle.auction_terms.specs.FirstFault.{first_failed}
+use Rattle.auction_input.specs.declared.input.InputFault.{InputFault}
+use Rattle.auction_input.specs.declared.input.InputFault.TheVariants as input
+use Rattle.auction_input.specs.declared.input.Unread.{Unread}
+use Rattle.auction_input.specs.declared.input.Unread.TheVariants as unread
 
--- the fault of the text at a place among so many: with others it may not be empty, and where one follows its last line has an end
-abbrev pub fault_among : List ℕ → ℕ → ℕ → Option FileFault
-fault_among text place count =
-    if count == 1 then None
-    else first_failed ((not (length text == 0), fault.Empty) ∷ (
-      nat_le count (place + 1) || slice_index_or text (length text -
-          1) 0 == 10,
-      fault.NoLineEnd,
-    ) ∷ [])
+-- a read of the file at a place fails, or the texts are too large together, or memory is short
+abbrev pub file_unread : ℕ → InputFault → Unread
+file_unread place input.ReadFailed = refused_at place fault.ReadFailed
+file_unread place f = unread.Input f

@@ -26,7 +26,7 @@ fn place_of(names: &[String], name: &str) -> Option<usize> {
 }
 
 impl Files for MemoryFiles {
-    ghost shelf = { λ _. record { content = λ _. None; looked = λ _ _. None } };
+    ghost shelf = { λ _. record { content = λ _. None; opened = λ _. None; looked = λ _ _. None } };
 
     type File = LimitReader;
 
