@@ -1,11 +1,12 @@
 -- What a run leaves of its input and its output.
-use Rattle.std.specs.Prelude.{◌≡◌, ◌≢◌, ◌⊎◌, ◌<◌, ℕ, ⊤, Bool, List, Option, None, Some, Result, IsErr, IsOk, IsSome, Ok, Err, codes, length, true}
+use Rattle.std.specs.Prelude.{◌≡◌, ◌≢◌, ◌⊎◌, ◌<◌, ℕ, ⊤, Bool, List, Option, None, Some, IsErr, IsOk, IsSome, Ok, Err, codes, length, true}
 use Rattle.auction_input.specs.Input.{Input}
 use Rattle.byte_sinks.specs.Sinks.{GoesWhole, Outlet}
 use Rattle.byte_sinks.specs.declared.json.Format.{Format}
 use Rattle.auction_input.specs.Wanted.{parsed_taken}
 use Rattle.auction_input.specs.Line.{Puts, line}
-use Rattle.auction_input.specs.FileTexts.{IsFound, IsInputRead, IsUnread, Shelf, sent_to}
+use Rattle.auction_input.specs.FileLooks.{FindsNothing, Refuses}
+use Rattle.auction_input.specs.FileTexts.{IsInputRead, IsUnread, Shelf, sent_to}
 use Rattle.auction_input.specs.declared.files.FileFault.{FileFault}
 use Rattle.auction_input.specs.declared.files.FilePlace.TheVariants as place
 use Rattle.auction_input.specs.declared.files.FileRefusal.{FileRefusal}
@@ -44,13 +45,9 @@ begun (Some name) sink = sent_to name sink
 abbrev pub NamesFiles : CommandLine → Type 0
 NamesFiles asked = (0 < length asked.files) ⊎ IsSome asked.output
 
--- what a look at the files of a command line finds
-abbrev pub Finds : Shelf → CommandLine → Result (Unit {0}) FileRefusal → Type 0
-Finds shelf asked found = IsFound (shelf.looked asked.files asked.output) found
-
 -- the files that are named were looked at, and nothing was found against them
 abbrev pub HasLooked : Shelf → CommandLine → Type 0
-HasLooked shelf asked = NamesFiles asked → Finds shelf asked (Ok tt)
+HasLooked shelf asked = NamesFiles asked → FindsNothing shelf asked.files asked.output
 
 -- the input was read, and what was asked for is written
 abbrev pub IsAnswered : Shelf → CommandLine → Outside → Outside → Type 0
@@ -65,8 +62,8 @@ AsksAnswer asked input = ⊤
 
 -- why a command line isn't answered, by the line that says it
 pub data IsRefused (shelf : Shelf) (asked : CommandLine) (before after : Outside) : List ℕ → Type 0 where
-  -- the look at the files finds something against one of them; nothing is read, and nothing written
-  by_look : (r : FileRefusal) → NamesFiles asked → Finds shelf asked (Err r) → after.left ≡ before.left → after.output ≡ before.output
+  -- the look at the files finds something against one of them, the first; nothing is read, and nothing written
+  by_look : (r : FileRefusal) → NamesFiles asked → Refuses shelf asked.files asked.output r → after.left ≡ before.left → after.output ≡ before.output
       → IsRefused shelf asked before after (refusal_line asked r)
   -- it finds nothing, but the file that is to be written can't be opened; nothing is read, and nothing written
   by_output : (fault : FileFault) → IsSome asked.output → HasLooked shelf asked → after.left ≡ before.left → after.output ≡ before.output

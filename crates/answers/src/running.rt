@@ -24,7 +24,7 @@ use crate::pieces::write_pieces;
 use crate::words::{Command, command_of};
 use auction_input::{
     FilePlace, FileRefusal, Files, Input, Output, Refusal, Request, Source, Target, Unread,
-    read_inputs,
+    look_at_files, read_inputs,
 };
 use byte_sinks::{Format, Sink};
 use clap::Error;
@@ -93,6 +93,7 @@ fn put_fault<F: Sink>(text: &[u8], faults: &mut F) -> u8
 
 // Looks at the files that a command line names, and opens the one that is to be written.
 fn prepare<D: Files, S: Output>(
+    alloc: Global,
     files: &D,
     command: &Command,
     out: &mut S,
@@ -108,9 +109,9 @@ fn prepare<D: Files, S: Output>(
         if names.is_empty() {
             return Ok(());
         }
-        return files.look(names, None);
+        return look_at_files(alloc, files, names, None);
     };
-    files.look(names, Some(output.as_str()))?;
+    look_at_files(alloc, files, names, Some(output.as_str()))?;
     match out.open(output.as_str()) {
         Ok(()) => Ok(()),
         Err(fault) => Err(FileRefusal {
@@ -156,7 +157,7 @@ fn answer_command<R: Threads + Wait + Sync + AllocGlobal, D: Files, I: Read, S: 
         (outside_of (I.remaining input.old.reader) input.old.failures (S.state out.old) (F.state faults.old))
         (outside_of (I.remaining input.new.reader) input.new.failures (S.state out.new) (F.state faults.new)) }
 {
-    if let Err(refusal) = prepare(files, command, out) {
+    if let Err(refusal) = prepare(rt.alloc(), files, command, out) {
         print_file_refusal(command, refusal, faults);
         return 1;
     }

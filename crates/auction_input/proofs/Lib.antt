@@ -7,6 +7,7 @@ mod BidderNameFacts
 mod BookFacts
 pub mod FaultFacts
 mod FileFacts
+mod LookFacts
 pub mod FormStageFacts
 pub mod FormTextFacts
 pub mod InputTextFacts

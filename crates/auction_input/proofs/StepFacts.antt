@@ -12,6 +12,11 @@ pub if-err-weaker : {T E : Type 0} (P Q : E → Type 0) (r : Result T E) → ((e
 if-err-weaker P Q (Ok x) weaker holds = tt
 if-err-weaker P Q (Err e) weaker holds = weaker e holds
 
+-- what follows of its value
+pub on-ok-weaker : {T E P Q : Type 0} (r : Result T E) → (P → Q) → OnOk r P → OnOk r Q
+on-ok-weaker (Ok x) weaker holds = weaker holds
+on-ok-weaker (Err e) weaker holds = tt
+
 -- what holds anyhow
 pub on-ok-given : {T E P : Type 0} (r : Result T E) → P → OnOk r P
 on-ok-given (Ok x) holds = holds

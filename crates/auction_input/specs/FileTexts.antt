@@ -10,7 +10,7 @@ use Rattle.auction_input.specs.ReadInput.{IsUntaken, IsWhole}
 use Rattle.auction_input.specs.declared.files.FileFault.{FileFault}
 use Rattle.auction_input.specs.declared.files.FileFault.TheVariants as fault
 use Rattle.auction_input.specs.declared.files.FilePlace.TheVariants as place_of_file
-use Rattle.auction_input.specs.declared.files.FileRefusal.{FileRefusal}
+use Rattle.auction_input.specs.declared.files.Identity.{Identity}
 use Rattle.auction_input.specs.declared.input.Unread.{Unread}
 use Rattle.auction_input.specs.declared.input.Unread.TheVariants as unread
 use Rattle.auction_input.specs.declared.input.InputFault.TheVariants as input
@@ -23,8 +23,14 @@ pub record Shelf : Type 0 where
   pub content : List ℕ → Option (List ℕ)
   -- what opening the file of a name finds: nothing against it, or why it isn't opened
   pub opened : List ℕ → Option (Result (Unit {0}) FileFault)
-  -- what a look at the files that are read, and at the one that is written, finds: nothing against them, or the first refusal
-  pub looked : List (List ℕ) → Option (List ℕ) → Option (Result (Unit {0}) FileRefusal)
+  -- what distinguishes standard input from files, if the system knows
+  pub standard_input : Option (Option Identity)
+  -- what distinguishes the file of a name that is to be read, or why it isn't read
+  pub readable : List ℕ → Option (Result Identity FileFault)
+  -- what distinguishes the file of a name that is to be replaced, if there is one yet, or why it isn't replaced
+  pub replaced : List ℕ → Option (Result (Option Identity) FileFault)
+  -- whether the file of a name may be written
+  pub rights : List ℕ → Option (Result (Unit {0}) FileFault)
 
 -- what was found is what there is, where that is known
 abbrev pub IsFound : {A : Type 0} → Option A → A → Type 0

@@ -5,6 +5,7 @@ pub mod Auction
 pub mod BookLeft
 pub mod Calls
 pub mod FileTexts
+pub mod FileLooks
 pub mod FileWords
 pub mod FormTexts
 pub mod Input

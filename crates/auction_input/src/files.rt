@@ -1,8 +1,7 @@
 //! Files, as a run sees them.
 
 ghost use Rattle.std.specs.Prelude.{◌≡◌, IfErr, IfOk, OnErr, OnOk, flat_map};
-ghost use Rattle.std.specs.Option.{option_map};
-ghost use Rattle.auction_input.specs.FileTexts.{IsFound, Shelf, is_standard_output, named_files, sent_to};
+ghost use Rattle.auction_input.specs.FileTexts.{IsFound, Shelf, is_standard_output, sent_to};
 ghost use Rattle.auction_input.specs.FileWords.{fault_words, kind_words};
 
 use byte_sinks::{LimitSink, MemorySink, Sink, StdSink};
@@ -132,17 +131,35 @@ pub fn is_standard_output(name: &str) -> bool
     name == "-" || name == "/dev/stdout"
 }
 
+/// What distinguishes a file from any other one: its device, and its number there.
+#[derive(Clone, Copy, Debug, PartialEq, Eq, Hash)]
+pub struct Identity {
+    pub device: u64,
+    pub number: u64,
+}
+
 /// Files by their names.
 pub trait Files {
-    /// What contracts see of them: their bytes, and what opening them and a look at them finds, where that is known.
+    /// What contracts see of them: their bytes, and what the system finds of them, where that is known.
     ghost shelf: { Self → Shelf };
 
     type File: Read + Drop;
 
-    /// Looks at all files before any is opened. Without names standard input alone is read.
-    fn look(&self, names: &[String], output: Option<&str>) -> Result<(), FileRefusal>
-        ensures { IsFound ((shelf self.now).looked (named_files names.now)
-            (option_map (λ name. name.now) output.entry)) result };
+    /// What distinguishes standard input from files, if the system knows.
+    fn standard_input(&self) -> Option<Identity>
+        ensures { IsFound ((shelf self.now).standard_input) result };
+
+    /// What distinguishes a file that isn't standard input from others, or why it isn't read.
+    fn readable(&self, name: &str) -> Result<Identity, FileFault>
+        ensures { IsFound ((shelf self.now).readable name.now) result };
+
+    /// What distinguishes a file that isn't standard output from others, if there is one yet, or why another isn't put in its place.
+    fn replaced(&self, name: &str) -> Result<Option<Identity>, FileFault>
+        ensures { IsFound ((shelf self.now).replaced name.now) result };
+
+    /// Whether a file that there is may be written.
+    fn rights(&self, name: &str) -> Result<(), FileFault>
+        ensures { IsFound ((shelf self.now).rights name.now) result };
 
     /// Opens a file that isn't standard input.
     fn open(&self, name: &str) -> Result<Self::File, FileFault>

@@ -13,6 +13,7 @@ mod input;
 mod job;
 mod last_forms;
 pub mod laws;
+mod look;
 mod message;
 mod name;
 mod part_kind;
@@ -34,11 +35,14 @@ mod wanted;
 pub use auction::{Auction, read_auction};
 pub use bidder_name::BidderName;
 pub use calls::Calls;
-pub use files::{FileFault, FileKind, FilePlace, FileRefusal, Files, Output, is_standard_output};
+pub use files::{
+    FileFault, FileKind, FilePlace, FileRefusal, Files, Identity, Output, is_standard_output,
+};
 pub use form_texts::{AnotherForm, FormTexts};
 pub use given::{Given, Input};
 pub use input::{INPUT_LIMIT, InputFault, Unread, is_standard_input, read_inputs};
 pub use last_forms::{FormParts, LastForm, LastForms, read_last_forms};
+pub use look::look_at_files;
 pub use message::{BEFORE_FIRST, Message, OF_VERSION_1};
 pub use name::Name;
 pub use part_kind::PartKind;

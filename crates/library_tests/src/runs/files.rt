@@ -4,7 +4,7 @@ ghost use Rattle.std.specs.Prelude.{None};
 
 use super::{LimitReader, ONE_FORM_TEXT, reported};
 use answers::run;
-use auction_input::{FileFault, FilePlace, FileRefusal, Files, Source};
+use auction_input::{FileFault, Files, Identity, Source};
 use byte_sinks::MemorySink;
 use std::alloc::Global;
 use std::sync::Wait;
@@ -20,33 +20,44 @@ pub struct MemoryFiles {
 /// No file at all.
 pub const NO_FILES: MemoryFiles = MemoryFiles { files: &[] };
 
-/// The place of a name among others.
-fn place_of(names: &[String], name: &str) -> Option<usize> {
-    names.iter().position(|other| other.as_str() == name)
+impl MemoryFiles {
+    /// The place of a file.
+    fn place_of(self, name: &str) -> Option<usize> {
+        self.files.iter().position(|(other, _)| *other == name)
+    }
 }
 
 impl Files for MemoryFiles {
-    ghost shelf = { λ _. record { content = λ _. None; opened = λ _. None; looked = λ _ _. None } };
+    ghost shelf = { λ _. record {
+      content = λ _. None;
+      opened = λ _. None;
+      standard_input = None;
+      readable = λ _. None;
+      replaced = λ _. None;
+      rights = λ _. None;
+    } };
 
     type File = LimitReader;
 
-    fn look(&self, names: &[String], output: Option<&str>) -> Result<(), FileRefusal> {
-        for place in 0..names.len() {
-            let fault = match place_of(&names[..place], names[place].as_str()) {
-                Some(earlier) => FileFault::ReadAlready(earlier),
-                None if output == Some(names[place].as_str()) => {
-                    return Err(FileRefusal {
-                        file: FilePlace::Written,
-                        fault: FileFault::ReadToo,
-                    });
-                }
-                None => continue,
-            };
-            return Err(FileRefusal {
-                file: FilePlace::Read(place),
-                fault,
-            });
+    fn standard_input(&self) -> Option<Identity> {
+        None
+    }
+
+    fn readable(&self, name: &str) -> Result<Identity, FileFault> {
+        match self.place_of(name) {
+            Some(place) => Ok(Identity {
+                device: 0,
+                number: place as u64,
+            }),
+            None => Err(FileFault::NotFound),
         }
+    }
+
+    fn replaced(&self, name: &str) -> Result<Option<Identity>, FileFault> {
+        Ok(self.readable(name).ok())
+    }
+
+    fn rights(&self, _: &str) -> Result<(), FileFault> {
         Ok(())
     }
 
