@@ -5,7 +5,7 @@ use Rattle.byte_sinks.specs.Sinks.{GoesWhole, Outlet}
 use Rattle.byte_sinks.specs.declared.json.Format.{Format}
 use Rattle.auction_input.specs.Wanted.{parsed_taken}
 use Rattle.auction_input.specs.Line.{Puts, line}
-use Rattle.auction_input.specs.FileLooks.{FindsNothing, Refuses}
+use Rattle.auction_input.specs.FileLooks.{FindsNothing, FindsAgainst}
 use Rattle.auction_input.specs.FileTexts.{IsInputRead, IsUnread, Shelf, sent_to}
 use Rattle.auction_input.specs.declared.files.FileFault.{FileFault}
 use Rattle.auction_input.specs.declared.files.FilePlace.TheVariants as place
@@ -63,7 +63,7 @@ AsksAnswer asked input = ⊤
 -- why a command line isn't answered, by the line that says it
 pub data IsRefused (shelf : Shelf) (asked : CommandLine) (before after : Outside) : List ℕ → Type 0 where
   -- the look at the files finds something against one of them, the first; nothing is read, and nothing written
-  by_look : (r : FileRefusal) → NamesFiles asked → Refuses shelf asked.files asked.output r → after.left ≡ before.left → after.output ≡ before.output
+  by_look : (r : FileRefusal) → NamesFiles asked → FindsAgainst shelf asked.files asked.output r → after.left ≡ before.left → after.output ≡ before.output
       → IsRefused shelf asked before after (refusal_line asked r)
   -- it finds nothing, but the file that is to be written can't be opened; nothing is read, and nothing written
   by_output : (fault : FileFault) → IsSome asked.output → HasLooked shelf asked → after.left ≡ before.left → after.output ≡ before.output

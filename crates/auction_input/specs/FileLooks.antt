@@ -90,11 +90,11 @@ pub record FindsNothing (shelf : Shelf) (names : List (List ℕ)) (output : Opti
   pub written : FindsOutput shelf files output None
 
 -- what is found against the first file against which something is
-pub data Refuses (shelf : Shelf) (names : List (List ℕ)) (output : Option (List ℕ)) : FileRefusal → Type 0 where
+pub data FindsAgainst (shelf : Shelf) (names : List (List ℕ)) (output : Option (List ℕ)) : FileRefusal → Type 0 where
   -- a file that is read
-  by_read : (r : FileRefusal) → IsFirstRefused shelf (names_read names) r → Refuses shelf names output r
+  by_read : (r : FileRefusal) → IsFirstRefused shelf (names_read names) r → FindsAgainst shelf names output r
   -- none of those, but the file that is written
   by_written : (f : FileFault) → (files : List (Option Identity)) → AreTaken shelf (names_read names) files
-      → FindsOutput shelf files output (Some f) → Refuses shelf names output (record { file = place.Written; fault = f })
+      → FindsOutput shelf files output (Some f) → FindsAgainst shelf names output (record { file = place.Written; fault = f })
   -- or memory is short
-  by_memory : (r : FileRefusal) → r.fault ≡ fault.OutOfMemory → Refuses shelf names output r
+  by_memory : (r : FileRefusal) → r.fault ≡ fault.OutOfMemory → FindsAgainst shelf names output r

@@ -6,7 +6,7 @@ ghost use Rattle.std.specs.Option.{option_map};
 ghost use Rattle.std.specs.Result.{result_err};
 ghost use Rattle.indexmap.specs.IndexSet.{keys};
 ghost use Rattle.auction_input.specs.FileTexts.{IsFound, named_files};
-ghost use Rattle.auction_input.specs.FileLooks.{AreTaken, Finding, FindsNothing, FindsWritten, IsFirstRefused, Refuses, is_same, names_read, read_as, refusal_after};
+ghost use Rattle.auction_input.specs.FileLooks.{AreTaken, Finding, FindsNothing, FindsWritten, IsFirstRefused, FindsAgainst, is_same, names_read, read_as, refusal_after};
 ghost use Rattle.auction_input.specs.declared.files.FileFault.TheVariants as file_fault;
 ghost use Rattle.auction_input.specs.declared.files.Identity.{Identity as File};
 
@@ -129,7 +129,7 @@ pub fn look_at_files<D: Files>(
 ) -> Result<(), FileRefusal>
     ensures looked { OnOk result (FindsNothing (D.shelf files.now) (named_files names.now)
         (option_map (λ name. name.now) output.entry)) }
-    ensures refused { IfErr result (Refuses (D.shelf files.now) (named_files names.now)
+    ensures refused { IfErr result (FindsAgainst (D.shelf files.now) (named_files names.now)
         (option_map (λ name. name.now) output.entry)) }
 {
     let mut seen = Seen::new(alloc);

@@ -1,6 +1,6 @@
 -- What a run leaves of its output where its words ask for no answer, and how its refusal is reported.
 use Rattle.std.specs.Prelude.{◌≡◌, ◌⊎◌, ℕ, Bool, IsErr, IsSome, List, Option, Ok}
-use Rattle.auction_input.specs.FileLooks.{Refuses}
+use Rattle.auction_input.specs.FileLooks.{FindsAgainst}
 use Rattle.auction_input.specs.FileTexts.{Shelf}
 use Rattle.auction_input.specs.declared.files.FileFault.{FileFault}
 use Rattle.auction_input.specs.declared.files.FilePlace.TheVariants as place
@@ -25,7 +25,7 @@ use Rattle.answers.specs.Runs.{AsksAnswer, HasLooked, IsShown, NamesFiles}
 -- why the files of a command line aren't there to be read or to be written
 abbrev pub IsUnprepared : Shelf → CommandLine → FileRefusal → Type 0
 IsUnprepared shelf asked r =
-    (NamesFiles asked × Refuses shelf asked.files asked.output r)
+    (NamesFiles asked × FindsAgainst shelf asked.files asked.output r)
     ⊎ ((fault : FileFault) × IsSome asked.output × HasLooked shelf asked × (r ≡ record { file = place.Written; fault = fault }))
 
 -- help or the version, which is asked for, went out
