@@ -3,7 +3,6 @@ use Rattle.std.proofs.Common.{◌≡◌, ◌+◌, ◌<◌, ◌++◌, ◌∷◌, 
 use Rattle.std.specs.Prelude.{String}
 use Rattle.std.specs.List.{AllZip}
 use Rattle.std.specs.Option.{option_or}
-use Rattle.auction_terms.specs.FirstFault.{first_fault}
 use Rattle.auction_input.specs.FileLooks.{AreTaken, Finding, IsFirstRefused, names_read, read_as, refusal_after}
 use Rattle.auction_input.specs.FileTexts.{IsFound, Shelf, named_files}
 use Rattle.auction_input.specs.declared.files.FileRefusal.{FileRefusal}

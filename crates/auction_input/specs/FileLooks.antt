@@ -7,7 +7,6 @@ use Rattle.auction_terms.specs.FirstFault.{first_fault}
 use Rattle.auction_input.specs.FileTexts.{IsFound, Shelf, is_standard_input, is_standard_output}
 use Rattle.auction_input.specs.declared.files.FileFault.{FileFault}
 use Rattle.auction_input.specs.declared.files.FileFault.TheVariants as fault
-use Rattle.auction_input.specs.declared.files.FilePlace.{FilePlace}
 use Rattle.auction_input.specs.declared.files.FilePlace.TheVariants as place
 use Rattle.auction_input.specs.declared.files.FileRefusal.{FileRefusal}
 use Rattle.auction_input.specs.declared.files.Identity.{Identity}

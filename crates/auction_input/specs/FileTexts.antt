@@ -1,5 +1,5 @@
 -- What is read of files by their names.
-use Rattle.std.specs.Prelude.{◌≡◌, ◌≤◌, ◌+◌, ◌-◌, ◌++◌, ◌==◌, ◌||◌, if◌then◌else◌, ⊤, ℕ, Bool, List, [], ◌∷◌, Option, None, Some, Result, Ok, Err, String, codes, false, length, map, nat_le, not, slice_index_or, sum_by, true}
+use Rattle.std.specs.Prelude.{◌≡◌, ◌≤◌, ◌+◌, ◌-◌, ◌++◌, ◌==◌, ◌||◌, if◌then◌else◌, ⊤, ℕ, Bool, List, [], ◌∷◌, Option, None, Some, Result, Err, String, codes, false, length, map, nat_le, not, slice_index_or, sum_by, true}
 use Rattle.std.specs.Bool.{MatchBool}
 use Rattle.std.specs.Option.{option_map}
 use Rattle.std.specs.Io.KnownBytes.{Consumes, IsAtEnd}

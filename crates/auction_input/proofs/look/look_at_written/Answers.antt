@@ -1,4 +1,4 @@
-use Rattle.std.proofs.Common.{◌≡◌, None, Some, false, rules, true}
+use Rattle.std.proofs.Common.{◌≡◌, Some, false, rules, true}
 use Rattle.std.specs.List.{list_any}
 use Rattle.indexmap.specs.IndexSet.{keys}
 use Rattle.auction_input.specs.FileLooks.{absent, is_same, present, read_too, standard, unreplaced}
