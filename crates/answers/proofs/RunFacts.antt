@@ -1,6 +1,6 @@
 -- What a run leaves.
 use Rattle.std.proofs.Common.{◌≡◌, ◌≢◌, ◌⊎◌, ◌∙◌, ◌<◌, ◌≤◌, ℕ, Bool, true, false, List, [], Option, None, Some, ap, arith, inl, inr, length, refl, subst, suc, sym, zero, IsErr}
-use Rattle.std.specs.Prelude.{if◌then◌else◌}
+use Rattle.std.specs.Prelude.{Result, if◌then◌else◌}
 use Rattle.std.specs.Option.{option_map}
 use Rattle.auction_input.specs.FileTexts.{Shelf, is_standard_output}
 use Rattle.auction_input.specs.Input.{Input}
@@ -18,6 +18,7 @@ use Rattle.auction_input.specs.Wanted.{parsed_taken}
 use Rattle.answers.specs.Asked.{Asked, CommandLine, by_fault, for_answer, for_nothing}
 use Rattle.auction_input.specs.Line.{Puts, line}
 use Rattle.auction_input.specs.declared.refusal.Refusal.{Refusal}
+use Rattle.auction_input.specs.declared.files.FileFault.{FileFault}
 use Rattle.auction_input.specs.declared.files.FileRefusal.{FileRefusal}
 use Rattle.answers.specs.FileLines.{refusal_line}
 use Rattle.answers.specs.Outside.{Outside, outside_of}
@@ -76,11 +77,12 @@ module _ (shelf : Shelf) where
   command-refused asked before after parsed why puts = run-refused (for_answer asked) before after (inl (parsed, by_request asked refl why, puts))
 
   -- files that aren't there to be read or to be written
-  pub unprepared-so : (asked : CommandLine) (before after : Outside) (r : FileRefusal) → IsUnprepared shelf asked r
+  pub unprepared-so : (asked : CommandLine) (before after : Outside) (r : FileRefusal) → IsUnprepared shelf before.sendable asked r
       → after.left ≡ before.left → after.output ≡ before.output → IsRefused shelf asked before after (refusal_line asked r)
   unprepared-so asked before after r (inl (named, found)) left output = by_look r named found left output
-  unprepared-so asked before after r (inr (fault, named, looked, is)) left output =
-      subst (λ (r : FileRefusal). IsRefused shelf asked before after (refusal_line asked r)) (sym is) (by_output fault named looked left output)
+  unprepared-so asked before after r (inr (name, fault, named, found, looked, is)) left output =
+      subst (λ (r : FileRefusal). IsRefused shelf asked before after (refusal_line asked r)) (sym is)
+      (by_output name fault named found looked left output)
 
   module _ (asked : CommandLine) (before after : Outside) (input : Input) (looked : HasLooked shelf asked)
       (read : Reads shelf asked before.left after.left input) where
@@ -153,19 +155,20 @@ module _ (shelf : Shelf) where
       | inr by ↦ subst (λ (a : Asked). IsShown a text) (sym (is ∙ by)) shown
     ]
 
-    module _ (left : Option (List ℕ)) (reads : ℕ) (output output' faults faults' : Outlet) where
+    module _ (left : Option (List ℕ)) (reads : ℕ) (sendable sendable' : List ℕ → Option (Result (Unit {0}) FileFault))
+        (output output' faults faults' : Outlet) where
       undone-so : (r : Refusal) → IsUnreported (by_fault k) output output' r
-          → IsUndone shelf asked (outside_of left reads output faults) (outside_of left reads output' faults') (line r)
+          → IsUndone shelf asked (outside_of left reads sendable output faults) (outside_of left reads sendable' output' faults') (line r)
       undone-so r (inl (text, shown, ends)) = by_showing text (shown-as text shown) refl ends
-      undone-so r (inr (out, kept)) = subst (λ (x : Refusal). IsUndone shelf asked (outside_of left reads output faults)
-          (outside_of left reads output' faults') (line x)) (sym out) (by_memory refl kept)
+      undone-so r (inr (out, kept)) = subst (λ (x : Refusal). IsUndone shelf asked (outside_of left reads sendable output faults)
+          (outside_of left reads sendable' output' faults') (line x)) (sym out) (by_memory refl kept)
 
       pub run-faulty : (status : ℕ) → status ≤ 2 → (status ≡ 0 → HasShown (by_fault k) output output')
           → (status ≡ 0 → faults' ≡ faults)
           → (status ≡ 1 → IsReported (IsUnreported (by_fault k) output output') faults faults')
           → (status ≡ 2 → (by_fault k ≡ for_nothing) × (k ≢ kind.OutOfMemory) × (output' ≡ output))
           → (status ≡ 2 → (text : List ℕ) × (0 < length text) × Puts text faults faults')
-          → IsRun shelf asked status (outside_of left reads output faults) (outside_of left reads output' faults')
+          → IsRun shelf asked status (outside_of left reads sendable output faults) (outside_of left reads sendable' output' faults')
       run-faulty status most shown quiet refused unasked reported = record {
         done = λ zero. (let (text, is-shown, sent) = shown zero in inr (text, shown-as text is-shown, refl, sent));
         quiet = quiet;

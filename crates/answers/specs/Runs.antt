@@ -6,7 +6,7 @@ use Rattle.byte_sinks.specs.declared.json.Format.{Format}
 use Rattle.auction_input.specs.Wanted.{parsed_taken}
 use Rattle.auction_input.specs.Line.{Puts, line}
 use Rattle.auction_input.specs.FileLooks.{FindsNothing, FindsAgainst}
-use Rattle.auction_input.specs.FileTexts.{IsInputRead, IsUnread, Shelf, sent_to}
+use Rattle.auction_input.specs.FileTexts.{IsFound, IsInputRead, IsUnread, Shelf, sent_to}
 use Rattle.auction_input.specs.declared.files.FileFault.{FileFault}
 use Rattle.auction_input.specs.declared.files.FilePlace.TheVariants as place
 use Rattle.auction_input.specs.declared.files.FileRefusal.{FileRefusal}
@@ -65,8 +65,9 @@ pub data IsRefused (shelf : Shelf) (asked : CommandLine) (before after : Outside
   -- the look at the files finds something against one of them, the first; nothing is read, and nothing written
   by_look : (r : FileRefusal) → NamesFiles asked → FindsAgainst shelf asked.files asked.output r → after.left ≡ before.left → after.output ≡ before.output
       → IsRefused shelf asked before after (refusal_line asked r)
-  -- it finds nothing, but the file that is to be written can't be opened; nothing is read, and nothing written
-  by_output : (fault : FileFault) → IsSome asked.output → HasLooked shelf asked → after.left ≡ before.left → after.output ≡ before.output
+  -- it finds nothing, but the file that is to be written can't be opened, and this is why; nothing is read, and nothing written
+  by_output : (name : List ℕ) → (fault : FileFault) → asked.output ≡ Some name → IsFound (before.sendable name) (Err fault) → HasLooked shelf asked
+      → after.left ≡ before.left → after.output ≡ before.output
       → IsRefused shelf asked before after (refusal_line asked (record { file = place.Written; fault = fault }))
   -- not all is read, and nothing is written
   by_input : (f : Unread) → HasLooked shelf asked → IsUnread shelf asked.files f before.left after.left before.failed_reads after.failed_reads

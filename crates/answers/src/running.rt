@@ -48,8 +48,10 @@ pub fn run<R: Threads + Wait + Sync + AllocGlobal, D: Files, I: Read, S: Output,
 ) -> u8
     ensures status { result ≤ 2 }
     ensures outside { IsRun (D.shelf files.now) (asked_of words) result
-        (outside_of (I.remaining input.old.reader) input.old.failures (S.state out.old) (F.state faults.old))
-        (outside_of (I.remaining input.new.reader) input.new.failures (S.state out.new) (F.state faults.new)) }
+        (outside_of (I.remaining input.old.reader) input.old.failures (S.sendable out.old) (S.state out.old)
+        (F.state faults.old))
+        (outside_of (I.remaining input.new.reader) input.new.failures (S.sendable out.new) (S.state out.new)
+        (F.state faults.new)) }
     // Where std gives no words, memory was short, or one of them isn't UTF-8.
     ensures wordless { IfErr words (λ e. (error_kind e ≡ io_kind.OutOfMemory → result ≡ 1)
         × (error_kind e ≢ io_kind.OutOfMemory → (result ≡ 2)
@@ -101,7 +103,8 @@ fn prepare<D: Files, S: Output>(
     ensures looked { OnOk result (HasLooked (D.shelf files.now) (command_line_of command.now)) }
     ensures begun { OnOk result (S.state out.new
         ≡ begun (command_line_of command.now).output (S.state out.old)) }
-    ensures refused { IfErr result (IsUnprepared (D.shelf files.now) (command_line_of command.now)) }
+    ensures refused { IfErr result (IsUnprepared (D.shelf files.now) (S.sendable out.old)
+        (command_line_of command.now)) }
     ensures kept { OnErr result (S.state out.new ≡ S.state out.old) }
 {
     let names = command.files.as_slice();
@@ -154,8 +157,10 @@ fn answer_command<R: Threads + Wait + Sync + AllocGlobal, D: Files, I: Read, S: 
     ensures status { result ≤ 1 }
     ensures outside { IsRun (D.shelf files.now)
         (for_answer (command_line_of command.now)) result
-        (outside_of (I.remaining input.old.reader) input.old.failures (S.state out.old) (F.state faults.old))
-        (outside_of (I.remaining input.new.reader) input.new.failures (S.state out.new) (F.state faults.new)) }
+        (outside_of (I.remaining input.old.reader) input.old.failures (S.sendable out.old) (S.state out.old)
+        (F.state faults.old))
+        (outside_of (I.remaining input.new.reader) input.new.failures (S.sendable out.new) (S.state out.new)
+        (F.state faults.new)) }
 {
     if let Err(refusal) = prepare(rt.alloc(), files, command, out) {
         print_file_refusal(command, refusal, faults);

@@ -1,6 +1,8 @@
 //! Files, as a run sees them.
 
-ghost use Rattle.std.specs.Prelude.{◌≡◌, IfErr, IfOk, OnErr, OnOk, flat_map};
+ghost use Rattle.std.specs.Prelude.{◌≡◌, ℕ, IfErr, IfOk, List, OnErr, OnOk, Option, Result, Some, Err, flat_map};
+ghost use Rattle.auction_input.specs.declared.files.FileFault.{FileFault as Fault};
+ghost use Rattle.auction_input.specs.declared.files.FileFault.TheVariants.{Unopened};
 ghost use Rattle.auction_input.specs.FileTexts.{IsFound, Shelf, is_standard_output, sent_to};
 ghost use Rattle.auction_input.specs.FileWords.{fault_words, kind_words};
 
@@ -170,18 +172,37 @@ pub trait Files {
 
 /// A sink that may be sent to a file.
 pub trait Output: Sink {
+    /// What sending it to the file of a name finds, where that is known: nothing against it, or why it isn't sent.
+    ghost sendable: { Self → List ℕ → Option (Result (Unit {0}) Fault) };
+
     /// From here on the bytes go to the file of that name. A sink that knows no files refuses.
     fn open(&mut self, name: &str) -> Result<(), FileFault>
+        ensures found { IsFound (sendable self.old name.now) result }
         ensures sent { OnOk result (Self.state self.new ≡ sent_to name.now (Self.state self.old)) }
-        ensures kept { OnErr result (Self.state self.new ≡ Self.state self.old) }
-    {
+        ensures kept { OnErr result (Self.state self.new ≡ Self.state self.old) };
+}
+
+impl Output for MemorySink {
+    ghost sendable = { λ _ _. Some (Err Unopened) };
+
+    fn open(&mut self, name: &str) -> Result<(), FileFault> {
         let _ = name;
         Err(FileFault::Unopened)
     }
 }
 
-impl Output for MemorySink {}
+impl Output for LimitSink {
+    ghost sendable = { λ _ _. Some (Err Unopened) };
 
-impl Output for LimitSink {}
+    fn open(&mut self, _: &str) -> Result<(), FileFault> {
+        Err(FileFault::Unopened)
+    }
+}
 
-impl<W: Write + Drop> Output for StdSink<W> {}
+impl<W: Write + Drop> Output for StdSink<W> {
+    ghost sendable = { λ _ _. Some (Err Unopened) };
+
+    fn open(&mut self, _: &str) -> Result<(), FileFault> {
+        Err(FileFault::Unopened)
+    }
+}

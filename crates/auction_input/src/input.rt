@@ -267,7 +267,8 @@ fn read_alone<I: Read>(alloc: Global, input: &mut Source<I>) -> Result<Input, In
     Ok(Input::of_text(alloc, bytes)?)
 }
 
-/// Reads the texts of names, in order; without names standard input, as one text by itself.
+/// Reads the texts of names, in order; without names standard input, as one text by itself. A read of a file that fails is
+/// counted with those of standard input.
 pub fn read_inputs<D: Files, I: Read>(
     alloc: Global,
     files: &D,

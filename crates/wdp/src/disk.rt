@@ -8,7 +8,7 @@ use std::io::ErrorKind;
 use std::os::unix::fs::{FileTypeExt, MetadataExt};
 use std::{fs, io};
 
-/// The files of this system. Nothing is known of their bytes.
+/// The files of this system. Nothing is known of their bytes, nor of what the system finds of them.
 #[derive(Drop)]
 pub struct Disk<'r> {
     rt: &'r HostRuntime,

@@ -194,6 +194,8 @@ impl Sink for Out<'_> {
 }
 
 impl Output for Out<'_> {
+    ghost sendable = { λ _ _. None };
+
     fn open(&mut self, name: &str) -> Result<(), FileFault> {
         if !is_standard_output(name) {
             self.file = Some(NewFile::make(self.rt, name)?);

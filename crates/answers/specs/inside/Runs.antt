@@ -1,7 +1,7 @@
 -- What a run leaves of its output where its words ask for no answer, and how its refusal is reported.
-use Rattle.std.specs.Prelude.{◌≡◌, ◌⊎◌, ℕ, Bool, IsErr, IsSome, List, Option, Ok}
+use Rattle.std.specs.Prelude.{◌≡◌, ◌⊎◌, ℕ, Bool, IsErr, List, Option, Result, Some, Ok, Err}
 use Rattle.auction_input.specs.FileLooks.{FindsAgainst}
-use Rattle.auction_input.specs.FileTexts.{Shelf}
+use Rattle.auction_input.specs.FileTexts.{IsFound, Shelf}
 use Rattle.auction_input.specs.declared.files.FileFault.{FileFault}
 use Rattle.auction_input.specs.declared.files.FilePlace.TheVariants as place
 use Rattle.auction_input.specs.declared.files.FileRefusal.{FileRefusal}
@@ -22,11 +22,12 @@ use Rattle.byte_sinks.specs.Sinks.{GoesWhole, Outlet}
 use Rattle.byte_sinks.specs.declared.json.Format.{Format}
 use Rattle.answers.specs.Runs.{AsksAnswer, HasLooked, IsShown, NamesFiles}
 
--- why the files of a command line aren't there to be read or to be written
-abbrev pub IsUnprepared : Shelf → CommandLine → FileRefusal → Type 0
-IsUnprepared shelf asked r =
+-- why the files of a command line aren't there to be read or to be written, by what sending the output to a file finds
+abbrev pub IsUnprepared : Shelf → (List ℕ → Option (Result (Unit {0}) FileFault)) → CommandLine → FileRefusal → Type 0
+IsUnprepared shelf sendable asked r =
     (NamesFiles asked × FindsAgainst shelf asked.files asked.output r)
-    ⊎ ((fault : FileFault) × IsSome asked.output × HasLooked shelf asked × (r ≡ record { file = place.Written; fault = fault }))
+    ⊎ ((name : List ℕ) × (fault : FileFault) × (asked.output ≡ Some name) × IsFound (sendable name) (Err fault) × HasLooked shelf asked
+    × (r ≡ record { file = place.Written; fault = fault }))
 
 -- help or the version, which is asked for, went out
 abbrev pub HasShown : Asked → Outlet → Outlet → Type 0

@@ -9,7 +9,7 @@ use super::{RUNS, Run, TWO_GROUPS, TWO_PROGRAMS, reported};
 use crate::worked::input_of;
 use answers::{RunFault, print_refusal, run, run_compile};
 use auction_input::{
-    Auction, Output, Part, PartFault, PartKind, Refusal, Request, Source, count_of, read_auction,
+    Auction, FileFault, Output, Part, PartFault, PartKind, Refusal, Request, Source, count_of, read_auction,
     split_parts, text_of, texts_of,
 };
 use byte_sinks::{Sink, SinkFailed};
@@ -61,7 +61,13 @@ impl Sink for Expected {
     }
 }
 
-impl Output for Expected {}
+impl Output for Expected {
+    ghost sendable = { λ _ _. None };
+
+    fn open(&mut self, _: &str) -> Result<(), FileFault> {
+        Err(FileFault::Unopened)
+    }
+}
 
 /// Out of memory if the refusal says so, and else another failure.
 fn failure(refusal: &Refusal) -> Fail {

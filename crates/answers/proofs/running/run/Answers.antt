@@ -23,5 +23,5 @@ returns-in-Ok-command_of-clause-outside g c = run-as _ _ _ _ _ _ (ap asked_of c.
 pub returns-in-Err-command_of-clause-outside : goal.returns-in-Err-command_of-clause-outside
 returns-in-Err-command_of-clause-outside g c =
     let by = c.print_help_or_fault.ensures in
-    run-faulty _ _ _ (kind_of c.in-Err-command_of.error) (ap asked_of c.in-Ok.is) c.in-Err-command_of.ensures.shown _ _ _ _ _ _ _ by.status
+    run-faulty _ _ _ (kind_of c.in-Err-command_of.error) (ap asked_of c.in-Ok.is) c.in-Err-command_of.ensures.shown _ _ _ _ _ _ _ _ _ by.status
     by.shown by.quiet by.refused by.unasked by.reported

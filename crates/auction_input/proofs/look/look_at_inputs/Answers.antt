@@ -48,5 +48,5 @@ returns-in-Err-clause-refused g c =
     elim (c.in-Err.ensures.refused) [
       | inl memory ↦ inl memory
       | inr found ↦ inr (refused-next (g.D.Files.shelf c.args.files.now) names i x c.as_str.result.now (keys c.loop-name.seen) c.in-Err.refusal some
-      item c.as_str.ensures.value c.loop-name.invariant found)
+          item c.as_str.ensures.value c.loop-name.invariant found)
     ]
