@@ -47,6 +47,15 @@ some-held {F} most held (fault ∷ more) room holds some =
     let m = length-take most (fault ∷ more) in
     omega arith
 
+-- and where some are kept, some were found
+pub found-some : {F : Type 0} (most : ℕ) (held : All F) (faults : List (Fault F)) → Holds most held faults → (length held.kept.items ≡ 0 → ⊥) → faults ≢ []
+found-some {F} most held [] holds some none =
+    let faults : List (Fault F) = [] in
+    let size = length-map held.kept.items (kept_fault {F = F}) in
+    let n = ap length holds.kept in
+    some (let m = length-take most faults in omega arith)
+found-some most held (fault ∷ more) holds some none = cc none
+
 -- faults of which some are kept, so that what rests on their absence isn't looked at
 pub held-some : {F : Type 0} (most : ℕ) (held : All F) (faults others : List (Fault F)) → Holds most held faults → (length held.kept.items ≡ 0 → ⊥)
     → Holds most held (or_else faults others) × (or_else faults others ≢ [])

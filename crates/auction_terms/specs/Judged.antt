@@ -1,11 +1,11 @@
 -- The faults of a text as a list, each with its place, the first bytes there and its cause; and how many of them are kept.
-use Rattle.std.specs.Prelude.{◌≡◌, ◌-◌, ◌^◌, ◌++◌, min, Bool, ℕ, List, [], ◌∷◌, Option, Some, Result, Ok, Err, length, map, option_map, option_to_list, take}
+use Rattle.std.specs.Prelude.{◌≡◌, ◌≢◌, ◌-◌, ◌^◌, ◌++◌, min, Bool, ℕ, List, [], ◌∷◌, Option, Some, Result, Ok, Err, length, map, option_map, option_to_list, take}
 use Rattle.auction_terms.specs.FirstFault.{first_failed}
 use Rattle.auction_terms.specs.declared.judge.All.{All}
 use Rattle.auction_terms.specs.declared.judge.Cause.{Cause}
 use Rattle.auction_terms.specs.declared.judge.Cause.TheVariants.{Words, Both, Wanted}
 use Rattle.auction_terms.specs.declared.judge.FaultAt.{FaultAt}
-use Rattle.auction_terms.specs.declared.limits.TheConstants.{FRONT_LEN}
+use Rattle.auction_terms.specs.declared.limits.TheConstants.{FRONT_LEN, MOST_FAULTS}
 use Rattle.auction_terms.specs.Wording.{wording_text}
 
 -- a fault, the number of the field or name at which it is (0: the whole record or line), the first bytes there, and what is wrong in words
@@ -56,3 +56,8 @@ pub record Holds {F : Type 0} (most : ℕ) (all : All F) (faults : List (Fault F
 -- after the faults that were found before, these were found
 abbrev pub HoldsMore : {F : Type 0} → All F → All F → List (Fault F) → Type 0
 HoldsMore {F} old new more = (most : ℕ) (faults : List (Fault F)) → Holds most old faults → Holds most new (faults ++ more)
+
+-- what a reader returns that wants all faults of a text: what the text describes, or its faults, if there are any
+abbrev pub IsReading : {A F : Type 0} → Result A F → List (Fault F) → Result A (All F) → Type 0
+IsReading described faults (Ok value) = described ≡ Ok value
+IsReading described faults (Err all) = (faults ≢ []) × Holds MOST_FAULTS all faults

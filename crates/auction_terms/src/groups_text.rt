@@ -5,14 +5,14 @@ ghost use Rattle.std.specs.List.{list_any};
 ghost use Rattle.std.specs.Str.{bytes_eq};
 ghost use Rattle.auction_terms.specs.AllFaults.{accepted_with, all_faults};
 ghost use Rattle.auction_terms.specs.FirstFault.{first_failed};
-ghost use Rattle.auction_terms.specs.Judged.{Holds, HoldsMore, fault_of_whole, kept_fault};
+ghost use Rattle.auction_terms.specs.Judged.{HoldsMore, IsReading, fault_of_whole, kept_fault};
 ghost use Rattle.auction_terms.specs.Lines.{bytes_of, lines_of};
 ghost use Rattle.auction_terms.specs.GroupsText.{group_faults, group_of, groups_of, is_groups_memory, line_checks, line_faults, name_checks, name_faults, names_faults, room_checks};
 ghost use Rattle.auction_terms.specs.inside.GroupsText.{numbers_from};
 ghost use Rattle.auction_terms.specs.Stages.{Answers};
 ghost use Rattle.auction_terms.specs.GroupNames.{names_in};
 ghost use Rattle.auction_terms.specs.Groups.{AreGroups, IsGroup};
-ghost use Rattle.auction_terms.specs.declared.limits.TheConstants.{MOST_BIDDERS, MOST_FAULTS, MOST_GROUPS};
+ghost use Rattle.auction_terms.specs.declared.limits.TheConstants.{MOST_BIDDERS, MOST_GROUPS};
 ghost use Rattle.auction_terms.specs.GroupFaultText.{group_code, group_fault_text, group_place};
 ghost use Rattle.auction_terms.specs.Wording.{code_seen, wording_text};
 ghost use Rattle.auction_terms.specs.declared.groups_text.GroupFault.TheVariants as fault;
@@ -284,7 +284,7 @@ fn add_group(groups: &mut Vec<Group>, place: u32, group: Group) -> Result<(), Al
 }
 
 // Adds each fault of a text. Where there is none, these are its groups.
-fn judge_groups(
+fn judge_lines(
     alloc: Global,
     faults: &mut All<GroupFault>,
     bytes: &[u8],
@@ -319,30 +319,33 @@ pub fn read_groups(alloc: Global, bytes: &[u8], rules: &Rules) -> Result<Groups,
         return Err(GroupFault::TooLarge);
     }
     let mut faults = All::new(alloc, 1);
-    let groups = judge_groups(alloc, &mut faults, bytes, rules.bidders())?;
+    let groups = judge_lines(alloc, &mut faults, bytes, rules.bidders())?;
     match faults.kept.as_slice() {
         [] => Ok(Groups::new(groups)),
         [first, ..] => Err(first.fault),
     }
 }
 
-/// All faults of a text of groups, under rules.
-pub fn group_faults(
+/// The groups that a text describes, under rules, or all faults of the text if it has any.
+pub fn judge_groups(
     alloc: Global,
     bytes: &[u8],
     rules: &Rules,
-) -> Result<All<GroupFault>, AllocError>
+) -> Result<Result<Groups, All<GroupFault>>, AllocError>
     ensures too_large { TEXT_LIMIT < length bytes.now
-        → IfOk result (λ all. Holds MOST_FAULTS all (fault_of_whole fault.TooLarge None ∷ [])) }
-    ensures all { length bytes.now ≤ TEXT_LIMIT
-        → IfOk result (λ all. Holds MOST_FAULTS all
+        → IfOk result (IsReading (Err fault.TooLarge) (fault_of_whole fault.TooLarge None ∷ [])) }
+    ensures answer { length bytes.now ≤ TEXT_LIMIT
+        → IfOk result (IsReading (groups_of rules.now.bidders bytes.now)
         (group_faults rules.now.bidders bytes.now)) }
 {
-    let mut all = All::new(alloc, MOST_FAULTS);
+    let mut faults = All::new(alloc, MOST_FAULTS);
     if bytes.len() > TEXT_LIMIT {
-        all.add(FaultAt::of_whole(GroupFault::TooLarge, None))?;
-        return Ok(all);
+        faults.add(FaultAt::of_whole(GroupFault::TooLarge, None))?;
+        return Ok(Err(faults));
     }
-    judge_groups(alloc, &mut all, bytes, rules.bidders())?;
-    Ok(all)
+    let groups = judge_lines(alloc, &mut faults, bytes, rules.bidders())?;
+    if !faults.kept.is_empty() {
+        return Ok(Err(faults));
+    }
+    Ok(Ok(Groups::new(groups)))
 }

@@ -49,7 +49,7 @@ pub use front::Front;
 pub use group_list::Groups;
 pub use group_names::NameReader;
 pub use groups::Group;
-pub use groups_text::{GroupFault, group_faults, read_groups};
+pub use groups_text::{GroupFault, judge_groups, read_groups};
 pub use judge::{All, Cause, FaultAt};
 pub use limits::{
     FRONT_LEN, GREATEST_AMOUNT, GREATEST_POINTS, GREATEST_QUANTITY, GREATEST_VALUE,
@@ -64,7 +64,7 @@ pub use packages::{Package, Quantities};
 pub use record_kinds::field;
 pub use records::RecordReader;
 pub use rules::{Bidder, Category, Pool, Rules};
-pub use rules_text::{RulesFault, read_rules, rules_faults};
+pub use rules_text::{RulesFault, judge_rules, read_rules};
 pub use token::{TokenFault, TokenParts, after, are_all_digits, read_token};
 pub use weights::Weights;
 pub use wording::{Code, Wording};

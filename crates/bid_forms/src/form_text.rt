@@ -1,11 +1,10 @@
 //! The text of a form.
 
 ghost use Rattle.std.specs.Prelude.{◌≡◌, ◌≢◌, ◌≤◌, ◌<◌, ◌+◌, ◌∷◌, [], None, Some, Err, IfOk, IsTrue, MatchOption, OnOk, ⊤, codes, length, map, option_map};
-ghost use Rattle.auction_terms.specs.Judged.{Holds, fault_of_whole};
+ghost use Rattle.auction_terms.specs.Judged.{Holds, IsReading, fault_of_whole};
 ghost use Rattle.auction_terms.specs.Records.{records_of};
 ghost use Rattle.auction_terms.specs.Stages.{Answers};
 ghost use Rattle.auction_terms.specs.Wording.{code_seen, wording_text};
-ghost use Rattle.auction_terms.specs.declared.limits.TheConstants.{MOST_FAULTS};
 ghost use Rattle.bid_forms.specs.FormFaultText.{earlier_bid, form_code, form_fault_text, form_place};
 ghost use Rattle.bid_forms.specs.FormText.{bids_faults, described_form, form_faults, form_of_records, is_form_memory, parsed_bid};
 ghost use Rattle.bid_forms.specs.Offers.{Meets, eligibility_of};
@@ -258,7 +257,7 @@ fn read_form_of(
 }
 
 // Adds the faults of the records of a text, or returns the form that they describe.
-fn judge_form(
+fn judge_records(
     alloc: Global,
     faults: &mut All<FormFault>,
     rules: &Rules,
@@ -311,26 +310,32 @@ pub fn read_form(alloc: Global, bytes: &[u8], rules: &Rules) -> Result<Form, For
     }
     let mut faults = All::new(alloc, 1);
     let mut reader = RecordReader::new(alloc, bytes);
-    match judge_form(alloc, &mut faults, rules, &mut reader, bytes)? {
+    match judge_records(alloc, &mut faults, rules, &mut reader, bytes)? {
         Some(form) => Ok(form),
         None => Err(faults.kept[0].fault),
     }
 }
 
-/// All faults of a text of a form, under rules.
-pub fn form_faults(alloc: Global, bytes: &[u8], rules: &Rules) -> Result<All<FormFault>, AllocError>
+/// The form that a text describes, under rules, or all faults of the text if it has any.
+pub fn judge_form(
+    alloc: Global,
+    bytes: &[u8],
+    rules: &Rules,
+) -> Result<Result<Form, All<FormFault>>, AllocError>
     ensures too_large { TEXT_LIMIT < length bytes.now
-        → IfOk result (λ faults. Holds MOST_FAULTS faults (fault_of_whole fault.TooLarge None ∷ [])) }
-    ensures all { length bytes.now ≤ TEXT_LIMIT
-        → IfOk result (λ faults. Holds MOST_FAULTS faults
+        → IfOk result (IsReading (Err fault.TooLarge) (fault_of_whole fault.TooLarge None ∷ [])) }
+    ensures answer { length bytes.now ≤ TEXT_LIMIT
+        → IfOk result (IsReading (form_of_records rules.now (records_of bytes.now))
         (form_faults rules.now (records_of bytes.now))) }
 {
     let mut faults = All::new(alloc, MOST_FAULTS);
     if bytes.len() > TEXT_LIMIT {
         faults.add(FaultAt::of_whole(FormFault::TooLarge, None))?;
-        return Ok(faults);
+        return Ok(Err(faults));
     }
     let mut reader = RecordReader::new(alloc, bytes);
-    judge_form(alloc, &mut faults, rules, &mut reader, bytes)?;
-    Ok(faults)
+    match judge_records(alloc, &mut faults, rules, &mut reader, bytes)? {
+        Some(form) => Ok(Ok(form)),
+        None => Ok(Err(faults)),
+    }
 }

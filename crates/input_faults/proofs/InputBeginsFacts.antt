@@ -88,7 +88,7 @@ begin-one-form t number text =
     by-judged (fault.Form number) form.TooLarge text (form_faults t (records_of text)) (form_of_records t (records_of text))
     (begin-first (form_faults t (records_of text)) _)
 
-begin-group-text : (t : Terms) (text : List ℕ) → BeginWith (judged_as refusal_of (faults_of_groups t text)) (parsed_groups t text)
+pub begin-group-text : (t : Terms) (text : List ℕ) → BeginWith (judged_as refusal_of (faults_of_groups t text)) (parsed_groups t text)
 begin-group-text t text = by-judged fault.Groups groups.TooLarge text (group_faults t.bidders text) (groups_of t.bidders text)
     (begin-first (group_faults t.bidders text) _)
 

@@ -7,15 +7,15 @@ ghost use Rattle.auction_input.specs.ParsedTexts.{parsed_form};
 ghost use Rattle.auction_terms.specs.Judged.{Fault as Judged, Holds};
 ghost use Rattle.auction_terms.specs.declared.limits.TheConstants.{MOST_FAULTS};
 ghost use Rattle.auction_terms.specs.Stages.{each_in_turn};
-ghost use Rattle.input_faults.specs.inside.Finding.{FindsMore};
+ghost use Rattle.input_faults.specs.inside.Finding.{AreGroupsOf, FindsMore, unmet_with};
 ghost use Rattle.input_faults.specs.InputFaults.{call_fault, faults_in_parts, faults_of_forms, faults_of_parts};
-ghost use Rattle.input_faults.specs.InputFaults.{faults_under, input_faults, text_fault, unmet_faults, unmet_under};
+ghost use Rattle.input_faults.specs.InputFaults.{faults_under, input_faults, text_fault, unmet_faults};
 ghost use Rattle.input_faults.specs.declared.fault.Fault as declared;
 
 use crate::fault::Fault;
 use crate::merging::{add_another, add_call, add_unmet};
 use crate::part_faults::{uncounted_fault, uncut_fault};
-use crate::reading::{Together, groups_in, take_forms, take_groups, take_rules};
+use crate::reading::{Together, take_forms, take_groups, take_rules};
 use auction_input::{
     Input, Numbers, Part, PartFault, PartKind, Request, Target, miscounted, proof_wants,
     solution_wants, split_parts, text_numbers_of, text_of, texts_of,
@@ -97,24 +97,25 @@ fn take_form_parts(
     Ok(together)
 }
 
-// Adds the faults of forms and groups under the rules.
+// Adds the faults of forms and groups under the rules, and returns the groups, if they have none.
 fn take_under(
     alloc: Global,
     faults: &mut All<Fault>,
     parts: &[Part<'_>],
     rules: &Rules,
     last_wins: bool,
-) -> Result<(), AllocError>
-    ensures { OnOk result (FindsMore faults.old faults.new
+) -> Result<Option<Groups>, AllocError>
+    ensures faults { OnOk result (FindsMore faults.old faults.new
         (faults_under last_wins (text_numbers (codes "%form") (parts_held parts.now))
         (parts_named (codes "%form") (parts_held parts.now))
         (only_text (parts_named (codes "%groups") (parts_held parts.now))) rules.now)) }
+    ensures groups { IfOk result (AreGroupsOf rules.now (parts_held parts.now)) }
 {
     let together = take_form_parts(alloc, faults, parts, rules, last_wins)?;
     add_another(faults, together.another)?;
-    take_groups(alloc, faults, text_of(parts, PartKind::Groups), rules)?;
+    let groups = take_groups(alloc, faults, text_of(parts, PartKind::Groups), rules)?;
     add_call(faults, together.beyond_limit)?;
-    Ok(())
+    Ok(groups)
 }
 
 // Adds what a command wants of parts with these groups, and they haven't got.
@@ -138,36 +139,21 @@ fn add_wanted(
     }
 }
 
-// Adds what a command wants of these parts, and they haven't got, if their groups are read.
+// Adds what the command that is named, if one is, wants of parts with these groups, if there are any, and they haven't got.
 fn take_wanted(
-    alloc: Global,
-    faults: &mut All<Fault>,
-    command: Target,
-    parts: &[Part<'_>],
-    rules: &Rules,
-) -> Result<(), AllocError>
-    ensures { OnOk result (FindsMore faults.old faults.new
-        (unmet_under (Some command) (parts_held parts.now) rules.now)) }
-{
-    match groups_in(alloc, text_of(parts, PartKind::Groups), rules)? {
-        Some(groups) => add_wanted(faults, command, parts, &groups),
-        None => Ok(()),
-    }
-}
-
-// The same of a command, if one is named: else nothing is wanted.
-fn take_wanted_by(
-    alloc: Global,
     faults: &mut All<Fault>,
     command: Option<Target>,
     parts: &[Part<'_>],
-    rules: &Rules,
+    groups: Option<Groups>,
 ) -> Result<(), AllocError>
     ensures { OnOk result (FindsMore faults.old faults.new
-        (unmet_under command (parts_held parts.now) rules.now)) }
+        (unmet_with command (parts_held parts.now) groups)) }
 {
+    let Some(groups) = groups else {
+        return Ok(());
+    };
     match command {
-        Some(command) => take_wanted(alloc, faults, command, parts, rules),
+        Some(command) => add_wanted(faults, command, parts, &groups),
         None => Ok(()),
     }
 }
@@ -187,9 +173,8 @@ fn take_texts(
     let Some(rules) = take_rules(alloc, faults, rules)? else {
         return Ok(());
     };
-    take_under(alloc, faults, parts, &rules, last_wins)?;
-    take_wanted_by(alloc, faults, command, parts, &rules)?;
-    Ok(())
+    let groups = take_under(alloc, faults, parts, &rules, last_wins)?;
+    take_wanted(faults, command, parts, groups)
 }
 
 /// All faults of the input of a request.

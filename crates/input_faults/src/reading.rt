@@ -1,83 +1,19 @@
 //! Reading texts, with all faults of each that is refused.
 
-ghost use Rattle.std.specs.Prelude.{◌≡◌, Err, IfOk, MatchOption, Ok, OnOk, false, length};
+ghost use Rattle.std.specs.Prelude.{◌≡◌, Err, IfOk, MatchOption, Ok, OnOk, length};
 ghost use Rattle.auction_input.specs.ParsedTexts.{parsed_form, parsed_groups, parsed_terms};
 ghost use Rattle.auction_input.specs.declared.refusal.Refusal.{Refusal};
 ghost use Rattle.auction_terms.specs.Lines.{bytes_of};
-ghost use Rattle.auction_terms.specs.GroupsText.{is_groups_memory};
-ghost use Rattle.auction_terms.specs.RulesText.{is_rules_memory};
 ghost use Rattle.auction_terms.specs.Stages.{each_in_turn};
-ghost use Rattle.bid_forms.specs.FormText.{is_form_memory};
 ghost use Rattle.input_faults.specs.inside.Finding.{FindsMore};
 ghost use Rattle.input_faults.specs.InputFaults.{call_fault, faults_of_form, faults_of_forms, faults_of_groups, faults_of_rules, text_fault};
 
 use crate::fault::Fault;
 use crate::merging::{add_form, add_groups, add_rules};
 use auction_input::{AnotherForm, Calls, FormTexts};
-use auction_terms::{
-    All, GroupFault, Groups, Rules, RulesFault, group_faults, read_groups, read_rules, rules_faults,
-};
-use bid_forms::{Form, FormFault, form_faults, read_form};
+use auction_terms::{All, Groups, Rules, judge_groups, judge_rules};
+use bid_forms::{Form, judge_form};
 use std::alloc::{AllocError, Global};
-
-// Tests that a fault of rules isn't that memory was refused.
-fn check_rules_fault(fault: RulesFault) -> Result<(), AllocError>
-    ensures { OnOk result (is_rules_memory fault ≡ false) }
-{
-    match fault {
-        RulesFault::OutOfMemory => Err(AllocError),
-        _ => Ok(()),
-    }
-}
-
-// The same of a form.
-fn check_form_fault(fault: FormFault) -> Result<(), AllocError>
-    ensures { OnOk result (is_form_memory fault ≡ false) }
-{
-    match fault {
-        FormFault::OutOfMemory => Err(AllocError),
-        _ => Ok(()),
-    }
-}
-
-/// The rules that a text describes; `None` where it has a fault.
-pub fn rules_in(alloc: Global, text: &[u8]) -> Result<Option<Rules>, AllocError>
-    ensures { IfOk result (λ rules. MatchOption rules
-        ((r : Refusal) × (parsed_terms text.now ≡ Err r)) (λ t. parsed_terms text.now ≡ Ok t)) }
-{
-    match read_rules(alloc, text) {
-        Ok(rules) => Ok(Some(rules)),
-        Err(fault) => {
-            check_rules_fault(fault)?;
-            Ok(None)
-        }
-    }
-}
-
-// Tests that a fault of groups isn't that memory was refused.
-fn check_groups_fault(fault: GroupFault) -> Result<(), AllocError>
-    ensures { OnOk result (is_groups_memory fault ≡ false) }
-{
-    match fault {
-        GroupFault::OutOfMemory => Err(AllocError),
-        _ => Ok(()),
-    }
-}
-
-/// The groups that a text describes under the rules; `None` where it has a fault.
-pub fn groups_in(alloc: Global, text: &[u8], rules: &Rules) -> Result<Option<Groups>, AllocError>
-    ensures { IfOk result (λ groups. MatchOption groups
-        ((r : Refusal) × (parsed_groups rules.now text.now ≡ Err r))
-        (λ lists. parsed_groups rules.now text.now ≡ Ok lists)) }
-{
-    match read_groups(alloc, text, rules) {
-        Ok(groups) => Ok(Some(groups)),
-        Err(fault) => {
-            check_groups_fault(fault)?;
-            Ok(None)
-        }
-    }
-}
 
 /// Adds the faults of a text of rules, or returns the rules.
 pub fn take_rules(
@@ -89,11 +25,9 @@ pub fn take_rules(
     ensures rules { IfOk result (λ rules. MatchOption rules
         ((r : Refusal) × (parsed_terms text.now ≡ Err r)) (λ t. parsed_terms text.now ≡ Ok t)) }
 {
-    match read_rules(alloc, text) {
+    match judge_rules(alloc, text)? {
         Ok(rules) => Ok(Some(rules)),
-        Err(fault) => {
-            check_rules_fault(fault)?;
-            let found = rules_faults(alloc, text)?;
+        Err(found) => {
             add_rules(faults, found)?;
             Ok(None)
         }
@@ -114,11 +48,9 @@ fn take_form(
         ((r : Refusal) × (parsed_form rules.now number text.now ≡ Err r))
         (λ form. parsed_form rules.now number text.now ≡ Ok form)) }
 {
-    match read_form(alloc, text, rules) {
+    match judge_form(alloc, text, rules)? {
         Ok(form) => Ok(Some(form)),
-        Err(fault) => {
-            check_form_fault(fault)?;
-            let found = form_faults(alloc, text, rules)?;
+        Err(found) => {
             add_form(faults, number, found)?;
             Ok(None)
         }
@@ -177,17 +109,24 @@ pub fn take_forms(
     })
 }
 
-/// Adds the faults of a text of groups.
+/// Adds the faults of a text of groups, or returns the groups.
 pub fn take_groups(
     alloc: Global,
     faults: &mut All<Fault>,
     text: &[u8],
     rules: &Rules,
-) -> Result<(), AllocError>
-    ensures { OnOk result (FindsMore faults.old faults.new
+) -> Result<Option<Groups>, AllocError>
+    ensures faults { OnOk result (FindsMore faults.old faults.new
         (faults_of_groups rules.now text.now)) }
+    ensures groups { IfOk result (λ groups. MatchOption groups
+        ((r : Refusal) × (parsed_groups rules.now text.now ≡ Err r))
+        (λ lists. parsed_groups rules.now text.now ≡ Ok lists)) }
 {
-    let found = group_faults(alloc, text, rules)?;
-    add_groups(faults, found)?;
-    Ok(())
+    match judge_groups(alloc, text, rules)? {
+        Ok(groups) => Ok(Some(groups)),
+        Err(found) => {
+            add_groups(faults, found)?;
+            Ok(None)
+        }
+    }
 }

@@ -10,5 +10,5 @@ returns-clause-answer c short =
     let held = rw c.new-faults.ensures.limit at c.in_ok-rules.ensures.told in
     let some = rw c.in-None.is at c.in_ok-rules.ensures.rules in
     let first : Err c.index.result.now.fault ≡ rules_of_records (records_of c.args.bytes.now) =
-    rw c.index.ensures (first-reported c.judge_rules.new.faults (records_of c.args.bytes.now) c.index.result.now held some) in
+    rw c.index.ensures (first-reported c.judge_text.new.faults (records_of c.args.bytes.now) c.index.result.now held some) in
     answers-parsed is_rules_memory _ (rules_of_records (records_of c.args.bytes.now)) first

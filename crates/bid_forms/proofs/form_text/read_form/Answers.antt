@@ -7,14 +7,14 @@ use Rattle.bid_forms.proofs.form_text.read_form.Goals as goal
 
 pub index-requires : goal.index-requires
 index-requires c =
-    let kept : 1 ≤ length c.judge_form.new.faults.kept.items =
-    enough-kept 1 c.new-faults.result c.judge_form.new.faults _ (omega arith) c.new-faults.ensures c.in_ok-form.ensures.found
+    let kept : 1 ≤ length c.judge_records.new.faults.kept.items =
+    enough-kept 1 c.new-faults.result c.judge_records.new.faults _ (omega arith) c.new-faults.ensures c.in_ok-form.ensures.found
     (rw c.in-None.is at c.in_ok-form.ensures.none) in
     search rules
 
 pub returns-clause-answer : goal.returns-clause-answer
 returns-clause-answer c small =
-    let faults = c.judge_form.new.faults in
+    let faults = c.judge_records.new.faults in
     let found = rw c.new-reader.ensures.all at c.in_ok-form.ensures.found in
     let some = rw (c.in-None.is, c.new-reader.ensures.all) at c.in_ok-form.ensures.none in
     let kept = enough-kept 1 c.new-faults.result faults _ (omega arith) c.new-faults.ensures found some in

@@ -7,7 +7,7 @@ use Rattle.auction_terms.specs.Judged.{Fault, HoldsMore}
 use Rattle.auction_terms.specs.Lines.{lines_of}
 use Rattle.auction_terms.specs.declared.groups_text.GroupFault.{GroupFault}
 use Rattle.auction_terms.specs.declared.limits.TheConstants.{MOST_GROUPS}
-use Rattle.auction_terms.proofs.groups_text.judge_groups.Given as goal
+use Rattle.auction_terms.proofs.groups_text.judge_lines.Given as goal
 
 abbrev pub invariant-loop-line : goal.invariant-loop-line
 invariant-loop-line l = (so_far : List (Fault GroupFault)) × (accepted : List (List ℕ))

@@ -1,9 +1,0 @@
-use Rattle.std.proofs.Common.{[]}
-use Rattle.auction_terms.specs.declared.limits.TheConstants.{MOST_FAULTS}
-use Rattle.auction_terms.proofs.groups_text.group_faults.Goals as goal
-
-pub returns-then-bytes-gt-TEXT_LIMIT-clause-too_large : goal.returns-then-bytes-gt-TEXT_LIMIT-clause-too_large
-returns-then-bytes-gt-TEXT_LIMIT-clause-too_large c large = (let held = c.in_ok-add.ensures MOST_FAULTS [] c.new-all.ensures in rw c.of_whole.ensures at held)
-
-pub returns-clause-all : goal.returns-clause-all
-returns-clause-all c small = (let held = c.in_ok-judge_groups.ensures.told MOST_FAULTS [] c.new-all.ensures in rw c.bidders.ensures.value at held)
