@@ -58,7 +58,18 @@ counted_as (refusal.RowBroken n name) = Some (counted.Kind kind_of_part.Solution
 counted_as (refusal.Certificate n f) = elim (f.kind) [ certificate.OutOfMemory ↦ None | k ↦ Some (counted.Kind kind_of_part.Certificate, n) ]
 counted_as (refusal.Unique f) = elim (f.kind) [ certificate.OutOfMemory ↦ None | k ↦ Some (counted.Kind kind_of_part.Unique, 1) ]
 counted_as (refusal.Tie n f) = Some (counted.Kind kind_of_part.Tie, unwrap_or n 1)
-counted_as r = None
+counted_as (refusal.Parts part.OutOfMemory) = None
+counted_as (refusal.Input f) = None
+counted_as (refusal.PartCount k) = None
+counted_as (refusal.Round f) = None
+counted_as (refusal.Program f) = None
+counted_as (refusal.Prices f) = None
+counted_as (refusal.MissingPrice name) = None
+counted_as (refusal.Cover f) = None
+counted_as (refusal.Rule f) = None
+counted_as (refusal.NoGroupAlone name) = None
+counted_as (refusal.Write f) = None
+counted_as refusal.OutOfMemory = None
 
 -- the text, among these, that has the part of this number, counting parts of its kind through all texts, and its number there
 abbrev spot_by : List Given → Option (Counted × ℕ) → Option Spot

@@ -85,7 +85,10 @@ proof_wants n =
 abbrev pub wants : Option Target → Numbers → List (Bool × Unmet)
 wants (Some target.Report) n = solution_wants n
 wants (Some target.Verify) n = solution_wants n ++ proof_wants n
-wants command n = []
+wants (Some target.Text) n = []
+wants (Some target.Compile) n = []
+wants (Some target.Map) n = []
+wants None n = []
 
 -- ---- the refusals
 

@@ -178,7 +178,25 @@ impl Refusal {
             | Refusal::RowBroken { solution, .. } => *solution,
             Refusal::Certificate { certificate, .. } => *certificate,
             Refusal::Tie { tie: Some(tie), .. } => *tie,
-            _ => 0,
+            Refusal::Parts(PartFault::BeforeFirst | PartFault::OutOfMemory)
+            | Refusal::Tie { tie: None, .. }
+            | Refusal::Input(_)
+            | Refusal::PartCount(_)
+            | Refusal::Rules(_)
+            | Refusal::AnotherForm(_)
+            | Refusal::Groups(_)
+            | Refusal::Round(_)
+            | Refusal::NoGroup { .. }
+            | Refusal::FirstGroupNotEmpty
+            | Refusal::Program(_)
+            | Refusal::Unique(_)
+            | Refusal::Prices(_)
+            | Refusal::MissingPrice { .. }
+            | Refusal::Cover(_)
+            | Refusal::Rule(_)
+            | Refusal::NoGroupAlone { .. }
+            | Refusal::Write(_)
+            | Refusal::OutOfMemory => 0,
         }
     }
 

@@ -138,7 +138,18 @@ impl Refusal {
             Refusal::Certificate { certificate, .. } => (PartKind::Certificate, *certificate),
             Refusal::Unique(_) => (PartKind::Unique, 1),
             Refusal::Tie { tie, .. } => (PartKind::Tie, tie.unwrap_or(1)),
-            _ => return None,
+            Refusal::Parts(PartFault::OutOfMemory)
+            | Refusal::Input(_)
+            | Refusal::PartCount(_)
+            | Refusal::Round(_)
+            | Refusal::Program(_)
+            | Refusal::Prices(_)
+            | Refusal::MissingPrice { .. }
+            | Refusal::Cover(_)
+            | Refusal::Rule(_)
+            | Refusal::NoGroupAlone { .. }
+            | Refusal::Write(_)
+            | Refusal::OutOfMemory => return None,
         };
         Some((Counted::Kind(kind), number))
     }

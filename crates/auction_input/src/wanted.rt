@@ -171,6 +171,6 @@ pub fn check_wanted(command: Option<Target>, auction: &Auction<'_>) -> Result<()
             check_each(&solution_wants(&numbers))?;
             check_each(&proof_wants(&numbers))
         }
-        _ => Ok(()),
+        Some(Target::Text | Target::Compile | Target::Map) | None => Ok(()),
     }
 }
