@@ -20,6 +20,7 @@ pub mod GroupsTextFacts
 mod AcceptedGroupsFacts
 mod NoFaultFacts
 pub mod AcceptedRulesFacts
+pub mod DescribedFacts
 pub mod WeighedFacts
 pub mod PackageFacts
 pub mod AllocationFacts
@@ -28,3 +29,4 @@ pub mod OfferFacts
 pub mod LimitFacts
 pub mod LotsFacts
 pub mod Worked
+mod WorkedDescribed

@@ -28,6 +28,7 @@ pub mod GroupNames
 pub mod GroupsText
 pub mod AcceptedGroups
 pub mod AcceptedRules
+pub mod Described
 pub mod RulesFaultText
 pub mod GroupFaultText
 pub mod Wording

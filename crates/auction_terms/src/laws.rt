@@ -1,9 +1,10 @@
 //! Laws over the definitions alone: which fault is the first, what presolve may drop so that nothing is lost, and the limits, each with its number.
 
-ghost use Rattle.std.specs.Prelude.{◌≡◌, ◌↔◌, ℕ, List, [], Some};
+ghost use Rattle.std.specs.Prelude.{◌≡◌, ◌↔◌, ℕ, List, [], Ok, Some};
 ghost use Rattle.auction_terms.specs.Accepted.{AreOfItems, StaysFaultless};
 ghost use Rattle.auction_terms.specs.FaultsOfRules.{RulesFaultsAreOfRecords};
-ghost use Rattle.auction_terms.specs.GroupsText.{group_faults, line_faults, name_faults};
+ghost use Rattle.auction_terms.specs.Described.{DescribeRules, DescribesGroups};
+ghost use Rattle.auction_terms.specs.GroupsText.{group_faults, groups_of, line_faults, name_faults};
 ghost use Rattle.auction_terms.specs.AcceptedGroups.{AreGroupLines};
 ghost use Rattle.auction_terms.specs.AcceptedRules.{AreRulesRecords};
 ghost use Rattle.auction_terms.specs.Packages.{SmallerFits, SmallerLoadsNoMore};
@@ -12,7 +13,8 @@ ghost use Rattle.auction_terms.specs.Domination.{SmallerSizesSuffice};
 ghost use Rattle.auction_terms.specs.Keeping.{KeepsTheBest, KeptAreEnough};
 ghost use Rattle.auction_terms.specs.Limits.{KeptAreOffers};
 ghost use Rattle.auction_terms.specs.Records.{Record};
-ghost use Rattle.auction_terms.specs.RulesText.{fault_of_entry, rules_faults, version_of};
+ghost use Rattle.auction_terms.specs.RulesText.{fault_of_entry, rules_faults, rules_of_records, version_of};
+ghost use Rattle.auction_terms.specs.Terms.{Terms};
 ghost use Rattle.auction_terms.specs.declared.record_kinds.Version.{Version};
 ghost use Rattle.auction_terms.specs.declared.rules.Bidder.{Bidder};
 ghost use Rattle.auction_terms.specs.declared.limits.TheConstants.{GREATEST_AMOUNT, GREATEST_POINTS, GREATEST_QUANTITY};
@@ -33,15 +35,19 @@ pub fn faults_of_rules_are_of_their_records()
     ensures records { (version : Version) → AreOfItems (fault_of_entry version) }
 {}
 
-/// A text of rules has no fault exactly if its records may be those of rules.
+/// A text of rules has no fault exactly if its records may be those of rules; and the rules that they describe are what is read.
 pub fn accepted_rules_are_these()
-    ensures { (records : List Record) → rules_faults records ≡ [] ↔ AreRulesRecords records }
+    ensures accepted { (records : List Record) → rules_faults records ≡ [] ↔ AreRulesRecords records }
+    ensures read { (records : List Record) (rules : Terms)
+        → rules_of_records records ≡ Ok rules ↔ DescribeRules records rules }
 {}
 
-/// A text of groups has no fault exactly if each of its lines may be one of them.
+/// A text of groups has no fault exactly if each of its lines may be one of them; and the groups that they describe are what is read.
 pub fn accepted_groups_are_these()
-    ensures { (bidders : List Bidder) (text : List ℕ)
+    ensures accepted { (bidders : List Bidder) (text : List ℕ)
         → group_faults bidders text ≡ [] ↔ AreGroupLines bidders text }
+    ensures read { (bidders : List Bidder) (text : List ℕ) (groups : List (List ℕ))
+        → groups_of bidders text ≡ Ok groups ↔ DescribesGroups bidders text groups }
 {}
 
 /// The faults of groups are those of their lines, each by itself.

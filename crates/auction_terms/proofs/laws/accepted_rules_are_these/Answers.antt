@@ -1,5 +1,6 @@
 use Rattle.auction_terms.proofs.AcceptedRulesFacts.{none-rules}
+use Rattle.auction_terms.proofs.DescribedFacts.{described-rules}
 use Rattle.auction_terms.proofs.laws.accepted_rules_are_these.Goals as goal
 
 pub returns : goal.returns
-returns c records = none-rules records
+returns c = record { accepted = none-rules; read = described-rules }
