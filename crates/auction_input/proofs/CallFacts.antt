@@ -36,7 +36,7 @@ counted-more counts forms form count long small counted one b within =
     ]
 
 -- a bidder that has a call left
-call-left : (before : List Offers) (form : Offers) → length (forms_of form.bidder before) < CALL_LIMIT → one_too_many before form ≡ None
+pub call-left : (before : List Offers) (form : Offers) → length (forms_of form.bidder before) < CALL_LIMIT → one_too_many before form ≡ None
 call-left before form few =
     elim (leb_tells CALL_LIMIT (length (forms_of form.bidder before))) [ inl (_, most) ↦ absurd (omega arith) | inr (is, _) ↦ rw is refl ]
 

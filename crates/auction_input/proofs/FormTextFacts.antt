@@ -30,7 +30,7 @@ none-known (Some first) not = absurd (not first refl)
 abbrev own : ℕ → Placed → Option ℕ
 own b form = if form.0.bidder == b then Some form.1 else None
 
-first-text-more : (b : ℕ) (forms : List Placed) (form : Placed) → first_text b (forms ++ form ∷ []) ≡ option_or (first_text b forms) (own b form)
+pub first-text-more : (b : ℕ) (forms : List Placed) (form : Placed) → first_text b (forms ++ form ∷ []) ≡ option_or (first_text b forms) (own b form)
 first-text-more b [] form = refl
 first-text-more b (x ∷ forms) form = elim (cases_Bool (x.0.bidder == b)) [ inl is ↦ rw is refl | inr other ↦ rw other (first-text-more b forms form) ]
 
@@ -40,11 +40,11 @@ first-text-other b forms form other = first-text-more b forms form
     ∙ ap (λ (t : Bool). option_or (first_text b forms) (cond t (Some form.1) None)) other ∙ option_or-none (first_text b forms)
 
 -- nor does one of a bidder whose first form is known
-first-text-known : (b first : ℕ) (forms : List Placed) (form : Placed) → first_text b forms ≡ Some first → first_text b (forms ++ form ∷ []) ≡ Some first
+pub first-text-known : (b first : ℕ) (forms : List Placed) (form : Placed) → first_text b forms ≡ Some first → first_text b (forms ++ form ∷ []) ≡ Some first
 first-text-known b first forms form known = first-text-more b forms form ∙ ap (λ (o : Option ℕ). option_or o (own b form)) known
 
 -- the first form of a bidder is its own first one
-first-text-own : (forms : List Placed) (form : Placed) → first_text form.0.bidder forms ≡ None → first_text form.0.bidder (forms ++ form ∷ []) ≡ Some form.1
+pub first-text-own : (forms : List Placed) (form : Placed) → first_text form.0.bidder forms ≡ None → first_text form.0.bidder (forms ++ form ∷ []) ≡ Some form.1
 first-text-own forms form none =
     first-text-more form.0.bidder forms form ∙ ap (λ (o : Option ℕ). option_or o (own form.0.bidder form)) none
     ∙ ap (λ (t : Bool). cond t (Some form.1) None) (is-equal form.0.bidder form.0.bidder refl)

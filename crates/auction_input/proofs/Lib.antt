@@ -10,6 +10,7 @@ mod FileFacts
 mod LookFacts
 pub mod FormStageFacts
 pub mod FormTextFacts
+pub mod DescribedFacts
 pub mod InputTextFacts
 pub mod LastFormFacts
 pub mod LimitFacts

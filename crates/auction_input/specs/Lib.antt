@@ -4,6 +4,7 @@ pub mod Requests
 pub mod Auction
 pub mod BookLeft
 pub mod Calls
+pub mod Described
 pub mod FileTexts
 pub mod FileLooks
 pub mod FileWords

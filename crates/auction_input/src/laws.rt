@@ -5,6 +5,7 @@ ghost use Rattle.std.specs.Prelude.{◌≡◌, ◌↔◌, Err, List, Ok};
 ghost use Rattle.auction_terms.specs.FirstFault.{TellsTheFirst};
 ghost use Rattle.auction_input.specs.Auction.{Auction, parsed_auction};
 ghost use Rattle.auction_input.specs.Calls.{one_too_many};
+ghost use Rattle.auction_input.specs.Described.{Describes};
 ghost use Rattle.auction_input.specs.FormTexts.{another_form};
 ghost use Rattle.auction_input.specs.Input.{Input};
 ghost use Rattle.auction_input.specs.LastForms.{FormParts, IsOfAuction, parsed_forms};
@@ -15,6 +16,12 @@ ghost use Rattle.auction_terms.specs.Terms.{Terms};
 ghost use Rattle.auction_input.specs.declared.refusal.Refusal.{Refusal};
 ghost use Rattle.auction_input.specs.declared.request.Request.{Request};
 ghost use Rattle.auction_input.specs.declared.request.Request.TheVariants as request;
+
+/// The auction that is read of an input is the one that the input describes; an input that describes none is refused.
+pub fn inputs_are_read_as_they_describe()
+    ensures { (asked : Request) (input : Input) (auction : Auction)
+        → parsed_auction asked input ≡ Ok auction ↔ Describes asked input auction }
+{}
 
 /// The parts of an input have the fault of the first of them with a fault.
 pub fn parts_tell_their_first_fault()
