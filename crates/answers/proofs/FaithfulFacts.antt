@@ -9,6 +9,7 @@ use Rattle.answers.specs.Programs.{program_for}
 use Rattle.auction_input.specs.declared.request.Request.{Request}
 use Rattle.auction_input.specs.declared.request.Request.TheVariants as request
 use Rattle.auction_input.proofs.AnswerFacts.{ok-after, ok-is}
+use Rattle.auction_input.proofs.DescribedFacts.{described-auction}
 use Rattle.auction_input.proofs.WithinFacts.{auction-within}
 use Rattle.mps_text.specs.FaithfulText.{IsFaithfulText}
 use Rattle.mps_text.specs.Text.{text}
@@ -55,7 +56,7 @@ text-is-faithful input out parsed =
     let (auction, auction_is, made) = ok-after (parsed_auction request.Text input) (output_of request.Text) out parsed in
     let is : text (program_for auction.sale []) ≡ out = ok-is _ (text (program_for auction.sale [])) out refl made in (
       auction,
-      auction_is,
+      (described-auction request.Text input auction).0 auction_is,
       subst (λ (bytes : List ℕ). IsFaithfulText auction.sale.lots auction.sale.book (λ b. false)
           bytes) is (faithful-without request.Text input auction auction_is []),
     )
@@ -65,7 +66,7 @@ compiled-is-faithful workers input out parsed =
     let (auction, auction_is, made) = ok-after (parsed_auction (request.Compile workers) input) (output_of (request.Compile workers)) out parsed in
     let is : in_turn (program_text auction.sale) 1 auction.groups ≡ out = ok-is _ (in_turn (program_text auction.sale) 1 auction.groups) out refl made in (
       auction,
-      auction_is,
+      (described-auction (request.Compile workers) input auction).0 auction_is,
       subst (AreFaithfulTexts auction.sale 1 auction.groups) is
           (faithful-texts auction.sale (faithful-without (request.Compile workers) input auction auction_is) 1 auction.groups),
     )

@@ -11,6 +11,7 @@ use Rattle.auction_input.specs.declared.part_kind.PartKind.TheVariants as part
 use Rattle.auction_input.specs.declared.refusal.Refusal.TheVariants as refusal
 use Rattle.auction_input.specs.declared.request.Request.TheVariants as request
 use Rattle.auction_input.proofs.AnswerFacts.{ok-after, ok-is}
+use Rattle.auction_input.proofs.DescribedFacts.{described-auction}
 use Rattle.auction_input.proofs.WithinFacts.{auction-within}
 use Rattle.outcome.specs.Report.{allocation_text, report_text}
 use Rattle.bid_desk.specs.Sale.{Sale}
@@ -42,7 +43,7 @@ reported-is-feasible workers input out parsed =
     (length auction.solutions == length auction.groups) _ won wins in
     let text : report_text auction.sale auction.groups won ≡ out = ok-is _ (report_text auction.sale auction.groups won) out refl written in (
       auction,
-      auction_is,
+      (described-auction (request.Report workers) input auction).0 auction_is,
       record {
         won = won;
         text = sym text;
@@ -59,4 +60,4 @@ mapped-is-feasible k input out parsed =
     let (known, written) = when-counted (nat_le k (length auction.groups)) _ (refusal.NoGroup k) out made in
     let (won, wins, printed) = ok-after (winners auction.sale 1 (group, only_text auction.solutions)) _ out written in
     let text : allocation_text auction.sale won ≡ out = ok-is _ (allocation_text auction.sale won) out refl printed in
-    (auction, auction_is, record { won = won; text = sym text; feasible = feasible-of auction.sale 1 group (only_text auction.solutions) won within wins })
+    (auction, (described-auction (request.Map k) input auction).0 auction_is, record { won = won; text = sym text; feasible = feasible-of auction.sale 1 group (only_text auction.solutions) won within wins })

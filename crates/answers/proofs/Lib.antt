@@ -29,6 +29,8 @@ mod SizeFacts
 pub mod VerifiedFacts
 pub mod AwardFacts
 pub mod VerifyFacts
+pub mod WrittenOnFacts
+mod WorkedDescribed
 mod WorkedGroups
 mod WorkedRefusals
 mod WorkedReport

@@ -45,6 +45,7 @@ use Rattle.auction_input.specs.declared.part_kind.PartKind.TheVariants as part
 use Rattle.auction_input.specs.declared.refusal.Refusal.TheVariants as refusal
 use Rattle.auction_input.specs.declared.request.Request.TheVariants as request
 use Rattle.auction_input.proofs.AnswerFacts.{ok-after, ok-is, ok-refused_as, unless-ok}
+use Rattle.auction_input.proofs.DescribedFacts.{described-auction}
 use Rattle.auction_input.proofs.WithinFacts.{auction-within}
 use Rattle.answers.proofs.ClaimedFacts.{some-group, wins-first}
 use Rattle.answers.proofs.EndFacts.{report-ends, says-no-other, says-unique}
@@ -216,7 +217,7 @@ pub verified-is-true : VerifiedIsTrue
 verified-is-true workers input out parsed =
     let (auction, auction_is, text) = ok-after (parsed_auction (request.Verify workers) input) (output_of (request.Verify workers)) out parsed in (
       auction,
-      auction_is,
+      (described-auction (request.Verify workers) input auction).0 auction_is,
       true-report auction out (auction-within (request.Verify workers) input auction auction_is).1 (auction-sized
           (request.Verify workers) input auction auction_is) (verdicts workers auction out text),
     )

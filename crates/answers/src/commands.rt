@@ -1,14 +1,17 @@
 //! The commands. The auction that the input describes is read here, for all of them, and handed to the command that is asked for.
 
-ghost use Rattle.std.specs.Prelude.{◌≢◌, Bool, IfErr, OnOk, Option};
+ghost use Rattle.std.specs.Prelude.{◌≡◌, ◌≢◌, ℕ, Bool, IfErr, OnOk, Option};
 ghost use Rattle.auction_input.specs.declared.request.Target.{Target};
 ghost use Rattle.byte_sinks.specs.declared.json.Format.{Format};
 ghost use Rattle.answers.specs.Answer.{answer, output_of};
 ghost use Rattle.answers.specs.Exact.{IsUnwritten, Writes};
+ghost use Rattle.answers.specs.FaithfulAnswers.{WritesFaithfulTextOn, WritesFaithfulTextsOn};
+ghost use Rattle.answers.specs.FeasibleAnswers.{WritesFeasibleReportOn, WritesFeasibleWinnersOn};
 ghost use Rattle.answers.specs.Runs.{AsksAnswer};
 ghost use Rattle.auction_input.specs.Requests.{IsRequestWithinLimits};
 ghost use Rattle.answers.specs.Sold.{HasSold};
 ghost use Rattle.answers.specs.Output.{IsWithoutOutput};
+ghost use Rattle.answers.specs.VerifiedInputs.{WritesTrueReportOn};
 ghost use Rattle.auction_input.specs.Settled.{held};
 
 pub mod check;
@@ -48,6 +51,21 @@ pub fn answer<R: Threads + Wait + Sync + AllocGlobal, S: Sink>(
     ensures written { OnOk result (Writes (answer request input.now) (S.state out.old)
         (S.state out.new)) }
     ensures sold { OnOk result (HasSold request input.now) }
+    ensures text { request ≡ Request.Text
+        → OnOk result (WritesFaithfulTextOn input.now (S.state out.old).taken
+        (S.state out.new).taken) }
+    ensures compiled { (workers : ℕ) → request ≡ Request.Compile workers
+        → OnOk result (WritesFaithfulTextsOn workers input.now (S.state out.old).taken
+        (S.state out.new).taken) }
+    ensures mapped { (group : ℕ) → request ≡ Request.Map group
+        → OnOk result (WritesFeasibleWinnersOn group input.now (S.state out.old).taken
+        (S.state out.new).taken) }
+    ensures reported { (workers : ℕ) → request ≡ Request.Report workers
+        → OnOk result (WritesFeasibleReportOn workers input.now (S.state out.old).taken
+        (S.state out.new).taken) }
+    ensures verified { (workers : ℕ) → request ≡ Request.Verify workers
+        → OnOk result (WritesTrueReportOn workers input.now (S.state out.old).taken
+        (S.state out.new).taken) }
     ensures asks { AsksAnswer request input.now }
     ensures refused { IfErr result (IsUnwritten request input.now
         (S.state out.old) (S.state out.new)) }

@@ -1,0 +1,58 @@
+use Rattle.std.proofs.Common.{◌≡◌}
+use Rattle.answers.proofs.WrittenOnFacts.{compiled-on, mapped-on, reported-on, text-on, verified-on}
+use Rattle.answers.proofs.commands.answer.Goals as goal
+
+pub returns-in-Check-clause-text : goal.returns-in-Check-clause-text
+returns-in-Check-clause-text g c is = (let other = c.in-Check.is in absurd (cc))
+
+pub returns-in-Check-clause-compiled : goal.returns-in-Check-clause-compiled
+returns-in-Check-clause-compiled g c workers is = (let other = c.in-Check.is in absurd (cc))
+
+pub returns-in-Check-clause-mapped : goal.returns-in-Check-clause-mapped
+returns-in-Check-clause-mapped g c group is = (let other = c.in-Check.is in absurd (cc))
+
+pub returns-in-Check-clause-reported : goal.returns-in-Check-clause-reported
+returns-in-Check-clause-reported g c workers is = (let other = c.in-Check.is in absurd (cc))
+
+pub returns-in-Check-clause-verified : goal.returns-in-Check-clause-verified
+returns-in-Check-clause-verified g c workers is = (let other = c.in-Check.is in absurd (cc))
+
+pub returns-in-Forms-clause-text : goal.returns-in-Forms-clause-text
+returns-in-Forms-clause-text g c is = (let other = c.in-Forms.is in absurd (cc))
+
+pub returns-in-Forms-clause-compiled : goal.returns-in-Forms-clause-compiled
+returns-in-Forms-clause-compiled g c workers is = (let other = c.in-Forms.is in absurd (cc))
+
+pub returns-in-Forms-clause-mapped : goal.returns-in-Forms-clause-mapped
+returns-in-Forms-clause-mapped g c group is = (let other = c.in-Forms.is in absurd (cc))
+
+pub returns-in-Forms-clause-reported : goal.returns-in-Forms-clause-reported
+returns-in-Forms-clause-reported g c workers is = (let other = c.in-Forms.is in absurd (cc))
+
+pub returns-in-Forms-clause-verified : goal.returns-in-Forms-clause-verified
+returns-in-Forms-clause-verified g c workers is = (let other = c.in-Forms.is in absurd (cc))
+
+pub returns-in_default-clause-text : goal.returns-in_default-clause-text
+returns-in_default-clause-text g c =
+    text-on c.args.request c.args.input.now c.answer_auction.result (g.S.Sink.state c.args.out.now) (g.S.Sink.state c.answer_auction.new.out)
+    c.answer_auction.ensures.written
+
+pub returns-in_default-clause-compiled : goal.returns-in_default-clause-compiled
+returns-in_default-clause-compiled g c =
+    compiled-on c.args.request c.args.input.now c.answer_auction.result (g.S.Sink.state c.args.out.now) (g.S.Sink.state c.answer_auction.new.out)
+    c.answer_auction.ensures.written
+
+pub returns-in_default-clause-mapped : goal.returns-in_default-clause-mapped
+returns-in_default-clause-mapped g c =
+    mapped-on c.args.request c.args.input.now c.answer_auction.result (g.S.Sink.state c.args.out.now) (g.S.Sink.state c.answer_auction.new.out)
+    c.answer_auction.ensures.written
+
+pub returns-in_default-clause-reported : goal.returns-in_default-clause-reported
+returns-in_default-clause-reported g c =
+    reported-on c.args.request c.args.input.now c.answer_auction.result (g.S.Sink.state c.args.out.now) (g.S.Sink.state c.answer_auction.new.out)
+    c.answer_auction.ensures.written
+
+pub returns-in_default-clause-verified : goal.returns-in_default-clause-verified
+returns-in_default-clause-verified g c =
+    verified-on c.args.request c.args.input.now c.answer_auction.result (g.S.Sink.state c.args.out.now) (g.S.Sink.state c.answer_auction.new.out)
+    c.answer_auction.ensures.written
