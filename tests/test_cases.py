@@ -11,8 +11,8 @@ import re
 import pytest
 from commands import ROOT
 from trials import cases, faults
-from trials.details import NUMBERED, is_line_of
-from trials.judging import done, refused, seen
+from trials.explain_details import NUMBERED, is_line_of
+from trials.program_runs import done, refused, seen
 from wdp import Refused
 
 # a refusal's part with its number, and the fault's number and name

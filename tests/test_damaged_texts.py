@@ -7,7 +7,7 @@ import tempfile
 
 import pytest
 from damage import TEXTS
-from trials.judging import done, refused, seen
+from trials.program_runs import done, refused, seen
 from trials.worked import ALPHA, MADE_ELSEWHERE, NO_COLUMN, ONE_BID_OF_ALPHA, ONE_COLUMN, RULES
 from trials.worked import TWO_BIDS_OF_ALPHA, auction, rules_and
 

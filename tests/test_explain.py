@@ -13,9 +13,9 @@ import pytest
 from damage import ACCEPTED, damage_input
 from tied_auctions import input_text, random_auction
 from trials import cases, left_out
-from trials.details import is_line_of
+from trials.explain_details import is_line_of
 from trials.faulty_inputs import PLANTED, limits, planted
-from trials.judging import row, seen
+from trials.program_runs import row, seen
 from trials.planted import BID_PLANTS, GROUP_PLANTS, RULES, Planted
 
 PARTS = b"%rules %form %groups %solution %certificate %unique %tie %prices %cover %rule".split()

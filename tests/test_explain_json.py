@@ -20,7 +20,7 @@ from damage import ACCEPTED, damage_input
 from tied_auctions import input_text, random_auction
 from trials import cases
 from trials.faulty_inputs import PLANTED, limits, planted
-from trials.judging import row, seen
+from trials.program_runs import row, seen
 from trials.planted import MOST_LINES
 from trials.program import ROOT
 

@@ -18,8 +18,8 @@ from pathlib import Path
 from typing import IO
 
 import pytest
-from trials import judging
-from trials.judging import TIME_LIMIT, Seen, done, refused
+from trials import program_runs
+from trials.program_runs import TIME_LIMIT, Seen, done, refused
 from trials.program import ROOT
 from trials.worked import ALPHA, BETA, GAMMA, ONE_COLUMN, rules_and
 
@@ -45,7 +45,7 @@ class Office:
         return subprocess.Popen([self.program, *words], cwd=self.folder, **how)
 
     def seen(self, *words: str, given: str | bytes | IO[bytes] = b"", **how: object) -> Seen:
-        return judging.seen(self.program, list(words), given, cwd=self.folder, **how)
+        return program_runs.seen(self.program, list(words), given, cwd=self.folder, **how)
 
     def snapshot(self) -> dict[str, bytes | bool]:
         """What is in the folder, and in its files."""
@@ -139,7 +139,7 @@ def test_words_that_are_refused(office: Office, words: str) -> None:
 
 def test_pipes_of_the_shell(office: Office) -> None:
     def in_shell(script: str) -> Seen:
-        return judging.seen("bash", ["-c", script, office.program], b"", cwd=office.folder)
+        return program_runs.seen("bash", ["-c", script, office.program], b"", cwd=office.folder)
 
     two = '"$0" text <(cat rules.txt) <(cat gamma.txt); "$0" text <(cat one.txt)'
     assert in_shell(two) == done(ONE_COLUMN * 2)

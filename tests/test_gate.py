@@ -14,12 +14,12 @@ from types import SimpleNamespace
 
 import pytest
 from commands import ROOT, read_text, find_processes, start, wait_for
-from gate import lanes, toolchain
+from gate import schedule, toolchain
 from gate.edits import Sources, edit_of
-from gate.said import is_within, findings_in
+from gate.check_output import is_within, findings_in
 from gate.steps import Steps, counts_in
 from gate.trial import Trial
-from trials.judging import seen
+from trials.program_runs import seen
 
 LIB = read_text("fixtures", "edits", "names.rt.txt")
 TAILS = "first second Name::new NameReader::new FaultFromHigh::from FaultFromLow::from".split()
@@ -187,7 +187,7 @@ def test_each_task_once_and_none_before_those_it_waits_for(capsys, processors, m
         tasks[proof] = below, 100 * n + 1, 10**9 * (n % 5), call_of(proof)
         tasks[tests] = below, 50 * (n % 3), 10**9, call_of(tests)
         tasks[edits] = [proof, tests], 70 * (n % 4), 10**9 * n, call_of(edits)
-    assert lanes.Lanes(tasks, processors, memory).run() == {key: key for key in tasks}
+    assert schedule.Lanes(tasks, processors, memory).run() == {key: key for key in tasks}
     assert sorted(ended) == sorted(tasks)
 
 
@@ -197,9 +197,9 @@ def test_tasks_that_cannot_end(capsys):
 
     first, second = ("a", "proof"), ("b", "proof")
     with pytest.raises(ValueError):
-        lanes.Lanes({first: ([second], 1, 1, call), second: ([first], 1, 1, call)}, 2, 10).run()
+        schedule.Lanes({first: ([second], 1, 1, call), second: ([first], 1, 1, call)}, 2, 10).run()
     with pytest.raises(OSError):
-        lanes.Lanes({first: ([], 1, 1, call), second: ([first], 1, 1, call)}, 2, 10).run()
+        schedule.Lanes({first: ([], 1, 1, call), second: ([first], 1, 1, call)}, 2, 10).run()
 
 
 def test_without_rt(tmp_path):

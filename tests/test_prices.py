@@ -17,7 +17,7 @@ from commands import run_program
 from damage import damage_certificate
 from price_judge import KINDS, Audit, Untrue
 from priced_auctions import Costs, drawn
-from trials.judging import done, row, seen
+from trials.program_runs import done, row, seen
 
 import wdp as package
 from wdp import certify, solve

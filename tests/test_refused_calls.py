@@ -7,7 +7,7 @@ import subprocess
 from pathlib import Path
 
 import pytest
-from trials.judging import refusals, row, seen
+from trials.program_runs import refusals, row, seen
 from trials.program import ROOT
 
 CRATES = Path(ROOT, "crates")

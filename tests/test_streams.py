@@ -13,7 +13,7 @@ from functools import partial
 import pytest
 from commands import ROOT, read_text
 from trials import cases
-from trials.judging import TIME_LIMIT, done, encoded, refusals, refused, row, seen, written_of
+from trials.program_runs import TIME_LIMIT, done, encoded, refusals, refused, row, seen, written_of
 from trials.worked import FOUR_COLUMNS, GAMMA, NO_COLUMN, ONE_COLUMN, SOLUTION_OF_ALL, WINNERS
 from trials.worked import auction, rules_and
 

@@ -15,7 +15,7 @@ import tied_auctions as tied
 from commands import ROOT, run_program
 from damage import damage_certificate
 from oracle import Checker
-from trials.judging import KINDS, done, refused, row, seen
+from trials.program_runs import KINDS, done, refused, row, seen
 from wdp.certify.layout import Layout
 from wdp.certify.other_points import Beaten, UniquenessSearch
 from wdp.certify.search import CertificateSearch

@@ -24,7 +24,7 @@ from commands import (
 )
 from damage import ACCEPTED, damage_input
 from wdp import files
-from wdp.office.judge import explain
+from wdp.office.explaining import explain
 from wdp.program import find_program
 from wdp.texts import accepted
 from wdp.texts.accepted import Bid, Category, Pool

@@ -20,7 +20,7 @@ from commands import (
     run_program,
 )
 from lost_auctions import NAMES, Lacked
-from trials.judging import row
+from trials.program_runs import row
 
 import wdp as package
 from wdp.folder import Folder

@@ -36,7 +36,7 @@ from commands import (
 from price_judge import format_prices
 from priced_auctions import Costs, drawn
 from tied_auctions import BIDDERS, Bid, Pool
-from trials.judging import row
+from trials.program_runs import row
 from wdp import certify, prices, rule, solve
 from wdp.certify import settling
 from wdp.certify.limits import TooLarge

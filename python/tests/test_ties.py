@@ -12,7 +12,7 @@ import pytest
 import tied_auctions
 from commands import SCHEMA, AuctionFolder, parse_rows, run, run_program
 from tied_auctions import BIDDERS
-from trials.judging import row
+from trials.program_runs import row
 
 import wdp as package
 from wdp import audits

@@ -17,7 +17,7 @@ from functools import reduce
 from pathlib import Path
 from typing import Any
 
-from gate.said import SAID
+from gate.check_output import SAID
 
 # What is used of rt, and of one that makes tasks of edits. A toolchain whose rt lacks one of them runs its gate as it is.
 USED = """main in_lanes processors free must_fail read_edit edits_of say KIT Crate.ci Crate.prove Crate.link rtlib.help_of rtlib.PARTS

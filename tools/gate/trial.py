@@ -24,7 +24,15 @@ from pathlib import Path
 from typing import Any
 
 from gate.edits import Edit, Place, Sources, edit_of
-from gate.said import PROMISES, VERDICT, Findings, goals_within, is_within, meaning_of, findings_in
+from gate.check_output import (
+    PROMISES,
+    VERDICT,
+    Findings,
+    goals_within,
+    is_within,
+    meaning_of,
+    findings_in,
+)
 from gate.variants import Variant, answers_of, copy_of, holes_for, texts_of, without_what_is_gone
 
 NO_HOLE = re.compile(r"^(?:\./)?(proofs/\S+/Proof\.antt):(?:\d+:\d+:)? error", re.M)

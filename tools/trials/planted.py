@@ -1,6 +1,6 @@
 """Auctions into which faults are planted, and the lines of `wdp explain` that report them, worked out from what was planted alone."""
 
-from trials.details import of_field, of_name
+from trials.explain_details import of_field, of_name
 
 # so many faults are told, and how many more there are
 MOST_LINES = 10_000

@@ -23,7 +23,7 @@ use Rattle.auction_input.proofs.AnswerFacts.{ok-after, ok-is}
 use Rattle.auction_input.proofs.InputTextFacts.{Text}
 use Rattle.auction_input.proofs.StageFacts.{next, stop}
 use Rattle.optimality.specs.Answers.{IsLimit, IsVerdict}
-use Rattle.optimality.specs.Only.{IsLargeOnlyAt, only_fault}
+use Rattle.optimality.specs.OnlyPoints.{IsLargeOnlyAt, only_fault}
 use Rattle.outcome.specs.Others.{Others, others_of}
 use Rattle.outcome.specs.PointAllocation.{allocation_of}
 use Rattle.outcome.specs.Solution.{solution}

@@ -12,16 +12,16 @@ use Rattle.answers.specs.Answer.{answer, output_of}
 use Rattle.answers.specs.Exact.{Writes}
 use Rattle.answers.specs.ExplainedFor.{ExplainsFor, IsNamed, IsOfParts, IsRefusedBy, IsTakenBy, RefusesSo}
 use Rattle.answers.specs.Runs.{IsTakenFor}
-use Rattle.auction_input.proofs.WantedFacts.{failed-after}
+use Rattle.auction_input.proofs.PartCountFacts.{failed-after}
 use Rattle.auction_input.specs.Auction.{Auction, parsed_auction}
 use Rattle.auction_input.specs.Input.{Input}
-use Rattle.auction_input.specs.Wanted.{claim_wants, has_certificates, numbers_of, pricing_wants, proof_wants}
-use Rattle.auction_input.specs.Wanted.{refused_unless, solution_wants, with_wanted, parsed_taken, wanted, wants}
+use Rattle.auction_input.specs.PartCounts.{claim_wants, has_certificates, numbers_of, pricing_wants, proof_wants}
+use Rattle.auction_input.specs.PartCounts.{refused_unless, solution_wants, with_wanted, parsed_taken, wanted, wants}
 use Rattle.auction_input.specs.declared.part_kind.PartKind.TheVariants as part
 use Rattle.auction_input.specs.declared.refusal.Refusal.TheVariants as refusal
 use Rattle.auction_input.specs.declared.refusal.Refusal.{Refusal}
-use Rattle.auction_input.specs.declared.wanted.Numbers.{Numbers}
-use Rattle.auction_input.specs.declared.wanted.Unmet.{Unmet}
+use Rattle.auction_input.specs.declared.part_counts.Numbers.{Numbers}
+use Rattle.auction_input.specs.declared.part_counts.Unmet.{Unmet}
 use Rattle.auction_terms.specs.FirstFault.{first_failed}
 use Rattle.auction_terms.specs.Stages.{and_then, each_in_turn, refused_as, unless}
 use Rattle.auction_terms.specs.Terms.{Terms}
@@ -48,7 +48,7 @@ use Rattle.answers.specs.Programs.{program_for}
 use Rattle.answers.specs.SolutionWinners.{solution_refused, winners_by, winners_of_groups}
 use Rattle.outcome.specs.Pricing.{Priced, pricing_text}
 use Rattle.outcome.specs.Report.{allocation_text, report_text}
-use Rattle.optimality.specs.Only.{only_fault}
+use Rattle.optimality.specs.OnlyPoints.{only_fault}
 use Rattle.auction_input.specs.declared.tie_fault.TieFault.{TieFault}
 use Rattle.outcome.specs.Solution.{solution}
 use Rattle.outcome.specs.Others.{Others, others_text}

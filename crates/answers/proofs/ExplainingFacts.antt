@@ -10,7 +10,7 @@ use Rattle.byte_sinks.specs.declared.json.Format.{Format}
 use Rattle.answers.specs.Runs.{AsksAnswer}
 use Rattle.auction_input.specs.Auction.{Auction, parsed_auction}
 use Rattle.auction_input.specs.declared.refusal.Refusal.{Refusal}
-use Rattle.auction_input.specs.Wanted.{numbers_of, refused_unless, parsed_taken, wanted, wants, with_wanted}
+use Rattle.auction_input.specs.PartCounts.{numbers_of, refused_unless, parsed_taken, wanted, wants, with_wanted}
 use Rattle.auction_terms.specs.FirstFault.{first_failed}
 use Rattle.auction_terms.specs.Stages.{and_then, unless}
 use Rattle.input_faults.proofs.ExplainFacts.{nothing-explained}

@@ -7,7 +7,7 @@ use Rattle.answers.specs.inside.Forms.{held_line, lines_held, held_text}
 use Rattle.auction_input.specs.Input.{Input}
 use Rattle.auction_input.specs.LastForms as read
 use Rattle.auction_input.specs.LastForms.{HoldsLast, HoldsParts, counted, counted_held, last_form, parsed_forms}
-use Rattle.auction_input.specs.Calls.{one_too_many}
+use Rattle.auction_input.specs.CallLimit.{one_too_many}
 use Rattle.auction_input.specs.FormTexts.{in_one_text}
 use Rattle.auction_input.specs.ParsedParts.{only_text, parsed_parts}
 use Rattle.auction_input.specs.ParsedTexts.{parsed_form, parsed_terms}

@@ -36,5 +36,5 @@ mod WorkedRefusals
 mod WorkedReport
 mod WorkedSizes
 mod WorkedText
-mod WorkedThree
+mod WorkedThreeForms
 mod WorkedWinners

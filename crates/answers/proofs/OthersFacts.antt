@@ -24,7 +24,7 @@ use Rattle.auction_input.specs.declared.tie_fault.TieFault.{TieFault}
 use Rattle.auction_input.proofs.AnswerFacts.{ok-after, ok-is, ok-refused_as, unless-ok, unless-parsed}
 use Rattle.optimality.proofs.OnlyFacts.{shown-is-only}
 use Rattle.optimality.proofs.VerdictFacts.{only-verdict}
-use Rattle.optimality.specs.Only.{only_fault}
+use Rattle.optimality.specs.OnlyPoints.{only_fault}
 use Rattle.outcome.proofs.BackFacts.{back_bidders, points_come_back, same_sum, solutions_come_back}
 use Rattle.outcome.proofs.OtherFacts.{others_are_true}
 use Rattle.outcome.proofs.PointFacts.{solutions_are_points}

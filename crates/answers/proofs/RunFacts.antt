@@ -14,7 +14,7 @@ use Rattle.answers.specs.Answer.{answer}
 use Rattle.answers.specs.Exact.{Writes}
 use Rattle.answers.specs.ExplainedFor.{IsRefusedBy}
 use Rattle.answers.proofs.ExplainedForFacts.{refused-by, taken-for}
-use Rattle.auction_input.specs.Wanted.{parsed_taken}
+use Rattle.auction_input.specs.PartCounts.{parsed_taken}
 use Rattle.answers.specs.Asked.{Asked, CommandLine, by_fault, for_answer, for_nothing}
 use Rattle.auction_input.specs.Line.{Puts, line}
 use Rattle.auction_input.specs.declared.refusal.Refusal.{Refusal}

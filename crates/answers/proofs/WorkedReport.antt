@@ -6,7 +6,7 @@ use Rattle.csv.proofs.OnLiterals.{csv_on_literals}
 use Rattle.auction_terms.specs.AllFaults.{all_faults}
 use Rattle.auction_terms.specs.FirstFault.{first_fault}
 use Rattle.outcome.specs.Solution.{solution}
-use Rattle.outcome.specs.Values.{is_near}
+use Rattle.outcome.specs.SolutionValues.{is_near}
 use Rattle.auction_terms.specs.LineFields.{fields}
 use Rattle.program_rows.specs.Spelling.{column_bid}
 use Rattle.auction_input.specs.Input.{input_of}

@@ -5,7 +5,7 @@ use Rattle.auction_input.specs.Auction.{Auction, parsed_auction}
 use Rattle.answers.specs.Programs.{program_for}
 use Rattle.auction_input.specs.LastForms.{parsed_forms}
 use Rattle.auction_input.specs.ParsedParts.{only_text}
-use Rattle.auction_input.specs.Wanted.{wanted}
+use Rattle.auction_input.specs.PartCounts.{wanted}
 use Rattle.auction_input.specs.declared.refusal.Refusal.TheVariants as refusal
 use Rattle.auction_input.specs.declared.refusal.Refusal.{Refusal}
 use Rattle.auction_input.specs.declared.request.Request.TheVariants.{Check, Compile, Explain, Forms, Map, Report, Verify}

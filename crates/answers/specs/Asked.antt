@@ -10,7 +10,7 @@ use Rattle.auction_input.specs.declared.request.Request.TheVariants as request
 use Rattle.auction_input.specs.declared.request.Request.{Request}
 use Rattle.auction_input.specs.declared.request.Target.TheVariants as target
 use Rattle.auction_input.specs.declared.request.Target.{Target}
-use Rattle.answers.specs.declared.words.Command.{Command}
+use Rattle.answers.specs.declared.command_line.Command.{Command}
 use Rattle.byte_sinks.specs.declared.json.Format.TheVariants as format
 use Rattle.byte_sinks.specs.declared.json.Format.{Format}
 use Rattle.auction_terms.specs.declared.limits.TheConstants.{MOST_GROUPS}

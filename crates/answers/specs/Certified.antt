@@ -3,7 +3,7 @@ use Rattle.std.specs.Prelude.{◌≡◌, ◌+◌, ℕ, List, Some, Result, Ok, E
 use Rattle.std.specs.List.{zip}
 use Rattle.std.specs.Option.{option_map}
 use Rattle.auction_input.specs.Auction.{Auction}
-use Rattle.auction_input.specs.Wanted.{has_certificates, numbers_of}
+use Rattle.auction_input.specs.PartCounts.{has_certificates, numbers_of}
 use Rattle.answers.specs.Programs.{program_for}
 use Rattle.auction_input.specs.declared.refusal.Refusal.{Refusal}
 use Rattle.auction_terms.specs.Stages.{and_then, each_in_turn, unless}

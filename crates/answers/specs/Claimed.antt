@@ -2,7 +2,7 @@
 use Rattle.std.specs.Prelude.{◌≡◌, ◌+◌, ◌∷◌, ◌++◌, ℕ, Bool, List, [], Option, None, Some, Result, Ok, if◌then◌else◌, length, map, nat_le, slice_get, slice_index_or}
 use Rattle.std.specs.Option.{option_map, option_map_or, option_or}
 use Rattle.auction_input.specs.Auction.{Auction}
-use Rattle.auction_input.specs.Wanted.{claim_wants, numbers_of, refused_unless}
+use Rattle.auction_input.specs.PartCounts.{claim_wants, numbers_of, refused_unless}
 use Rattle.auction_input.specs.declared.refusal.Refusal.TheVariants as refusal
 use Rattle.auction_input.specs.declared.refusal.Refusal.{Refusal}
 use Rattle.auction_input.specs.declared.tie_fault.TieFault.TheVariants as tie
@@ -12,7 +12,7 @@ use Rattle.auction_terms.specs.FirstFault.{first_failed}
 use Rattle.auction_terms.specs.Stages.{and_then, refused_as, unless}
 use Rattle.auction_terms.specs.declared.choices.Choice.{Choice}
 use Rattle.bid_desk.specs.Sale.{Sale}
-use Rattle.optimality.specs.Only.{IsLargeOnlyAt, only_fault}
+use Rattle.optimality.specs.OnlyPoints.{IsLargeOnlyAt, only_fault}
 use Rattle.outcome.specs.Others.{Others, others_of}
 use Rattle.outcome.specs.PointAllocation.{allocation_of}
 use Rattle.outcome.specs.Solution.{solution}

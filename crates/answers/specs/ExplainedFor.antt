@@ -3,7 +3,7 @@ use Rattle.std.specs.Prelude.{◌≡◌, ◌⊎◌, ⊤, Bool, Option, None, Som
 use Rattle.answers.specs.Answer.{answer}
 use Rattle.auction_input.specs.Auction.{Auction}
 use Rattle.auction_input.specs.Input.{Input}
-use Rattle.auction_input.specs.Wanted.{parsed_taken}
+use Rattle.auction_input.specs.PartCounts.{parsed_taken}
 use Rattle.auction_input.specs.declared.refusal.Refusal.TheVariants as refusal
 use Rattle.auction_input.specs.declared.refusal.Refusal.{Refusal}
 use Rattle.auction_input.specs.Requests.{target_of}

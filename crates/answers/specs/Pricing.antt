@@ -2,7 +2,7 @@
 use Rattle.std.specs.Prelude.{◌≡◌, ◌∷◌, ◌*◌, Bool, false, true, ℕ, List, [], Option, None, Some, Result, Ok, Err, length, nat_le, slice_index_or}
 use Rattle.std.specs.Option.{option_map, option_or}
 use Rattle.auction_input.specs.Auction.{Auction}
-use Rattle.auction_input.specs.Wanted.{numbers_of, pricing_wants, refused_unless}
+use Rattle.auction_input.specs.PartCounts.{numbers_of, pricing_wants, refused_unless}
 use Rattle.auction_input.specs.declared.refusal.Refusal.TheVariants as refusal
 use Rattle.auction_input.specs.declared.refusal.Refusal.{Refusal}
 use Rattle.auction_terms.specs.Allocations.{amount_of, weighed_choice}

@@ -3,7 +3,7 @@ use Rattle.std.specs.Prelude.{◌≡◌, ◌≢◌, ◌⊎◌, ◌<◌, ℕ, ⊤
 use Rattle.auction_input.specs.Input.{Input}
 use Rattle.byte_sinks.specs.Sinks.{GoesWhole, Outlet}
 use Rattle.byte_sinks.specs.declared.json.Format.{Format}
-use Rattle.auction_input.specs.Wanted.{parsed_taken}
+use Rattle.auction_input.specs.PartCounts.{parsed_taken}
 use Rattle.auction_input.specs.Line.{Puts, line}
 use Rattle.auction_input.specs.FileLooks.{FindsNothing, FindsAgainst}
 use Rattle.auction_input.specs.FileTexts.{IsFound, IsInputRead, IsUnread, Shelf, sent_to}

@@ -5,7 +5,7 @@ use Rattle.std.specs.Option.{option_map_or}
 use Rattle.answers.specs.Programs.{program_for}
 use Rattle.auction_input.specs.declared.refusal.Refusal.{Refusal}
 use Rattle.auction_input.specs.Auction.{Auction}
-use Rattle.auction_input.specs.Wanted.{numbers_of, refused_unless, solution_wants}
+use Rattle.auction_input.specs.PartCounts.{numbers_of, refused_unless, solution_wants}
 use Rattle.auction_terms.specs.FirstFault.{first_failed}
 use Rattle.auction_terms.specs.Stages.{and_then, each_in_turn, refused_as, unless}
 use Rattle.auction_input.specs.declared.refusal.Refusal.TheVariants as refusal

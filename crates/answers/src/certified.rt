@@ -12,7 +12,7 @@ ghost use Rattle.auction_terms.specs.Lines.{bytes_of};
 ghost use Rattle.auction_terms.specs.Stages.{each_in_turn};
 ghost use Rattle.group_compiler.specs.Compiled.{compiling};
 
-use crate::lowest::Lowest;
+use crate::first_faulty::Lowest;
 use auction_input::{Auction, PartKind, Refusal};
 use auction_terms::{Group, Groups};
 use bid_desk::ClosedBook;

@@ -7,8 +7,8 @@ ghost use Rattle.answers.specs.FileLines.{file_line, file_text, name_at, other_f
 ghost use Rattle.byte_sinks.specs.Adds.{Adds};
 ghost use Rattle.answers.specs.Asked.{command_line_of};
 
+use crate::command_line::Command;
 use crate::messages::print_refusal;
-use crate::words::Command;
 use auction_input::{FileFault, FilePlace, FileRefusal, Refusal, Unread};
 use byte_sinks::{Sink, Writer};
 use input_faults::add_file_name;

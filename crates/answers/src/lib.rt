@@ -4,11 +4,12 @@
 
 mod certified;
 mod claimed;
+mod command_line;
 mod commands;
 mod file_lines;
+mod first_faulty;
 mod group_texts;
 pub mod laws;
-mod lowest;
 mod messages;
 mod options;
 mod parser;
@@ -17,10 +18,10 @@ mod pricing;
 mod report_run;
 mod running;
 mod winning;
-mod words;
 
 pub use certified::check_certificates;
 pub use claimed::claim_of;
+pub use command_line::{Command, command_of};
 pub use commands::answer;
 pub use commands::check::write_sizes;
 pub use commands::compile::run_compile;
@@ -34,4 +35,3 @@ pub use pricing::pricing_of;
 pub use report_run::{check_counts, won_by_groups};
 pub use running::run;
 pub use winning::{allocation_won, won_without};
-pub use words::{Command, command_of};

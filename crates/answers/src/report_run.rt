@@ -11,7 +11,7 @@ ghost use Rattle.group_compiler.specs.Compiled.{compiling};
 ghost use Rattle.answers.specs.SolutionWinners.{winners_of_groups};
 ghost use Rattle.answers.specs.inside.SolutionWinners.{AreMade, parsed_winners};
 
-use crate::lowest::Lowest;
+use crate::first_faulty::Lowest;
 use crate::winning::{won_by_all, won_by_named};
 use auction_input::{Auction, PartKind, Refusal};
 use group_compiler::{Compiler, Maker, OpenGate, make_all};

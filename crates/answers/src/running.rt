@@ -16,12 +16,12 @@ ghost use Rattle.answers.specs.Runs.{HasLooked, IsRun, Reads, begun};
 ghost use Rattle.auction_input.specs.FileTexts.{IsUnread};
 ghost use Rattle.answers.specs.inside.Runs.{HasExplainedInput, HasShown, IsReportedSo, IsReported, IsLeftUnanswered, IsUnprepared, IsUnreported};
 
+use crate::command_line::{Command, command_of};
 use crate::commands::{answer, explain_input};
 use crate::file_lines::{print_file_refusal, print_unread};
 use crate::messages::print_refusal;
 use crate::parser::VERSION;
 use crate::pieces::write_pieces;
-use crate::words::{Command, command_of};
 use auction_input::{
     FilePlace, FileRefusal, Files, Input, Output, Refusal, Request, Source, Target, Unread,
     look_at_files, read_inputs,

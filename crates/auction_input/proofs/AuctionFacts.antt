@@ -9,7 +9,7 @@ use Rattle.bid_forms.specs.Offers.{Offers}
 use Rattle.bid_desk.specs.Sale.{Sale, sale_of}
 use Rattle.auction_input.specs.Auction.{Auction, parsed_auction}
 use Rattle.auction_input.specs.BookLeft.{sale_left}
-use Rattle.auction_input.specs.Calls.{one_too_many}
+use Rattle.auction_input.specs.CallLimit.{one_too_many}
 use Rattle.auction_input.specs.FormTexts.{form_elsewhere, in_one_text}
 use Rattle.auction_input.specs.Input.{Input}
 use Rattle.auction_terms.specs.FirstFault.{first_fault}

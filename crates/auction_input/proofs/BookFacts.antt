@@ -11,7 +11,7 @@ use Rattle.std.specs.Prelude.{◌||◌, ⊤, filter, option_map}
 use Rattle.std.specs.Str.{bytes_eq}
 use Rattle.auction_input.specs.Auction.{Auction, parsed_auction}
 use Rattle.auction_input.specs.BookLeft.{sale_left}
-use Rattle.auction_input.specs.Calls.{one_too_many}
+use Rattle.auction_input.specs.CallLimit.{one_too_many}
 use Rattle.auction_input.specs.FormTexts.{form_elsewhere, in_one_text}
 use Rattle.auction_input.specs.Input.{Input}
 use Rattle.auction_input.specs.LastForms.{DescribesBids, FormParts, IsOfAuction, last_form, parsed_forms}

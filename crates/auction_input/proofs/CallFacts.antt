@@ -6,10 +6,10 @@ use Rattle.std.proofs.lemmas.Bool.{cases_Bool, eqb-false, eqb-true}
 use Rattle.std.proofs.lemmas.Bool.Decides.{leb_tells}
 use Rattle.std.proofs.lemmas.List.Elements.{filter-append}
 use Rattle.std.specs.Option.{option_or}
-use Rattle.auction_input.specs.Calls.{CountsCalls, one_too_many}
+use Rattle.auction_input.specs.CallLimit.{CountsCalls, one_too_many}
 use Rattle.auction_input.specs.Submissions.{forms_of}
-use Rattle.auction_input.specs.declared.calls.Calls.{Calls}
-use Rattle.auction_input.specs.declared.calls.TheConstants.{COUNTS_LEN}
+use Rattle.auction_input.specs.declared.call_limit.Calls.{Calls}
+use Rattle.auction_input.specs.declared.call_limit.TheConstants.{COUNTS_LEN}
 use Rattle.auction_terms.proofs.AllFaultsFacts.{option_or-assoc}
 use Rattle.auction_terms.specs.FirstFault.{first_fault}
 use Rattle.bid_book.specs.declared.records.TheConstants.{CALL_LIMIT}

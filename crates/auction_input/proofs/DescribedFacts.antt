@@ -26,10 +26,10 @@ use Rattle.bid_forms.specs.Offers.{Offers}
 use Rattle.bid_forms.specs.declared.form_text.FormFault.TheVariants as form_fault
 use Rattle.auction_input.specs.Auction.{Auction, parsed_auction}
 use Rattle.auction_input.specs.BookLeft.{sale_left}
-use Rattle.auction_input.specs.Calls.{one_too_many}
+use Rattle.auction_input.specs.CallLimit.{one_too_many}
 use Rattle.auction_input.specs.Described.{AreInOneText, Describes, HasKnownName, HasPartsFor, IsInParts, IsTextOfForm, IsTextOfGroups, IsTextOfRules, texts_named}
 use Rattle.auction_input.specs.FormTexts.{another, another_form, elsewhere, first_text, form_elsewhere, in_one_text}
-use Rattle.auction_input.specs.Input.{Given, Input}
+use Rattle.auction_input.specs.Input.{NamedText, Input}
 use Rattle.auction_input.specs.ParsedParts.{only_text, parsed_parts}
 use Rattle.auction_input.specs.ParsedTexts.{form_in, parsed_form, parsed_groups, parsed_terms}
 use Rattle.auction_input.specs.Parts.{Part, bytes_before, cut_lines, has_bytes_before, input_fault, input_parts, part_fault, part_names, parts_named, text_numbers, unknown_part}
@@ -89,13 +89,13 @@ both-false : (a b : Bool) → (a || b) ≡ false → (a ≡ false) × (b ≡ fal
 both-false true b is = cc is
 both-false false b is = (refl, is)
 
-whole-texts : (texts : List Given) → list_any has_bytes_before texts ≡ false → All IsInParts texts
+whole-texts : (texts : List NamedText) → list_any has_bytes_before texts ≡ false → All IsInParts texts
 whole-texts [] none = All-nil IsInParts
 whole-texts (given ∷ texts) none =
     let both = both-false (has_bytes_before given) (list_any has_bytes_before texts) none in
     All-cons IsInParts given texts (nothing (bytes_before (cut_lines given.bytes)) both.0) (whole-texts texts both.1)
 
-texts-whole : (texts : List Given) → All IsInParts texts → list_any has_bytes_before texts ≡ false
+texts-whole : (texts : List NamedText) → All IsInParts texts → list_any has_bytes_before texts ≡ false
 texts-whole [] whole = refl
 texts-whole (given ∷ texts) whole =
     let here : bytes_before (cut_lines given.bytes) ≡ [] = All-head IsInParts given texts whole in

@@ -7,7 +7,7 @@ use Rattle.std.specs.Bool.{MatchBool}
 use Rattle.std.specs.Io.KnownBytes.{Consumes, IsAtEnd}
 use Rattle.auction_input.specs.FileTexts.{AreRead, AreSound, BeginsWith, IsContent, IsFrontOf, IsTextOf, IsTextUnread, IsUnreadOf, Shelf, bytes_in, fault_among, is_standard_input, named_files}
 use Rattle.auction_input.specs.FileTexts.{file_failed, input_failed, memory_short, too_large}
-use Rattle.auction_input.specs.Input.{Given}
+use Rattle.auction_input.specs.Input.{NamedText}
 use Rattle.auction_input.specs.ReadInput.{IsUntaken}
 use Rattle.auction_input.specs.inside.FileTexts.{file_unread}
 use Rattle.auction_input.specs.declared.input.TheConstants.{INPUT_LIMIT}
@@ -54,36 +54,36 @@ module _ (content : List ℕ → Option (List ℕ)) where
       by false (same, is) = (same, content-begins (content name) bytes is)
 
   -- one text more
-  pub read-more : (names : List (List ℕ)) (left mid left' : Option (List ℕ)) (texts : List Given) (given : Given)
+  pub read-more : (names : List (List ℕ)) (left mid left' : Option (List ℕ)) (texts : List NamedText) (given : NamedText)
       → AreRead content names left mid texts → IsTextOf content given.name mid left' given.bytes
       → AreRead content (names ++ given.name ∷ []) left left' (texts ++ given ∷ [])
   read-more [] left mid left' texts given (none, same) text = (
     given.bytes,
     [],
     left',
-    ap (λ (xs : List Given). xs ++ given ∷ []) none,
+    ap (λ (xs : List NamedText). xs ++ given ∷ []) none,
     subst (λ (l : Option (List ℕ)). IsTextOf content given.name
         l left' given.bytes) same text,
     (refl, refl),
   )
   read-more (name ∷ names) left mid left' texts given (bytes, more, between, are, first, rest) text =
-      (bytes, more ++ given ∷ [], between, ap (λ (xs : List Given). xs ++ given ∷ []) are, first, read-more names between mid left' more given rest text)
+      (bytes, more ++ given ∷ [], between, ap (λ (xs : List NamedText). xs ++ given ∷ []) are, first, read-more names between mid left' more given rest text)
 
   -- there are as many texts as names
-  read-length : (names : List (List ℕ)) (left left' : Option (List ℕ)) (texts : List Given) → AreRead content names left left' texts
+  read-length : (names : List (List ℕ)) (left left' : Option (List ℕ)) (texts : List NamedText) → AreRead content names left left' texts
       → length texts ≡ length names
   read-length [] left left' texts (none, same) = ap length none
   read-length (name ∷ names) left left' texts (bytes, more, mid, are, first, rest) =
       ap length are ∙ ap suc (read-length names mid left' more rest)
 
-sound-append : (texts : List Given) (given : Given) (place count : ℕ) → AreSound place count texts
+sound-append : (texts : List NamedText) (given : NamedText) (place count : ℕ) → AreSound place count texts
     → fault_among given.bytes (place + length texts) count ≡ None → AreSound place count (texts ++ given ∷ [])
 sound-append [] given place count sound none = (subst (λ (n : ℕ). fault_among given.bytes n count ≡ None) (omega arith) none, tt)
 sound-append (text ∷ texts) given place count (first, rest) none =
     (first, sound-append texts given (place + 1) count rest (subst (λ (n : ℕ). fault_among given.bytes n count ≡ None) (omega arith) none))
 
 -- nothing is wrong with one text more
-pub sound-more : (content : List ℕ → Option (List ℕ)) (names : List (List ℕ)) (left left' : Option (List ℕ)) (texts : List Given) (given : Given)
+pub sound-more : (content : List ℕ → Option (List ℕ)) (names : List (List ℕ)) (left left' : Option (List ℕ)) (texts : List NamedText) (given : NamedText)
     (place count : ℕ) → AreRead content names left left' texts → place ≡ length names → AreSound 0 count texts
     → fault_among given.bytes place count ≡ None → AreSound 0 count (texts ++ given ∷ [])
 sound-more content names left left' texts given place count read at sound none =
@@ -128,7 +128,7 @@ names-at {Z} names i name item =
 
 -- after the texts of the names before a place the text of the one there isn't read
 pub unread-next : {Z : Type 0} (shelf : Shelf) (names : List (String Z)) (i : ℕ) (name : String Z) (seen : List ℕ) (place room : ℕ) (f : Unread)
-    (left between left' : Option (List ℕ)) (reads now reads' : ℕ) (texts : List Given) → take (i + 1) names ≡ take i names ++ name ∷ []
+    (left between left' : Option (List ℕ)) (reads now reads' : ℕ) (texts : List NamedText) → take (i + 1) names ≡ take i names ++ name ∷ []
     → seen ≡ name.bytes.items → place ≡ i → i ≤ length names → now ≡ reads
     → AreRead shelf.content (named_files (take i names)) left between texts → AreSound 0 (length names) texts → bytes_in texts + room ≡ INPUT_LIMIT
     → IsTextUnread shelf seen place (length names) room between left' now reads' f → IsUnreadOf shelf (named_files names) f left left' reads reads'
@@ -150,9 +150,9 @@ unread-next {Z} shelf names i name seen place room f left between left' reads no
     }
 
 -- how many bytes are left after one text more
-pub bytes-more : (old new : List Given) (given : Given) (room limit count : ℕ) → new ≡ old ++ given ∷ [] → bytes_in old + room ≡ limit
+pub bytes-more : (old new : List NamedText) (given : NamedText) (room limit count : ℕ) → new ≡ old ++ given ∷ [] → bytes_in old + room ≡ limit
     → count ≡ length given.bytes → length given.bytes ≤ room → bytes_in new + (room - count) ≡ limit
 bytes-more old new given room limit count added before own within =
-    let sizes = sum_by-append (λ (g : Given). length g.bytes) old (given ∷ []) in
+    let sizes = sum_by-append (λ (g : NamedText). length g.bytes) old (given ∷ []) in
     let one : bytes_in (given ∷ []) ≡ length given.bytes = omega arith in
     rw added (omega arith)

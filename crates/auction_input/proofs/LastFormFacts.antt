@@ -6,7 +6,7 @@ use Rattle.std.proofs.lemmas.Bool.{cases_Bool, eqb-false, eqb-true}
 use Rattle.std.proofs.lemmas.List.Elements.{filter-append}
 use Rattle.std.specs.List.{last_or, zip}
 use Rattle.std.specs.Prelude.{filter, option_map}
-use Rattle.auction_input.specs.Calls.{one_too_many}
+use Rattle.auction_input.specs.CallLimit.{one_too_many}
 use Rattle.auction_input.specs.FormTexts.{form_elsewhere, in_one_text}
 use Rattle.auction_input.specs.Input.{Input}
 use Rattle.auction_input.specs.LastForms.{FormParts, HoldsLast, counted, counted_held, last_form, parsed_forms}

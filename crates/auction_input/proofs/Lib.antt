@@ -22,6 +22,6 @@ pub mod RecordFacts
 pub mod StageFacts
 pub mod StandingFacts
 pub mod SubmissionFacts
-pub mod WantedFacts
+pub mod PartCountFacts
 pub mod WithinFacts
 mod WorkedLines

@@ -22,7 +22,7 @@ use Rattle.memchr.specs.Find.{FindsNeedle, OccursAt}
 use Rattle.auction_input.specs.Parts.{Part, TellsParts, bytes_before, onto_first_line, cut_lines, has_bytes_before}
 use Rattle.auction_input.specs.Parts.{heads_part, input_fault, name_of, names_for, part_fault, part_names, parts_from}
 use Rattle.auction_input.specs.Parts.{parts_held, parts_in, parts_named, input_parts, text_numbers, unknown_part}
-use Rattle.auction_input.specs.Input.{Given, Input}
+use Rattle.auction_input.specs.Input.{NamedText, Input}
 use Rattle.auction_input.specs.ParsedParts.{only_text}
 use Rattle.auction_input.specs.inside.Parts.{HaveAdded, IsFaultAfter, is_held, kind_named, kinds_for, known_kinds, part}
 use Rattle.auction_input.specs.declared.parts.Part as declared
@@ -154,13 +154,13 @@ pub fault-of-parts : (asked : Request) (input : Input) → list_any has_bytes_be
 fault-of-parts asked input none = rw none refl
 
 -- a text of those with nothing before their first parts
-pub none-at : (texts : List Given) (place : ℕ) (d : Given) → place < length texts → list_any has_bytes_before texts ≡ false
+pub none-at : (texts : List NamedText) (place : ℕ) (d : NamedText) → place < length texts → list_any has_bytes_before texts ≡ false
     → has_bytes_before (slice_index_or texts place d) ≡ false
 none-at [] place d within none = absurd (omega arith)
 none-at (given ∷ texts) zero d within none = (or-false _ _ none).0
 none-at (given ∷ texts) (suc place) d within none = none-at texts place d (omega arith) (or-false _ _ none).1
 
-pub nothing-before : (given : Given) → has_bytes_before given ≡ false → bytes_before (cut_lines given.bytes) ≡ []
+pub nothing-before : (given : NamedText) → has_bytes_before given ≡ false → bytes_before (cut_lines given.bytes) ≡ []
 nothing-before given is = nil_from_length _ ((Decides-eqb (length (bytes_before (cut_lines given.bytes))) 0).0 (not-false _ is))
 
 -- after the old parts these of all have no fault, and the rest is left
@@ -220,7 +220,7 @@ text-refused asked input before more rest (fault.OfVersion1 n) none so_far found
     fault-of-parts asked input none ∙ text-fault asked (input_parts input) before more rest [] so_far (fault.OfVersion1 n) found
 
 -- the text that is next, and those after it
-pub next-text : (texts : List Given) (place : ℕ) (d : Given) → place < length texts
+pub next-text : (texts : List NamedText) (place : ℕ) (d : NamedText) → place < length texts
     → parts_from place (drop place texts) ≡ parts_in place (cut_lines (slice_index_or texts place d).bytes) ++ parts_from (place + 1) (drop (place + 1) texts)
 next-text texts place d within = ap (parts_from place) (drop_more texts place d within)
 

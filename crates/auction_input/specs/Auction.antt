@@ -1,7 +1,7 @@
 -- The auction that an input describes: its parts, rules and forms, whether each bidder's are in one text, groups, and the call limit, in this order.
 use Rattle.std.specs.Prelude.{ℕ, List, [], Result, Ok, codes, map}
 use Rattle.auction_input.specs.BookLeft.{sale_left}
-use Rattle.auction_input.specs.Calls.{one_too_many}
+use Rattle.auction_input.specs.CallLimit.{one_too_many}
 use Rattle.auction_input.specs.FormTexts.{in_one_text}
 use Rattle.auction_input.specs.Input.{Input}
 use Rattle.auction_input.specs.Parts.{parts_named, text_numbers}

@@ -5,7 +5,7 @@ use Rattle.std.specs.List.{AllZip, list_any, zip}
 use Rattle.std.specs.Str.{bytes_eq}
 use Rattle.auction_input.specs.Auction.{Auction}
 use Rattle.auction_input.specs.BookLeft.{sale_left}
-use Rattle.auction_input.specs.Input.{Given, Input}
+use Rattle.auction_input.specs.Input.{NamedText, Input}
 use Rattle.auction_input.specs.ParsedParts.{only_text}
 use Rattle.auction_input.specs.Parts.{Part, bytes_before, cut_lines, input_parts, part_names, parts_named, text_numbers}
 use Rattle.auction_input.specs.Plan.{taken_by}
@@ -24,7 +24,7 @@ abbrev pub texts_named : List ℕ → Input → List (List ℕ)
 texts_named name input = parts_named name (input_parts input)
 
 -- no byte of a text is before its first part
-abbrev pub IsInParts : Given → Type 0
+abbrev pub IsInParts : NamedText → Type 0
 IsInParts given = bytes_before (cut_lines given.bytes) ≡ []
 
 -- a part has one of the names that the command knows

@@ -5,7 +5,7 @@ use Rattle.std.specs.Option.{option_map}
 use Rattle.std.specs.Io.KnownBytes.{Consumes, IsAtEnd}
 use Rattle.std.specs.Str.{bytes_eq}
 use Rattle.auction_terms.specs.FirstFault.{first_failed}
-use Rattle.auction_input.specs.Input.{Given, unnamed}
+use Rattle.auction_input.specs.Input.{NamedText, unnamed}
 use Rattle.auction_input.specs.ReadInput.{IsUntaken, IsWhole}
 use Rattle.auction_input.specs.declared.files.FileFault.{FileFault}
 use Rattle.auction_input.specs.declared.files.FileFault.TheVariants as fault
@@ -66,10 +66,10 @@ abbrev pub named_files : {Z : Type 0} → List (String Z) → List (List ℕ)
 named_files names = map (λ name. name.bytes.items) names
 
 -- the texts that are read by these names, one after the other
-abbrev pub AreRead : (List ℕ → Option (List ℕ)) → List (List ℕ) → Option (List ℕ) → Option (List ℕ) → List Given → Type 0
+abbrev pub AreRead : (List ℕ → Option (List ℕ)) → List (List ℕ) → Option (List ℕ) → Option (List ℕ) → List NamedText → Type 0
 AreRead content [] left left' texts = (texts ≡ []) × (left' ≡ left)
 AreRead content (name ∷ names) left left' texts =
-    (bytes : List ℕ) × (more : List Given) × (mid : Option (List ℕ)) × (texts ≡ record { name = name; bytes = bytes } ∷ more)
+    (bytes : List ℕ) × (more : List NamedText) × (mid : Option (List ℕ)) × (texts ≡ record { name = name; bytes = bytes } ∷ more)
     × IsTextOf content name left mid bytes × AreRead content names mid left' more
 
 -- what is wrong with the text at a place among so many: with others it may not be empty, and where one follows its last line has an end
@@ -83,17 +83,17 @@ fault_among text place count =
     ) ∷ [])
 
 -- nothing is wrong with texts that are at their places among so many, the first of them at this one
-abbrev pub AreSound : ℕ → ℕ → List Given → Type 0
+abbrev pub AreSound : ℕ → ℕ → List NamedText → Type 0
 AreSound place count [] = ⊤
 AreSound place count (text ∷ texts) = (fault_among text.bytes place count ≡ None) × AreSound (place + 1) count texts
 
 -- how many bytes texts have together
-abbrev pub bytes_in : List Given → ℕ
+abbrev pub bytes_in : List NamedText → ℕ
 bytes_in texts = sum_by (λ given. length given.bytes) texts
 
 -- the texts that a command reads: without names standard input, as one text by itself; else the texts of the names, with each of which
 -- nothing is wrong, and which have no more bytes together than an input may have
-abbrev pub IsInputRead : (List ℕ → Option (List ℕ)) → List (List ℕ) → Option (List ℕ) → Option (List ℕ) → List Given → Type 0
+abbrev pub IsInputRead : (List ℕ → Option (List ℕ)) → List (List ℕ) → Option (List ℕ) → Option (List ℕ) → List NamedText → Type 0
 IsInputRead content [] left left' texts = (bytes : List ℕ) × IsWhole INPUT_LIMIT left left' bytes × (texts ≡ unnamed bytes ∷ [])
 IsInputRead content names left left' texts =
     AreRead content names left left' texts × AreSound 0 (length names) texts × (bytes_in texts ≤ INPUT_LIMIT)
@@ -139,7 +139,7 @@ pub record IsUnreadOf (shelf : Shelf) (names : List (List ℕ)) (f : Unread) (le
   pub next : List ℕ
   pub others : List (List ℕ)
   pub names_are : names ≡ first ++ next ∷ others
-  pub texts : List Given
+  pub texts : List NamedText
   -- what standard input has left when the next text begins
   pub between : Option (List ℕ)
   pub read : AreRead shelf.content first left between texts

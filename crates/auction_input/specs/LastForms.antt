@@ -2,7 +2,7 @@
 use Rattle.std.specs.Prelude.{◌≡◌, ◌≤◌, ◌+◌, ◌-◌, ◌<◌, ◌==◌, ℕ, List, [], Option, None, Some, Result, Ok, codes, filter, length, option_map, slice_index_or}
 use Rattle.std.specs.List.{last_or, zip}
 use Rattle.auction_input.specs.Auction.{Auction}
-use Rattle.auction_input.specs.Calls.{one_too_many}
+use Rattle.auction_input.specs.CallLimit.{one_too_many}
 use Rattle.auction_input.specs.FormTexts.{in_one_text}
 use Rattle.auction_input.specs.Input.{Input}
 use Rattle.auction_input.specs.ParsedParts.{only_text, parsed_parts}

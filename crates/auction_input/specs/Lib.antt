@@ -3,7 +3,7 @@ pub mod PriceFaultText
 pub mod Requests
 pub mod Auction
 pub mod BookLeft
-pub mod Calls
+pub mod CallLimit
 pub mod Described
 pub mod FileTexts
 pub mod FileLooks
@@ -23,5 +23,5 @@ pub mod Sold
 pub mod Submissions
 pub mod ParsedTexts
 pub mod Message
-pub mod Wanted
+pub mod PartCounts
 pub mod inside

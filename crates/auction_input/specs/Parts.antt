@@ -5,7 +5,7 @@ use Rattle.std.specs.Option.{option_or}
 use Rattle.std.specs.List.{list_any}
 use Rattle.std.specs.Str.{bytes_eq}
 use Rattle.std.specs.declared.alloc.Global.{Global}
-use Rattle.auction_input.specs.Input.{Given, Input}
+use Rattle.auction_input.specs.Input.{NamedText, Input}
 use Rattle.auction_input.specs.declared.parts.PartFault.TheVariants as fault
 use Rattle.auction_input.specs.declared.parts.PartFault.{PartFault}
 use Rattle.auction_input.specs.declared.part_kind.PartKind.TheVariants as kind
@@ -53,7 +53,7 @@ parts_in n (line ∷ more) = if heads_part line then record {
 } ∷ parts_in n more else parts_in n more
 
 -- the parts of texts, which are numbered from n on; each text is cut by itself
-abbrev pub parts_from : ℕ → List Given → List Part
+abbrev pub parts_from : ℕ → List NamedText → List Part
 parts_from n [] = []
 parts_from n (given ∷ more) = parts_in n (cut_lines given.bytes) ++ parts_from (n + 1) more
 
@@ -62,7 +62,7 @@ abbrev pub input_parts : Input → List Part
 input_parts input = parts_from 0 input.texts
 
 -- whether a text has bytes before its first part
-abbrev pub has_bytes_before : Given → Bool
+abbrev pub has_bytes_before : NamedText → Bool
 has_bytes_before given = not (length (bytes_before (cut_lines given.bytes)) == 0)
 
 -- the names that a part may have; certificates, what is claimed of other outcomes, and prices are for `verify`, and for `explain` where it

@@ -1,6 +1,6 @@
 -- Which text of an input a refusal is of, and the number that its part has there.
 use Rattle.std.specs.Prelude.{◌+◌, ◌-◌, ℕ, List, [], ◌∷◌, Option, None, Some, if◌then◌else◌, length, map, nat_le, option_map, unwrap_or}
-use Rattle.auction_input.specs.Input.{Given}
+use Rattle.auction_input.specs.Input.{NamedText}
 use Rattle.auction_input.specs.Parts.{Part, cut_lines, has_bytes_before, name_of, parts_in, parts_named}
 use Rattle.auction_input.specs.declared.part_kind.PartKind.{PartKind}
 use Rattle.auction_input.specs.declared.part_kind.PartKind.TheVariants as kind_of_part
@@ -23,7 +23,7 @@ parts_counted (Some kind) parts = length (parts_named (name_of kind) parts)
 parts_counted None parts = length parts
 
 -- how much a text counts
-abbrev pub count_in : Counted → Given → ℕ
+abbrev pub count_in : Counted → NamedText → ℕ
 count_in (counted.Kind kind) given = parts_counted (Some kind) (parts_in 0 (cut_lines given.bytes))
 count_in counted.Parts given = parts_counted None (parts_in 0 (cut_lines given.bytes))
 count_in counted.BytesBefore given = if has_bytes_before given then 1 else 0
@@ -72,12 +72,12 @@ counted_as (refusal.Write f) = None
 counted_as refusal.OutOfMemory = None
 
 -- the text, among these, that has the part of this number, counting parts of its kind through all texts, and its number there
-abbrev spot_by : List Given → Option (Counted × ℕ) → Option Spot
+abbrev spot_by : List NamedText → Option (Counted × ℕ) → Option Spot
 spot_by texts None = None
 spot_by texts (Some (what, n)) = located (map (count_in what) texts) n
 
 -- the text that a refusal is of, where there are several, and the number that its part has there
-abbrev pub spot_of : List Given → Refusal → Option Spot
+abbrev pub spot_of : List NamedText → Refusal → Option Spot
 spot_of texts r = if nat_le (length texts) 1 then None else spot_by texts (counted_as r)
 
 -- a refusal, with another number of its part

@@ -12,9 +12,9 @@ ghost use Rattle.auction_input.specs.inside.Auctions.{HasRun, HoldTexts, bidders
 ghost use Rattle.bid_forms.specs.Offers.{Meets};
 ghost use Rattle.auction_input.specs.ParsedTexts.{parsed_groups, parsed_terms};
 
-use crate::calls::check_calls;
+use crate::call_limit::check_calls;
 use crate::form_texts::form_elsewhere;
-use crate::given::Input;
+use crate::input_texts::Input;
 use crate::part_kind::PartKind;
 use crate::parts::{Part, split_parts, text_numbers_of, text_of, texts_of};
 use crate::reading::{miscounted, read_forms};

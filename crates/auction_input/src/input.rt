@@ -7,7 +7,7 @@ ghost use Rattle.auction_input.specs.inside.FileTexts.{file_unread};
 ghost use Rattle.auction_input.specs.ReadInput.{IsUntaken, IsWhole};
 
 use crate::files::{FileFault, FilePlace, FileRefusal, Files};
-use crate::given::{Given, Input};
+use crate::input_texts::{Input, NamedText};
 use crate::source::Source;
 use std::alloc::{AllocError, Global};
 use std::io::Read;
@@ -188,7 +188,7 @@ fn read_given<D: Files, I: Read>(
     count: usize,
     input: &mut Source<I>,
     limit: usize,
-) -> Result<Given, Unread>
+) -> Result<NamedText, Unread>
     requires place { place < count }
     requires limit { limit ≤ INPUT_LIMIT }
     ensures within { IfOk result (λ given. length given.bytes ≤ limit) }
@@ -209,12 +209,12 @@ fn read_given<D: Files, I: Read>(
         return Err(refused(place, fault));
     }
     match Vec::from_slice(alloc, name.as_bytes()) {
-        Ok(name) => Ok(Given::new(name, bytes)),
+        Ok(name) => Ok(NamedText::new(name, bytes)),
         Err(_) => Err(Unread::Input(InputFault::OutOfMemory)),
     }
 }
 
-fn add_given(texts: &mut Vec<Given>, given: Given) -> Result<(), AllocError>
+fn add_given(texts: &mut Vec<NamedText>, given: NamedText) -> Result<(), AllocError>
     ensures { OnOk result (texts.new.items ≡ texts.old.items ++ given ∷ []) }
 {
     texts.push(given)?;
@@ -227,7 +227,7 @@ fn read_each<D: Files, I: Read>(
     files: &D,
     names: &[String],
     input: &mut Source<I>,
-) -> Result<Vec<Given>, Unread>
+) -> Result<Vec<NamedText>, Unread>
     ensures read { IfOk result (λ texts. AreRead (D.shelf files.now).content (named_files names.now)
         (I.remaining input.old.reader) (I.remaining input.new.reader) texts.items) }
     ensures sound { IfOk result (λ texts. AreSound 0 (length names.now) texts.items) }

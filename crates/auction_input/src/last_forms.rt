@@ -8,8 +8,8 @@ ghost use Rattle.auction_terms.specs.Lines.{bytes_of};
 ghost use Rattle.bid_forms.specs.Offers.{Offers};
 
 use crate::auction::{check_texts, read_parts, rules_in};
-use crate::calls::check_calls;
-use crate::given::Input;
+use crate::call_limit::check_calls;
+use crate::input_texts::Input;
 use crate::part_kind::PartKind;
 use crate::parts::{text_of, texts_of};
 use crate::reading::read_forms;

@@ -4,7 +4,7 @@
 ghost use Rattle.std.specs.Prelude.{◌≡◌, ◌↔◌, Err, List, Ok};
 ghost use Rattle.auction_terms.specs.FirstFault.{TellsTheFirst};
 ghost use Rattle.auction_input.specs.Auction.{Auction, parsed_auction};
-ghost use Rattle.auction_input.specs.Calls.{one_too_many};
+ghost use Rattle.auction_input.specs.CallLimit.{one_too_many};
 ghost use Rattle.auction_input.specs.Described.{Describes};
 ghost use Rattle.auction_input.specs.FormTexts.{another_form};
 ghost use Rattle.auction_input.specs.Input.{Input};

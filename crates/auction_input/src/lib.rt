@@ -4,18 +4,19 @@
 
 mod auction;
 mod bidder_name;
+mod bidder_thread;
 mod by_bidder;
-mod calls;
+mod call_limit;
 mod files;
 mod form_texts;
-mod given;
 mod input;
-mod job;
+mod input_texts;
 mod last_forms;
 pub mod laws;
 mod look;
 mod message;
 mod name;
+mod part_counts;
 mod part_kind;
 mod parts;
 mod places;
@@ -30,21 +31,21 @@ mod rule_reading;
 mod rule_weights;
 mod source;
 mod tie_fault;
-mod wanted;
 
 pub use auction::{Auction, read_auction};
 pub use bidder_name::BidderName;
-pub use calls::Calls;
+pub use call_limit::Calls;
 pub use files::{
     FileFault, FileKind, FilePlace, FileRefusal, Files, Identity, Output, is_standard_output,
 };
 pub use form_texts::{AnotherForm, FormTexts};
-pub use given::{Given, Input};
 pub use input::{INPUT_LIMIT, InputFault, Unread, is_standard_input, read_inputs};
+pub use input_texts::{Input, NamedText};
 pub use last_forms::{FormParts, LastForm, LastForms, read_last_forms};
 pub use look::look_at_files;
 pub use message::{BEFORE_FIRST, Message, OF_VERSION_1};
 pub use name::Name;
+pub use part_counts::{Numbers, Unmet, check_wanted, proof_wants, solution_wants};
 pub use part_kind::PartKind;
 pub use parts::{Part, PartFault, count_of, split_parts, text_numbers_of, text_of, texts_of};
 pub use places::{Counted, Places, Spot, spot_of};
@@ -62,4 +63,3 @@ pub use rule_weights::{
 };
 pub use source::{ReadFailed, Source};
 pub use tie_fault::TieFault;
-pub use wanted::{Numbers, Unmet, check_wanted, proof_wants, solution_wants};

@@ -9,7 +9,7 @@ ghost use Rattle.auction_input.specs.ParsedParts.{only_text};
 ghost use Rattle.auction_terms.specs.Lines.{bytes_of};
 ghost use Rattle.auction_input.specs.inside.Parts.{HaveAdded, IsFaultAfter, is_held, part, part_name};
 
-use crate::given::{Given, Input};
+use crate::input_texts::{Input, NamedText};
 use crate::part_kind::{PartKind, kind_named};
 use crate::request::Request;
 use auction_terms::LineReader;
@@ -172,13 +172,13 @@ fn add_parts<'t>(
 }
 
 /// Whether a text has bytes before its first part.
-pub fn has_bytes_before(given: &Given) -> bool
+pub fn has_bytes_before(given: &NamedText) -> bool
     ensures { result ≡ has_bytes_before given.now }
 {
     body_end(given.bytes()) > 0
 }
 
-fn have_bytes_before(texts: &[Given]) -> bool
+fn have_bytes_before(texts: &[NamedText]) -> bool
     ensures { result ≡ list_any has_bytes_before texts.now }
 {
     texts.iter().any(|given| has_bytes_before(given))

@@ -6,7 +6,7 @@ ghost use Rattle.auction_input.specs.Places.{count_in, located, parts_counted, s
 ghost use Rattle.auction_input.specs.inside.Parts.{part_name};
 ghost use Rattle.auction_input.specs.inside.Places.{is_counted};
 
-use crate::given::Given;
+use crate::input_texts::NamedText;
 use crate::part_kind::PartKind;
 use crate::parts::{first_part, has_bytes_before, head_name, without_bytes_before};
 use crate::refusal::Refusal;
@@ -67,7 +67,7 @@ fn count_parts(kind: Option<PartKind>, text: &[u8]) -> usize
 }
 
 // How much a text counts.
-fn count_in(what: Counted, given: &Given) -> usize
+fn count_in(what: Counted, given: &NamedText) -> usize
     ensures { result ≡ count_in what given.now }
 {
     match what {
@@ -79,7 +79,7 @@ fn count_in(what: Counted, given: &Given) -> usize
 }
 
 // The text with what has that number of all that is counted. It takes no memory.
-fn find_spot(texts: &[Given], what: Counted, number: usize) -> Option<Spot>
+fn find_spot(texts: &[NamedText], what: Counted, number: usize) -> Option<Spot>
     ensures { result ≡ located (map (count_in what) texts.now) number }
 {
     let mut left = number;
@@ -97,7 +97,7 @@ fn find_spot(texts: &[Given], what: Counted, number: usize) -> Option<Spot>
 }
 
 /// The text that a refusal is of, where there are several, and the number that its part has there. It takes no memory.
-pub fn spot_of(texts: &[Given], refusal: &Refusal) -> Option<Spot>
+pub fn spot_of(texts: &[NamedText], refusal: &Refusal) -> Option<Spot>
     ensures { result ≡ spot_of texts.now refusal.now }
 {
     if texts.len() <= 1 {
@@ -124,7 +124,7 @@ fn spot_among(counts: &[usize], number: usize) -> Option<Spot>
     None
 }
 
-fn counts_of(alloc: Global, texts: &[Given], what: Counted) -> Result<Vec<usize>, AllocError>
+fn counts_of(alloc: Global, texts: &[NamedText], what: Counted) -> Result<Vec<usize>, AllocError>
     ensures { IfOk result (λ counts. counts.items ≡ map (count_in what) texts.now) }
 {
     let mut counts = Vec::new(alloc);
@@ -137,7 +137,7 @@ fn counts_of(alloc: Global, texts: &[Given], what: Counted) -> Result<Vec<usize>
 /// The texts of an input, and how many parts with rules, forms and groups each has, so that the texts of many faults are found.
 #[derive(Drop)]
 pub struct Places<'i> {
-    texts: &'i [Given],
+    texts: &'i [NamedText],
     rules: Vec<usize>,
     forms: Vec<usize>,
     groups: Vec<usize>,
@@ -145,7 +145,7 @@ pub struct Places<'i> {
 
 impl<'i> Model for Places<'i> {
     ghost use Rattle.std.specs.Prelude.{List};
-    ghost use Rattle.auction_input.specs.Input.{Given as Seen};
+    ghost use Rattle.auction_input.specs.Input.{NamedText as Seen};
     ghost use Rattle.auction_input.specs.inside.Places.{AreCounted};
 
     ghost Value = { List Seen };
@@ -157,7 +157,7 @@ impl<'i> Model for Places<'i> {
 
 impl<'i> Places<'i> {
     /// Counts the parts of these texts, where there are several.
-    pub fn of_texts(alloc: Global, texts: &'i [Given]) -> Result<Places<'i>, AllocError>
+    pub fn of_texts(alloc: Global, texts: &'i [NamedText]) -> Result<Places<'i>, AllocError>
         ensures { IfOk result (λ places. places ≡ texts.now) }
     {
         let counted = if texts.len() <= 1 { &texts[..0] } else { texts };
@@ -170,7 +170,7 @@ impl<'i> Places<'i> {
     }
 
     /// The texts.
-    pub fn texts(&self) -> &[Given]
+    pub fn texts(&self) -> &[NamedText]
         ensures { result.now ≡ self.now }
     {
         self.texts

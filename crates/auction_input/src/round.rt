@@ -9,8 +9,8 @@ ghost use Rattle.bid_forms.specs.Offers.{Meets};
 ghost use Rattle.auction_input.specs.inside.Submissions.{AreFormsOf, ComesTo, HasClosed, HaveSubmitted, HoldsLists, IsFirstJob, IsIdle, form_values, forms_in};
 ghost use Rattle.auction_input.specs.Submissions.{AreSubmitted};
 
+use crate::bidder_thread::{Done, Job};
 use crate::by_bidder::{by_bidder, forms_in};
-use crate::job::{Done, Job};
 use auction_terms::Rules;
 use bid_book::Reply;
 use bid_desk::{Cause, Chair, ClosedBook, Desk, Round, Session, Stopped};

@@ -1,5 +1,5 @@
 pub mod Sinks
 pub mod Adds
 pub mod Json
-pub mod Limits
+pub mod MemorySinks
 pub mod inside

@@ -19,8 +19,8 @@ pub struct LimitSink {
 
 impl Model for LimitSink {
     ghost use Rattle.std.specs.Prelude.{◌+◌, ◌≤◌, vec_capacity, vec_len};
-    ghost use Rattle.byte_sinks.specs.Limits.{Limited};
-    ghost use Rattle.byte_sinks.specs.inside.Limits.{limited};
+    ghost use Rattle.byte_sinks.specs.MemorySinks.{Limited};
+    ghost use Rattle.byte_sinks.specs.inside.MemorySinks.{limited};
 
     ghost Value = { Limited };
 

@@ -15,8 +15,8 @@ pub struct MemorySink {
 
 impl Model for MemorySink {
     ghost use Rattle.std.specs.Prelude.{vec_capacity};
-    ghost use Rattle.byte_sinks.specs.Limits.{Grown};
-    ghost use Rattle.byte_sinks.specs.inside.Limits.{grown};
+    ghost use Rattle.byte_sinks.specs.MemorySinks.{Grown};
+    ghost use Rattle.byte_sinks.specs.inside.MemorySinks.{grown};
 
     ghost Value = { Grown };
 

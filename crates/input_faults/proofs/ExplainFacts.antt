@@ -4,9 +4,9 @@ use Rattle.std.proofs.lemmas.List.{length-map}
 use Rattle.std.specs.Io.KnownBytes.{Appends}
 use Rattle.std.specs.Prelude.{flat_map, ◌↔◌, IsErr, IsTrue, Option, not}
 use Rattle.auction_input.specs.Auction.{Auction}
-use Rattle.auction_input.specs.Input.{Given, Input}
+use Rattle.auction_input.specs.Input.{NamedText, Input}
 use Rattle.auction_input.specs.Requests.{format_of}
-use Rattle.auction_input.specs.Wanted.{parsed_taken}
+use Rattle.auction_input.specs.PartCounts.{parsed_taken}
 use Rattle.auction_input.specs.declared.refusal.Refusal.{Refusal}
 use Rattle.auction_input.specs.declared.refusal.Refusal.TheVariants as refusal
 use Rattle.auction_terms.proofs.JudgeFacts.{none-held}
@@ -31,13 +31,13 @@ use Rattle.byte_sinks.specs.declared.write_fault.WriteFault.TheVariants as write
 use Rattle.auction_input.specs.declared.request.Request.{Request}
 
 -- the lines of kept faults are those of the faults
-kept-lines : (format : Format) (texts : List Given) (kept : List (FaultAt Fault))
+kept-lines : (format : Format) (texts : List NamedText) (kept : List (FaultAt Fault))
     → flat_map (kept_line format texts) kept ≡ flat_map (fault_line format texts) (map kept_fault kept)
 kept-lines format texts [] = refl
 kept-lines format texts (at ∷ more) = ap (λ (bytes : List ℕ). kept_line format texts at ++ bytes) (kept-lines format texts more)
 
 -- the lines of what is kept are those of the first faults
-pub held-lines : (format : Format) (texts : List Given) (held : All Fault) (faults : List (Judged Fault))
+pub held-lines : (format : Format) (texts : List NamedText) (held : All Fault) (faults : List (Judged Fault))
     → Holds MOST_FAULTS held faults → held_lines format texts held ≡ fault_lines format texts faults
 held-lines format texts held faults holds = rw (kept-lines format texts held.kept.items, holds.kept, holds.more) refl
 
@@ -58,7 +58,7 @@ faulty held (at ∷ more) (Err r) false keeps are none some = (λ _. refl, λ _.
 faulty held (at ∷ more) (Err r) true keeps are none some = (let nothing = none-held MOST_FAULTS held (at ∷ more) (omega arith) keeps (none refl) in cc)
 
 -- of no fault nothing is reported
-no-lines : (format : Format) (texts : List Given) → fault_lines format texts [] ≡ []
+no-lines : (format : Format) (texts : List NamedText) → fault_lines format texts [] ≡ []
 no-lines Words texts = refl
 no-lines Json texts = refl
 

@@ -6,10 +6,10 @@ use Rattle.std.specs.List.{zip}
 use Rattle.auction_input.proofs.InputTextFacts.{Text}
 use Rattle.auction_input.proofs.StageFacts.{IsLeft, left-fault, left-more, left-none}
 use Rattle.auction_input.proofs.FormTextFacts.{length-zip, zip-more}
-use Rattle.auction_input.specs.Calls.{CountsCalls}
+use Rattle.auction_input.specs.CallLimit.{CountsCalls}
 use Rattle.auction_input.specs.FormTexts.{KnowsTexts, another_form}
 use Rattle.auction_input.specs.ParsedTexts.{parsed_form}
-use Rattle.auction_input.specs.declared.calls.Calls.{Calls}
+use Rattle.auction_input.specs.declared.call_limit.Calls.{Calls}
 use Rattle.auction_input.specs.declared.form_texts.FormTexts.{FormTexts}
 use Rattle.auction_input.specs.declared.refusal.Refusal.{Refusal}
 use Rattle.auction_terms.specs.Lines.{bytes_of}

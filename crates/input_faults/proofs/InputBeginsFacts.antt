@@ -3,15 +3,15 @@ use Rattle.std.proofs.Common.{◌≡◌, ◌∙◌, ◌∷◌, ◌++◌, ℕ, Bo
 use Rattle.std.specs.Prelude.{codes, if◌then◌else◌, length, nat_lt, option_map, option_to_list}
 use Rattle.auction_input.specs.Auction.{Auction}
 use Rattle.auction_input.specs.BookLeft.{sale_left}
-use Rattle.auction_input.specs.Calls.{one_too_many}
+use Rattle.auction_input.specs.CallLimit.{one_too_many}
 use Rattle.auction_input.proofs.AnswerFacts.{ok-after, ok-refused_as, unless-ok}
 use Rattle.auction_input.specs.FormTexts.{form_elsewhere, in_one_text}
-use Rattle.auction_input.specs.Input.{Given, Input}
+use Rattle.auction_input.specs.Input.{NamedText, Input}
 use Rattle.auction_input.specs.Parts.{Part, input_fault, parts_named, input_parts, text_numbers}
 use Rattle.auction_input.specs.ParsedParts.{only_text, parsed_parts}
 use Rattle.auction_input.specs.ParsedTexts.{parsed_form, parsed_groups, parsed_terms}
-use Rattle.auction_input.specs.Wanted.{numbers_in, refused_unless, with_wanted, parsed_taken, wanted, wants}
-use Rattle.auction_input.specs.declared.wanted.Unmet.{Unmet}
+use Rattle.auction_input.specs.PartCounts.{numbers_in, refused_unless, with_wanted, parsed_taken, wanted, wants}
+use Rattle.auction_input.specs.declared.part_counts.Unmet.{Unmet}
 use Rattle.auction_input.specs.declared.parts.PartFault.{PartFault}
 use Rattle.auction_input.specs.declared.parts.PartFault.TheVariants as uncut
 use Rattle.auction_input.specs.Plan.{miscounted}
@@ -128,14 +128,14 @@ module _ (last_wins : Bool) (numbers : List ℕ) where
       (under (make t) forms groups t)) (sym is) (begin-under (make t) forms groups t))
 
 -- the fault of an input that isn't cut into parts is reported
-uncut-is : (texts : List Given) (f : PartFault) → refusal_of (uncut_fault texts f).fault ≡ refusal.Parts f
+uncut-is : (texts : List NamedText) (f : PartFault) → refusal_of (uncut_fault texts f).fault ≡ refusal.Parts f
 uncut-is texts uncut.BeforeFirst = refl
 uncut-is texts (uncut.PartName n) = refl
 uncut-is texts (uncut.OfVersion1 n) = refl
 uncut-is texts uncut.OutOfMemory = refl
 
 -- after the parts, whose fault is alone
-begin-parts : (asked : Request) (texts : List Given) (held : List Part) (found : Option PartFault) (others : List (Judged Fault))
+begin-parts : (asked : Request) (texts : List NamedText) (held : List Part) (found : Option PartFault) (others : List (Judged Fault))
     (next : List Part → Result Auction Refusal) → BeginWith (judged_as refusal_of others) (next held)
     → BeginWith (judged_as refusal_of (or_else (or_else (option_to_list (option_map (uncut_fault texts) found))
     (option_to_list (option_map (uncounted_fault asked held) (miscounted asked held)))) others))

@@ -7,7 +7,7 @@ use Rattle.auction_input.specs.ParsedTexts.{parsed_groups}
 use Rattle.auction_input.specs.Parts.{Part, parts_named}
 use Rattle.auction_input.specs.declared.request.Target.{Target}
 use Rattle.auction_input.specs.declared.refusal.Refusal.{Refusal}
-use Rattle.auction_input.specs.declared.wanted.Unmet.{Unmet}
+use Rattle.auction_input.specs.declared.part_counts.Unmet.{Unmet}
 use Rattle.auction_terms.specs.AllFaults.{failed}
 use Rattle.auction_terms.specs.Judged.{Fault as Judged}
 use Rattle.auction_terms.specs.Terms.{Terms}

@@ -1,6 +1,6 @@
 -- The lines that print all faults of an input.
 use Rattle.std.specs.Prelude.{◌-◌, ◌^◌, ◌==◌, ◌++◌, ◌∷◌, ℕ, List, [], codes, decimal, flat_map, if◌then◌else◌, length, min, take}
-use Rattle.auction_input.specs.Input.{Given, Input}
+use Rattle.auction_input.specs.Input.{NamedText, Input}
 use Rattle.auction_input.specs.Requests.{format_of}
 use Rattle.auction_input.specs.declared.request.Request.{Request}
 use Rattle.auction_terms.specs.Judged.{Fault as Judged}
@@ -15,7 +15,7 @@ use Rattle.input_faults.specs.PlacedText.{message_in}
 use Rattle.input_faults.specs.declared.fault.Fault.{Fault}
 
 -- the line of a fault of these texts: what is reported of it, and its detail; or its object
-abbrev pub fault_line : Format → List Given → Judged Fault → List ℕ
+abbrev pub fault_line : Format → List NamedText → Judged Fault → List ℕ
 fault_line Words texts at = message_in texts (refusal_of at.fault) ++ (detail at ++ 10 ∷ [])
 fault_line Json texts at = fault_object texts at
 
@@ -29,7 +29,7 @@ abbrev pub more_line : Format → ℕ → List ℕ
 more_line format more = if more == 0 then [] else count_line format more
 
 -- a line for each of the first faults, and how many more there are, up to 2 ^ 64 - 1
-abbrev pub fault_lines : Format → List Given → List (Judged Fault) → List ℕ
+abbrev pub fault_lines : Format → List NamedText → List (Judged Fault) → List ℕ
 fault_lines format texts faults =
     flat_map (fault_line format texts) (take MOST_FAULTS faults) ++ more_line format (min (length faults - MOST_FAULTS) (2 ^ 64 - 1))
 

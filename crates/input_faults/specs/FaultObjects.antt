@@ -1,12 +1,12 @@
 -- The object of JSON that tells a fault.
 use Rattle.std.specs.Prelude.{◌++◌, ◌==◌, ℕ, List, [], Option, None, Some, codes, flat_map, if◌then◌else◌, length, nat_lt, option_map, take}
-use Rattle.auction_input.specs.Input.{Given}
+use Rattle.auction_input.specs.Input.{NamedText}
 use Rattle.auction_input.specs.Line.{before_first, wrong_number}
 use Rattle.auction_input.specs.Places.{spot_of}
 use Rattle.auction_input.specs.declared.parts.PartFault.{PartFault}
 use Rattle.auction_input.specs.declared.parts.PartFault.TheVariants as parts
 use Rattle.auction_input.specs.declared.places.Spot.{Spot}
-use Rattle.auction_input.specs.declared.wanted.Unmet.TheVariants as unmet
+use Rattle.auction_input.specs.declared.part_counts.Unmet.TheVariants as unmet
 use Rattle.auction_terms.specs.GroupFaultText.{group_code, group_place}
 use Rattle.auction_terms.specs.Judged.{Fault as Judged}
 use Rattle.auction_terms.specs.RulesFaultText.{rules_code, rules_place}
@@ -35,7 +35,7 @@ next_number_if name None = []
 next_number_if name (Some n) = next_number name n
 
 -- the first member: the name of the file that the fault is in, or null, where no file is named
-abbrev pub file_member : List Given → Option Spot → List ℕ
+abbrev pub file_member : List NamedText → Option Spot → List ℕ
 file_member texts None = member_name (codes "{") (codes "file") ++ codes "null"
 file_member texts (Some at) = text_member (codes "{") (codes "file") (shown_name (file_name texts at.text))
 
@@ -104,7 +104,7 @@ named_members (fault.Unmet unmet.FirstGroupNotEmpty) = next_text (codes "fault")
 named_members (fault.Unmet (unmet.Number kind count by)) = next_text (codes "fault") (wrong_number kind)
 
 -- whose form is in which other file, where a fault is about that
-abbrev pub other_members : List Given → Fault → List ℕ
+abbrev pub other_members : List NamedText → Fault → List ℕ
 other_members texts (fault.AnotherForm f) = next_text (codes "bidder") f.bidder ++ next_text (codes "other_file") (shown_name (file_name texts f.first_text))
 other_members texts (fault.Parts f) = []
 other_members texts (fault.PartCount kind) = []
@@ -146,11 +146,11 @@ cause_member None = []
 cause_member (Some cause) = next_text (codes "cause") cause
 
 -- the object of a fault that is at this spot, on a line of its own
-abbrev pub object_at : List Given → Option Spot → Judged Fault → List ℕ
+abbrev pub object_at : List NamedText → Option Spot → Judged Fault → List ℕ
 object_at texts spot at =
     file_member texts spot ++ (part_members spot at.fault ++ (named_members at.fault ++ (other_members texts at.fault ++
     (place_members at at.fault ++ (cause_member at.cause ++ codes "}\n")))))
 
 -- the object of a fault of these texts
-abbrev pub fault_object : List Given → Judged Fault → List ℕ
+abbrev pub fault_object : List NamedText → Judged Fault → List ℕ
 fault_object texts at = object_at texts (spot_of texts (refusal_of at.fault)) at

@@ -2,14 +2,14 @@
 -- and no groups; each form is, whatever the others are; whose forms are in several texts, and how many calls they take, is looked at where
 -- every form is read; what a command wants of the groups and of the numbers of parts, where the groups are.
 use Rattle.std.specs.Prelude.{◌++◌, ℕ, Bool, List, [], Option, None, Result, Ok, Err, codes, map, option_map, option_to_list}
-use Rattle.auction_input.specs.Calls.{one_too_many}
+use Rattle.auction_input.specs.CallLimit.{one_too_many}
 use Rattle.auction_input.specs.FormTexts.{form_elsewhere}
 use Rattle.auction_input.specs.Input.{Input}
 use Rattle.auction_input.specs.Parts.{Part, input_fault, parts_named, input_parts, text_numbers}
 use Rattle.auction_input.specs.ParsedParts.{only_text}
 use Rattle.auction_input.specs.Plan.{miscounted}
 use Rattle.auction_input.specs.ParsedTexts.{parsed_form, parsed_groups, parsed_terms}
-use Rattle.auction_input.specs.Wanted.{numbers_in, unmet_refusal, wants}
+use Rattle.auction_input.specs.PartCounts.{numbers_in, unmet_refusal, wants}
 use Rattle.auction_input.specs.declared.form_texts.AnotherForm.{AnotherForm}
 use Rattle.auction_input.specs.declared.refusal.Refusal.{Refusal}
 use Rattle.auction_input.specs.declared.refusal.Refusal.TheVariants as refusal

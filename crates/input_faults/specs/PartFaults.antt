@@ -1,6 +1,6 @@
 -- The faults of the parts of an input, and of their numbers, each with what is wrong in words.
 use Rattle.std.specs.Prelude.{◌++◌, ◌∷◌, ℕ, List, [], Option, None, Some, codes, decimal, length, slice_index_or}
-use Rattle.auction_input.specs.Input.{Given}
+use Rattle.auction_input.specs.Input.{NamedText}
 use Rattle.auction_input.specs.Line.{of_version_1}
 use Rattle.auction_input.specs.Parts.{Part, name_of, parts_named}
 use Rattle.auction_input.specs.Places.{spot_of}
@@ -14,19 +14,19 @@ use Rattle.auction_input.specs.declared.refusal.Refusal.TheVariants as refusal
 use Rattle.auction_input.specs.declared.request.Request.{Request}
 use Rattle.auction_input.specs.declared.request.Target.{Target}
 use Rattle.auction_input.specs.declared.request.Target.TheVariants as target
-use Rattle.auction_input.specs.declared.wanted.Unmet.{Unmet}
-use Rattle.auction_input.specs.declared.wanted.Unmet.TheVariants as unmet
+use Rattle.auction_input.specs.declared.part_counts.Unmet.{Unmet}
+use Rattle.auction_input.specs.declared.part_counts.Unmet.TheVariants as unmet
 use Rattle.auction_terms.specs.Judged.{Fault as Judged, fault_at, fault_of_whole}
 use Rattle.auction_terms.specs.Lines.{lines_of}
 use Rattle.input_faults.specs.declared.fault.Fault.{Fault}
 use Rattle.input_faults.specs.declared.fault.Fault.TheVariants as fault
 
 -- the bytes of the text at a place, from 0
-abbrev pub bytes_at : List Given → ℕ → List ℕ
+abbrev pub bytes_at : List NamedText → ℕ → List ℕ
 bytes_at texts n = (slice_index_or texts n (record { name = []; bytes = [] })).bytes
 
 -- the bytes of the text in which a refusal's spot is, or of the first text if no spot is known
-abbrev pub text_at : List Given → Option Spot → List ℕ
+abbrev pub text_at : List NamedText → Option Spot → List ℕ
 text_at texts None = bytes_at texts 0
 text_at texts (Some at) = bytes_at texts at.text
 
@@ -35,11 +35,11 @@ abbrev pub numbered : {X : Type 0} → ℕ → List (List X) → List X
 numbered n items = slice_index_or ([] ∷ items) n []
 
 -- the first line of the text that has bytes before its first part
-abbrev pub beginning : List Given → List ℕ
+abbrev pub beginning : List NamedText → List ℕ
 beginning texts = numbered 1 (lines_of (text_at texts (spot_of texts (refusal.Parts parts.BeforeFirst))))
 
 -- the fault of an input that isn't cut into parts
-abbrev pub uncut_fault : List Given → PartFault → Judged Fault
+abbrev pub uncut_fault : List NamedText → PartFault → Judged Fault
 uncut_fault texts parts.BeforeFirst = fault_at 0 (beginning texts) (fault.Parts parts.BeforeFirst) (codes "has no %rules before it")
 uncut_fault texts (parts.PartName n) = fault_of_whole (fault.Parts (parts.PartName n)) None
 uncut_fault texts (parts.OfVersion1 n) = fault_of_whole (fault.Parts (parts.OfVersion1 n)) (Some of_version_1)

@@ -2,7 +2,7 @@
 
 ghost use Rattle.std.specs.Prelude.{◌≡◌, ◌↔◌, IfErr, IfOk, IsErr, IsTrue, OnOk, false};
 ghost use Rattle.byte_sinks.specs.Sinks.{GoesWhole};
-ghost use Rattle.auction_input.specs.Wanted.{parsed_taken};
+ghost use Rattle.auction_input.specs.PartCounts.{parsed_taken};
 ghost use Rattle.input_faults.specs.Explained.{IsCutShort};
 ghost use Rattle.input_faults.specs.FaultLines.{explanation};
 

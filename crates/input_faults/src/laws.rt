@@ -4,7 +4,7 @@ ghost use Rattle.std.specs.Prelude.{◌≡◌, ℕ, List, take};
 ghost use Rattle.auction_input.specs.Input.{Input};
 ghost use Rattle.auction_terms.specs.declared.limits.TheConstants.{FRONT_LEN};
 ghost use Rattle.input_faults.specs.Shown.{shown_text};
-ghost use Rattle.auction_input.specs.Wanted.{parsed_taken};
+ghost use Rattle.auction_input.specs.PartCounts.{parsed_taken};
 ghost use Rattle.input_faults.specs.FaultsAs.{BeginWith, judged_as};
 ghost use Rattle.input_faults.specs.InputFaults.{input_faults, refusal_of};
 ghost use Rattle.auction_input.specs.declared.request.Request.{Request};

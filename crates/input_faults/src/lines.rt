@@ -13,7 +13,7 @@ use crate::fault::Fault;
 use crate::objects::add_object;
 use crate::placed::add_message;
 use crate::wording::add_wording;
-use auction_input::{Given, Places};
+use auction_input::{NamedText, Places};
 use auction_terms::{All, FaultAt, Wording};
 use byte_sinks::{Format, MemorySink, Sink, WriteFault, Writer, add_number_member};
 use std::alloc::{AllocError, Global};
@@ -113,7 +113,7 @@ fn lines_at(
 /// The lines of the faults of these texts, and how many more there are. All memory is taken here, before the first line is put.
 pub fn lines_of(
     alloc: Global,
-    texts: &[Given],
+    texts: &[NamedText],
     format: Format,
     faults: &All<Fault>,
 ) -> Result<Vec<u8>, AllocError>

@@ -14,7 +14,9 @@ use crate::detail::add_cause;
 use crate::fault::Fault;
 use crate::placed::{add_file_name, file_name};
 use crate::shown::{add_shown_bytes, front};
-use auction_input::{AnotherForm, BEFORE_FIRST, Given, PartFault, PartKind, Places, Spot, Unmet};
+use auction_input::{
+    AnotherForm, BEFORE_FIRST, NamedText, PartFault, PartKind, Places, Spot, Unmet,
+};
 use auction_terms::{Cause, Code, FaultAt};
 use bid_forms::FormFault;
 use byte_sinks::{MemorySink, Sink, WriteFault, Writer, add_number_member, add_text_member};
@@ -87,7 +89,7 @@ fn add_number_if<S: Sink>(writer: &mut Writer<'_, S>, name: &[u8], number: Optio
 fn add_file<S: Sink>(
     alloc: Global,
     writer: &mut Writer<'_, S>,
-    texts: &[Given],
+    texts: &[NamedText],
     spot: Option<Spot>,
 ) -> Result<(), AllocError>
     ensures { OnOk result (Adds S.state writer.old writer.new (file_member texts.now spot)) }
@@ -242,7 +244,7 @@ fn add_named<S: Sink>(writer: &mut Writer<'_, S>, fault: Fault)
 fn add_another<S: Sink>(
     alloc: Global,
     writer: &mut Writer<'_, S>,
-    texts: &[Given],
+    texts: &[NamedText],
     another: &AnotherForm,
 ) -> Result<(), AllocError>
     ensures { OnOk result (Adds S.state writer.old writer.new
@@ -258,7 +260,7 @@ fn add_another<S: Sink>(
 fn add_other<S: Sink>(
     alloc: Global,
     writer: &mut Writer<'_, S>,
-    texts: &[Given],
+    texts: &[NamedText],
     fault: &Fault,
 ) -> Result<(), AllocError>
     ensures { OnOk result (Adds S.state writer.old writer.new (other_members texts.now fault.now)) }

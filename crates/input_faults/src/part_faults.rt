@@ -8,13 +8,13 @@ ghost use Rattle.input_faults.specs.PartFaults.{beginning, bytes_at, number_caus
 
 use crate::fault::Fault;
 use auction_input::{
-    Given, OF_VERSION_1, Part, PartFault, PartKind, Refusal, Request, Spot, Target, Unmet,
+    NamedText, OF_VERSION_1, Part, PartFault, PartKind, Refusal, Request, Spot, Target, Unmet,
     count_of, spot_of,
 };
 use auction_terms::{Cause, FaultAt, LineReader, Wording};
 
 // The bytes of the text at a place, from 0.
-fn bytes_at(texts: &[Given], place: usize) -> &[u8]
+fn bytes_at(texts: &[NamedText], place: usize) -> &[u8]
     ensures { result.now ≡ bytes_at texts.now place }
 {
     match texts.get(place) {
@@ -24,7 +24,7 @@ fn bytes_at(texts: &[Given], place: usize) -> &[u8]
 }
 
 // Those of the text that a refusal is of; where there is but one, of that.
-fn text_at(texts: &[Given], spot: Option<Spot>) -> &[u8]
+fn text_at(texts: &[NamedText], spot: Option<Spot>) -> &[u8]
     ensures { result.now ≡ text_at texts.now spot }
 {
     match spot {
@@ -44,7 +44,7 @@ fn first_line(text: &[u8]) -> &[u8]
 }
 
 // The first line of the text that has bytes before its first part.
-fn beginning(texts: &[Given]) -> &[u8]
+fn beginning(texts: &[NamedText]) -> &[u8]
     ensures { result.now ≡ beginning texts.now }
 {
     let spot = spot_of(texts, &Refusal::Parts(PartFault::BeforeFirst));
@@ -52,7 +52,7 @@ fn beginning(texts: &[Given]) -> &[u8]
 }
 
 /// The fault of an input that isn't cut into parts.
-pub fn uncut_fault(texts: &[Given], fault: PartFault) -> FaultAt<Fault>
+pub fn uncut_fault(texts: &[NamedText], fault: PartFault) -> FaultAt<Fault>
     ensures { kept_fault result ≡ uncut_fault texts.now fault }
 {
     let whole = Fault::Parts(fault);

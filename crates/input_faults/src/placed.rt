@@ -9,7 +9,7 @@ ghost use Rattle.auction_input.specs.declared.parts.PartFault.TheVariants as par
 
 use crate::shown::add_shown_bytes;
 use crate::wording::add_wording;
-use auction_input::{Given, Message, PartFault, Refusal, Spot};
+use auction_input::{Message, NamedText, PartFault, Refusal, Spot};
 use byte_sinks::{Sink, Writer};
 
 // Adds words on a refusal.
@@ -35,7 +35,7 @@ pub fn add_file_name<S: Sink>(writer: &mut Writer<'_, S>, name: &[u8])
 }
 
 /// The name of the file of a text.
-pub(crate) fn file_name(texts: &[Given], text: usize) -> &[u8]
+pub(crate) fn file_name(texts: &[NamedText], text: usize) -> &[u8]
     ensures { result.now ≡ file_name texts.now text }
 {
     match texts.get(text) {
@@ -45,7 +45,7 @@ pub(crate) fn file_name(texts: &[Given], text: usize) -> &[u8]
 }
 
 // Adds after what is reported of a form, if it is in another text than its bidder's first form, the name of that text's file.
-fn add_other<S: Sink>(writer: &mut Writer<'_, S>, texts: &[Given], refusal: &Refusal)
+fn add_other<S: Sink>(writer: &mut Writer<'_, S>, texts: &[NamedText], refusal: &Refusal)
     ensures { Adds S.state writer.old writer.new
         (with_other texts.now refusal.now []) }
 {
@@ -62,7 +62,7 @@ fn add_other<S: Sink>(writer: &mut Writer<'_, S>, texts: &[Given], refusal: &Ref
 // Adds what is reported of a refusal by itself, which is at that spot of these texts.
 fn add_words_at<S: Sink>(
     writer: &mut Writer<'_, S>,
-    texts: &[Given],
+    texts: &[NamedText],
     spot: Option<Spot>,
     refusal: &Refusal,
 )
@@ -82,7 +82,7 @@ fn add_words_at<S: Sink>(
 /// Adds what is reported of a refusal, which is at that spot of these texts.
 pub fn add_message<S: Sink>(
     writer: &mut Writer<'_, S>,
-    texts: &[Given],
+    texts: &[NamedText],
     spot: Option<Spot>,
     refusal: &Refusal,
 )
@@ -115,7 +115,7 @@ fn add_hint_on<S: Sink>(writer: &mut Writer<'_, S>, name: &[u8], fault: PartFaul
 
 /// Adds what comes after what is reported of a refusal on standard error: for files that are no parts of an input, what makes one of
 /// them.
-pub fn add_hint<S: Sink>(writer: &mut Writer<'_, S>, texts: &[Given], refusal: &Refusal)
+pub fn add_hint<S: Sink>(writer: &mut Writer<'_, S>, texts: &[NamedText], refusal: &Refusal)
     ensures { Adds S.state writer.old writer.new (hint texts.now refusal.now) }
 {
     match refusal {

@@ -7,7 +7,7 @@ pub mod HeaderCaseFacts
 pub mod EntryFacts
 pub mod RowStepFacts
 pub mod RowFacts
-pub mod StampFacts
+pub mod SeenRowFacts
 pub mod PairStepFacts
 pub mod PairFacts
 pub mod PairFaultFacts

@@ -14,7 +14,7 @@ use Rattle.program_rows.specs.Points.{AreAllowed, IsPoint, allows, objective, su
 use Rattle.optimality.specs.Branches.{cuts_above}
 use Rattle.optimality.specs.Certificates.{Cut, Form, side}
 use Rattle.optimality.specs.inside.Certificates.{form_sum}
-use Rattle.optimality.specs.Only.{is_zero_or_one, distance, free_ones, all_but, all_others, one_above, ShownIsOnly}
+use Rattle.optimality.specs.OnlyPoints.{is_zero_or_one, distance, free_ones, all_but, all_others, one_above, ShownIsOnly}
 use Rattle.optimality.proofs.BoundFacts.{IsWithin, negated-sum, shown-within}
 use Rattle.optimality.proofs.BranchFacts.{cuts-last}
 

@@ -27,7 +27,7 @@ use Rattle.optimality.proofs.LineFacts.{line_by_word}
 use Rattle.optimality.specs.CertificateText.{TellsCertificate, IsShownBy}
 use Rattle.optimality.specs.Branches.{Branch, At, cuts_above, closed}
 use Rattle.optimality.specs.Verdict.{taken, fault_from, certificate_fault}
-use Rattle.optimality.specs.Only.{all_but, all_others, distance, free_ones, one_above, only_fault, IsShownOnlyBy}
+use Rattle.optimality.specs.OnlyPoints.{all_but, all_others, distance, free_ones, one_above, only_fault, IsShownOnlyBy}
 
 -- ---------- what lines still have to tell ----------
 

@@ -9,5 +9,5 @@ pub mod Answers
 pub mod Branches
 pub mod Verdict
 pub mod Sizes
-pub mod Only
+pub mod OnlyPoints
 pub mod inside

@@ -9,12 +9,12 @@ pub mod laws;
 mod leaf_value;
 mod lines;
 mod narrow_sums;
-mod only;
+mod only_points;
 mod reader;
 mod refusal;
 mod row_forms;
 mod sums;
 mod terms;
 
-pub use only::check_only;
+pub use only_points::check_only;
 pub use reader::{check_certificate, check_optimum, check_selection};

@@ -14,9 +14,9 @@ use Rattle.std.proofs.lemmas.Slice.Eq.{bytes_eq-Decides}
 use denote.Ref.{Bor}
 use Rattle.auction_terms.specs.FirstFault.{first_failed}
 use Rattle.auction_terms.specs.LineFields.{field, fields, is_skipped}
-use Rattle.outcome.specs.Values.{is_near}
-use Rattle.outcome.specs.inside.Values.{token_value, value_fault}
-use Rattle.outcome.specs.declared.values.ValueFault.{ValueFault}
+use Rattle.outcome.specs.SolutionValues.{is_near}
+use Rattle.outcome.specs.inside.SolutionValues.{token_value, value_fault}
+use Rattle.outcome.specs.declared.solution_values.ValueFault.{ValueFault}
 use Rattle.program_rows.specs.declared.solution_fault.SolutionFault.{SolutionFault}
 use Rattle.program_rows.specs.declared.solution_fault.SolutionFault.TheVariants as fault
 use Rattle.auction_terms.specs.Stages.{unless}

@@ -13,10 +13,10 @@ use Rattle.auction_terms.specs.Allocations.{Book}
 use Rattle.auction_terms.specs.Keeping.{kept_of}
 use Rattle.program_rows.specs.Program.{Table}
 use Rattle.program_rows.specs.Rows.{program_of}
-use Rattle.outcome.specs.declared.values.ValueFault.TheVariants as value
+use Rattle.outcome.specs.declared.solution_values.ValueFault.TheVariants as value
 use Rattle.program_rows.specs.declared.solution_fault.SolutionFault.TheVariants as fault
-use Rattle.outcome.specs.Values.{is_near}
-use Rattle.outcome.specs.inside.Values.{token_value}
+use Rattle.outcome.specs.SolutionValues.{is_near}
+use Rattle.outcome.specs.inside.SolutionValues.{token_value}
 use Rattle.outcome.specs.Solution.{solution}
 use Rattle.outcome.specs.PointAllocation.{allocation_of}
 use Rattle.bid_desk.specs.Sale.{Sale}

@@ -1,4 +1,4 @@
-pub mod Values
+pub mod SolutionValues
 pub mod Solution
 pub mod PointAllocation
 pub mod Coming

@@ -14,7 +14,7 @@ use Rattle.auction_terms.specs.Decimals.{is_number_token, is_too_long}
 use Rattle.outcome.specs.declared.limits.TheConstants.{SOLUTION_LIMIT}
 use Rattle.program_rows.specs.declared.solution_fault.SolutionFault.{SolutionFault}
 use Rattle.program_rows.specs.declared.solution_fault.SolutionFault.TheVariants as fault
-use Rattle.outcome.specs.Values.{is_near}
+use Rattle.outcome.specs.SolutionValues.{is_near}
 
 -- ---- lines
 

@@ -1,4 +1,4 @@
 pub mod Reading
-pub mod Values
+pub mod SolutionValues
 pub mod Winning
 pub mod Following

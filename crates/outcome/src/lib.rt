@@ -12,7 +12,7 @@ mod pricing;
 mod reading;
 mod report_lines;
 mod sale;
-mod values;
+mod solution_values;
 mod writing;
 
 pub use allocation::{Allocation, same_winners};
@@ -24,5 +24,5 @@ pub use pricing::{Pricing, paid, price_of};
 pub use reading::read_solution;
 pub use report_lines::add_names_line;
 pub use sale::{amount_of, name_of};
-pub use values::ValueFault;
+pub use solution_values::ValueFault;
 pub use writing::{report, report_with, write_allocation};

@@ -15,7 +15,7 @@ ghost use Rattle.outcome.specs.Solution.{is_solution_memory, is_one, solution_li
 ghost use Rattle.auction_terms.specs.LineFields.{fields, is_skipped};
 
 use crate::limits::SOLUTION_LIMIT;
-use crate::values::{at_line, value_of};
+use crate::solution_values::{at_line, value_of};
 use auction_terms::{LineReader, next_field};
 use indexmap::IndexSet;
 use program_rows::{Bounds, NameSet, Point, Program, Seeded, SolutionFault, place_of};

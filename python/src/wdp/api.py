@@ -12,7 +12,7 @@ from wdp.checks import check_seconds, check_solver
 from wdp.folder import INPUT
 from wdp.office.faults import format_count
 from wdp.office.findings import Explained
-from wdp.office.judge import explain
+from wdp.office.explaining import explain
 from wdp.office.part_files import PartReader, find_names
 from wdp.office.reading import format_groups
 from wdp.outcome import Outcome

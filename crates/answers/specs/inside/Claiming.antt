@@ -9,7 +9,7 @@ use Rattle.auction_terms.specs.Lines.{bytes_of}
 use Rattle.auction_terms.specs.Groups.{starts_empty}
 use Rattle.auction_terms.specs.declared.choices.Choice.{Choice}
 use Rattle.group_compiler.specs.Compiled.{program_without}
-use Rattle.optimality.specs.Only.{IsLargeOnlyAt, only_fault}
+use Rattle.optimality.specs.OnlyPoints.{IsLargeOnlyAt, only_fault}
 use Rattle.outcome.specs.Solution.{solution}
 use Rattle.program_rows.specs.declared.certificate_fault.CertificateFault.{CertificateFault}
 use Rattle.program_rows.specs.declared.certificate_fault.CertificateFaultKind.TheVariants.{TooLarge}

@@ -5,7 +5,7 @@ use Rattle.auction_input.specs.FileTexts.{IsFound, Shelf}
 use Rattle.auction_input.specs.declared.files.FileFault.{FileFault}
 use Rattle.auction_input.specs.declared.files.FilePlace.TheVariants as place
 use Rattle.auction_input.specs.declared.files.FileRefusal.{FileRefusal}
-use Rattle.auction_input.specs.Wanted.{parsed_taken}
+use Rattle.auction_input.specs.PartCounts.{parsed_taken}
 use Rattle.auction_input.specs.Input.{Input}
 use Rattle.auction_input.specs.Line.{Puts, line}
 use Rattle.auction_input.specs.declared.refusal.Refusal.{Refusal}

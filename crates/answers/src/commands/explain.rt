@@ -6,7 +6,7 @@ ghost use Rattle.answers.specs.Answer.{answer, output_of};
 ghost use Rattle.answers.specs.Exact.{Ends, IsUnwritten, Writes};
 ghost use Rattle.answers.specs.Runs.{AsksAnswer};
 ghost use Rattle.auction_input.specs.Settled.{held};
-ghost use Rattle.auction_input.specs.Wanted.{parsed_taken};
+ghost use Rattle.auction_input.specs.PartCounts.{parsed_taken};
 ghost use Rattle.input_faults.specs.Explained.{IsCutShort};
 ghost use Rattle.input_faults.specs.FaultLines.{explanation};
 

@@ -1,7 +1,7 @@
 -- What the parts of an auction describe, and the round that is run by them.
 use Rattle.std.specs.Prelude.{◌≡◌, ◌⊎◌, ℕ, Bool, List, [], None, Ok, codes, map}
 use Rattle.auction_input.specs.Auction.{parsed_auction}
-use Rattle.auction_input.specs.Calls.{one_too_many}
+use Rattle.auction_input.specs.CallLimit.{one_too_many}
 use Rattle.auction_input.specs.FormTexts.{form_elsewhere}
 use Rattle.auction_input.specs.Input.{Input}
 use Rattle.auction_input.specs.Parts.{Part, parts_named, text_numbers}

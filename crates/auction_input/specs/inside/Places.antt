@@ -1,7 +1,7 @@
 -- What is known of the places of parts.
 use Rattle.std.specs.Prelude.{◌≡◌, ◌<◌, ℕ, Bool, List, Option, None, Some, length, map, true}
 use Rattle.std.specs.Str.{bytes_eq}
-use Rattle.auction_input.specs.Input.{Given}
+use Rattle.auction_input.specs.Input.{NamedText}
 use Rattle.auction_input.specs.Parts.{name_of}
 use Rattle.auction_input.specs.Places.{count_in}
 use Rattle.auction_input.specs.declared.part_kind.PartKind.{PartKind}
@@ -14,7 +14,7 @@ is_counted (Some kind) name = bytes_eq name (name_of kind)
 is_counted None name = true
 
 -- of several texts it is known how many parts of these kinds each has
-pub record AreCounted (texts : List Given) (rules forms groups : List ℕ) : Type 0 where
+pub record AreCounted (texts : List NamedText) (rules forms groups : List ℕ) : Type 0 where
   pub rules_are : 1 < length texts → rules ≡ map (count_in (counted.Kind kind.Rules)) texts
   pub forms_are : 1 < length texts → forms ≡ map (count_in (counted.Kind kind.Form)) texts
   pub groups_are : 1 < length texts → groups ≡ map (count_in (counted.Kind kind.Groups)) texts

@@ -9,8 +9,8 @@ use super::{RUNS, Run, TWO_GROUPS, TWO_PROGRAMS, reported};
 use crate::worked::input_of;
 use answers::{RunFault, print_refusal, run, run_compile};
 use auction_input::{
-    Auction, FileFault, Output, Part, PartFault, PartKind, Refusal, Request, Source, count_of, read_auction,
-    split_parts, text_of, texts_of,
+    Auction, FileFault, Output, Part, PartFault, PartKind, Refusal, Request, Source, count_of,
+    read_auction, split_parts, text_of, texts_of,
 };
 use byte_sinks::{Sink, SinkFailed};
 use group_compiler::OpenGate;

@@ -5,7 +5,7 @@ use Rattle.auction_terms.specs.Decimals.{is_number_token, is_too_long}
 use Rattle.program_rows.specs.declared.solution_fault.SolutionFault.{SolutionFault}
 use Rattle.program_rows.specs.declared.solution_fault.SolutionFault.TheVariants as fault
 use Rattle.outcome.specs.Solution.{names_column, is_one}
-use Rattle.outcome.specs.Values.{is_near}
+use Rattle.outcome.specs.SolutionValues.{is_near}
 
 -- the checks of a name and a value in the line at a place, after these lines
 abbrev pub pair_checks : List (List ℕ) → List (List ℕ) → ℕ → List ℕ → List ℕ → List (Bool × SolutionFault)

@@ -6,7 +6,7 @@ from functools import partial
 from typing import TypeVar
 
 from wdp import files
-from wdp.office.choices import Choices
+from wdp.office.reading_choices import Choices
 from wdp.program import Limits, ask, find_program
 from wdp.publish.names import LONGEST, is_line
 from wdp.solve import MOST_OF_ANSWER, MOST_OF_PROGRAM

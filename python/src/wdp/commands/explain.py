@@ -16,8 +16,8 @@ from wdp.files import Unreadable, put, read
 from wdp.office.auction_files import AuctionFiles
 from wdp.office.faults import Fault, format_count, format_lines, format_total
 from wdp.office.findings import LeftOutBid
-from wdp.office.judge import explain
-from wdp.office.places import make_faults_of_input
+from wdp.office.explaining import explain
+from wdp.office.located_faults import make_faults_of_input
 from wdp.program import find_program
 from wdp.texts import accepted
 from wdp.texts.parts import MOST_OF_INPUT

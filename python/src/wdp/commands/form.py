@@ -11,7 +11,7 @@ import os
 from wdp.commands.arguments import parse_path
 from wdp.files import tell, write_folder
 from wdp.office.auction_files import AuctionFiles
-from wdp.office.choices import Choices
+from wdp.office.reading_choices import Choices
 from wdp.office.faults import format_count, format_lines
 from wdp.program import find_program
 from wdp.texts.refusals import Refused, need

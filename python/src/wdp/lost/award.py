@@ -14,7 +14,7 @@ from wdp.lost.inputs import keep_first_group
 from wdp.lost.lowering import fits_alone
 from wdp.office.faults import suggest_name
 from wdp.office.findings import LeftOutBid
-from wdp.office.judge import explain
+from wdp.office.explaining import explain
 from wdp.runs.contents import FIRST_GROUP, Contents, Goals, name_file
 from wdp.runs.means import Means
 from wdp.runs.programs import Compiler

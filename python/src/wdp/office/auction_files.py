@@ -8,12 +8,12 @@ from contextlib import contextmanager
 from dataclasses import dataclass, field
 
 from wdp.files import Unreadable
-from wdp.office.choices import Choices
+from wdp.office.reading_choices import Choices
 from wdp.office.faults import Fault, format_count, quote, suggest_name
 from wdp.office.forms import FormFolder
 from wdp.office.findings import Finding, LeftOutBid
-from wdp.office.judge import explain
-from wdp.office.places import explain_value, limit_faults, make_faults, make_input_fault
+from wdp.office.explaining import explain
+from wdp.office.located_faults import explain_value, limit_faults, make_faults, make_input_fault
 from wdp.office.reading import MOST_OF_A_FORM, Groups, check_end, read_groups, read_rules_file
 from wdp.office.sheets import NOT_STORED, File, read_pairs
 from wdp.texts.accepted import AcceptedRules, parse_rules

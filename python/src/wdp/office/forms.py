@@ -10,7 +10,7 @@ from dataclasses import dataclass, field
 from pathlib import PurePath
 
 from wdp.files import Unreadable, map_errors
-from wdp.office.choices import Choices
+from wdp.office.reading_choices import Choices
 from wdp.office.faults import Fault
 from wdp.office.reading import read_form_file
 from wdp.office.sheets import MOST_OF_A_FILE, File

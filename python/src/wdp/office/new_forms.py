@@ -2,8 +2,8 @@
 from collections.abc import Iterable, Mapping
 
 from wdp.office.faults import quote, suggest_name
-from wdp.office.judge import explain
-from wdp.office.places import make_faults
+from wdp.office.explaining import explain
+from wdp.office.located_faults import make_faults
 from wdp.office.reading import read_form_file
 from wdp.office.sheets import File
 from wdp.texts.accepted import AcceptedRules

@@ -4,7 +4,7 @@ judged them.
 from collections.abc import Mapping, Sequence
 
 from wdp.office.findings import LeftOutBid
-from wdp.office.judge import explain
+from wdp.office.explaining import explain
 from wdp.program import read_version
 from wdp.publish import figures
 from wdp.publish.judging import (

@@ -12,7 +12,7 @@ from wdp.letters.rendering import format_page, format_text
 from wdp.lost.bids import BidKey, LostBid
 from wdp.lost.records import format_mark
 from wdp.office.faults import format_count
-from wdp.office.judge import explain
+from wdp.office.explaining import explain
 from wdp.program import Limits, ask
 from wdp.publish.figures import Figures
 from wdp.publish.judging import AuditSource, Source, Sources, judge

@@ -9,7 +9,7 @@ from pathlib import Path
 
 from wdp import audits, files
 from wdp.folder import INPUT, Folder
-from wdp.office.judge import explain
+from wdp.office.explaining import explain
 from wdp.publish.judging import judge
 from wdp.runs.contents import TIES, name_file
 from wdp.runs.origin import Origin

@@ -1,7 +1,7 @@
 use Rattle.std.proofs.Common.{◌≡◌, [], ℕ, List, Ok, Some, ◌⊎◌, sym, subst, slice_index_or}
 use Rattle.group_compiler.specs.Compiled.{program_without}
 use Rattle.optimality.specs.Answers.{IsLimit}
-use Rattle.optimality.specs.Only.{IsLargeOnlyAt, only_fault}
+use Rattle.optimality.specs.OnlyPoints.{IsLargeOnlyAt, only_fault}
 use Rattle.outcome.specs.Solution.{solution}
 use Rattle.program_rows.specs.declared.certificate_fault.CertificateFaultKind.TheVariants.{TooLarge}
 use Rattle.program_rows.specs.Program.{Table}

@@ -1,6 +1,6 @@
 use Rattle.std.proofs.Common.{◌≡◌, ◌∙◌, List, ℕ, Ok, ap, inr, length, refl, subst, sym, [], None, Some}
 use Rattle.bid_forms.specs.Offers.{Offers}
-use Rattle.auction_input.specs.Calls.{one_too_many}
+use Rattle.auction_input.specs.CallLimit.{one_too_many}
 use Rattle.std.specs.Prelude.{codes}
 use Rattle.auction_input.specs.FormTexts.{form_elsewhere, in_one_text}
 use Rattle.auction_input.specs.Parts.{parts_held, text_numbers}

@@ -2,7 +2,7 @@ use Rattle.std.proofs.Common.{◌≡◌, ◌∙◌, Bor, List, ℕ, Ok, ap, inr,
 use Rattle.std.proofs.lemmas.List.{length-map}
 use Rattle.std.specs.List.{zip}
 use Rattle.std.specs.Prelude.{codes}
-use Rattle.auction_input.specs.Calls.{one_too_many}
+use Rattle.auction_input.specs.CallLimit.{one_too_many}
 use Rattle.auction_input.specs.FormTexts.{form_elsewhere, in_one_text}
 use Rattle.auction_input.specs.LastForms.{HoldsLast, parsed_forms}
 use Rattle.auction_input.specs.ParsedParts.{only_text}

@@ -1,16 +1,16 @@
 use Rattle.std.proofs.Common.{◌≡◌, ◌<◌, ◌+◌, ◌∷◌, ◌∙◌, ℕ, List, false, ap, arith, drop, drop_of_length-le, length, slice_index_or, subst, sym}
 use Rattle.std.proofs.lemmas.List.{drop_more}
 use Rattle.auction_terms.proofs.FirstFaultFacts.{CheckedSoFar, checked-all}
-use Rattle.auction_input.specs.Input.{Given}
+use Rattle.auction_input.specs.Input.{NamedText}
 use Rattle.std.specs.List.{list_any}
 use Rattle.auction_input.specs.Parts.{cut_lines, has_bytes_before, part_fault, parts_from, parts_held, parts_in, input_parts}
 use Rattle.auction_input.proofs.PartFacts.{fault-of-parts, text-more, text-refused}
 use Rattle.auction_input.proofs.parts.split_parts.Goals as goal
 
 -- the text at a place, and those after it
-ahead : (texts seen : List Given) (place : ℕ) (x : Given) → seen ≡ texts → place < length seen → x ≡ slice_index_or seen place x
+ahead : (texts seen : List NamedText) (place : ℕ) (x : NamedText) → seen ≡ texts → place < length seen → x ≡ slice_index_or seen place x
     → drop place texts ≡ x ∷ drop (place + 1) texts
-ahead texts seen place x same within is = rw (← same) (drop_more seen place x within ∙ ap (λ (y : Given). y ∷ drop (place + 1) seen) (sym is))
+ahead texts seen place x same within is = rw (← same) (drop_more seen place x within ∙ ap (λ (y : NamedText). y ∷ drop (place + 1) seen) (sym is))
 
 pub loop-place-preserved : goal.loop-place-preserved
 loop-place-preserved c =

@@ -1,7 +1,7 @@
 use Rattle.std.proofs.Common.{arith, sym, subst, slice_index_or}
 use Rattle.rayon.proofs.ListFacts.{IfOk-then}
 use Rattle.auction_input.specs.inside.Submissions.{ComesTo, JobOwn}
-use Rattle.auction_input.specs.declared.job.Done.{Done}
+use Rattle.auction_input.specs.declared.bidder_thread.Done.{Done}
 use Rattle.auction_input.proofs.SubmissionFacts.{zip-of-vec}
 use Rattle.auction_input.proofs.round.run_each.Goals as goal
 

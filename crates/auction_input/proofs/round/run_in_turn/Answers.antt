@@ -1,7 +1,7 @@
 use Rattle.std.proofs.Common.{◌++◌, ◌∷◌, [], subst, sym}
 use Rattle.std.specs.List.{AllZip}
 use Rattle.auction_input.specs.inside.Submissions.{ComesTo, JobOwn}
-use Rattle.auction_input.specs.declared.job.Done.{Done}
+use Rattle.auction_input.specs.declared.bidder_thread.Done.{Done}
 use Rattle.auction_input.proofs.SubmissionFacts.{yielded-more}
 use Rattle.std.proofs.lemmas.Slice.Zip.{all_zipped_more}
 use Rattle.auction_input.proofs.round.run_in_turn.Goals as goal

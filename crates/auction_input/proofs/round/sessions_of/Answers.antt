@@ -1,6 +1,6 @@
 use Rattle.std.proofs.Common.{◌++◌, ◌∷◌, []}
 use Rattle.auction_input.proofs.SubmissionFacts.{ended-more, pushed, sessions-more, wrong-more, yielded-more}
-use Rattle.auction_input.specs.declared.job.Done.{Done}
+use Rattle.auction_input.specs.declared.bidder_thread.Done.{Done}
 use Rattle.auction_input.specs.declared.round.RoundFault.TheVariants.{WrongAnswer}
 use Rattle.auction_input.proofs.round.sessions_of.Goals as goal
 

@@ -1,4 +1,4 @@
-use Rattle.auction_input.specs.declared.job.Done.{Done}
+use Rattle.auction_input.specs.declared.bidder_thread.Done.{Done}
 use Rattle.auction_input.proofs.SubmissionFacts.{lists-submitted}
 use Rattle.auction_input.proofs.round.submit_all.Goals as goal
 

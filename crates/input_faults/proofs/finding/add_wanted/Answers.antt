@@ -1,9 +1,9 @@
 use Rattle.std.proofs.Common.{◌++◌, ◌∙◌, Bool, List, Some, ap, ap₂, subst, sym}
 use Rattle.std.proofs.lemmas.Result.{on_ok_weaker}
 use Rattle.auction_input.specs.Parts.{parts_held}
-use Rattle.auction_input.specs.Wanted.{numbers_in, proof_wants, solution_wants, wants}
-use Rattle.auction_input.specs.declared.wanted.Numbers.{Numbers}
-use Rattle.auction_input.specs.declared.wanted.Unmet.{Unmet}
+use Rattle.auction_input.specs.PartCounts.{numbers_in, proof_wants, solution_wants, wants}
+use Rattle.auction_input.specs.declared.part_counts.Numbers.{Numbers}
+use Rattle.auction_input.specs.declared.part_counts.Unmet.{Unmet}
 use Rattle.input_faults.proofs.MergeFacts.{finds-both}
 use Rattle.input_faults.specs.inside.Finding.{FindsMore}
 use Rattle.auction_terms.specs.Judged.{Fault as Judged}

@@ -10,7 +10,7 @@ use Rattle.mps_reader.specs.inside.Rows.{names_of}
 use Rattle.mps_reader.specs.inside.Tracking.{state_values, parsed_values, bounded_values}
 use Rattle.mps_reader.proofs.NameFacts.{length-bytes, own_name, same_name}
 use Rattle.mps_reader.proofs.RowStepFacts.{no_name, field-at}
-use Rattle.mps_reader.proofs.StampFacts.{found-row}
+use Rattle.mps_reader.proofs.SeenRowFacts.{found-row}
 use Rattle.mps_reader.specs.declared.tables.ColumnState.{ColumnState}
 use Rattle.mps_reader.proofs.AnswerFacts.{handed-on}
 use Rattle.mps_reader.proofs.BoundFacts.{type-refused, type-taken, column-at, number-at, known-is, values-binary, values-of, parsed-at, bound-tells}

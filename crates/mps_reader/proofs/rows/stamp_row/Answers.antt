@@ -4,7 +4,7 @@ use Rattle.std.specs.Prelude.{◌==◌}
 use Rattle.std.proofs.lemmas.Bool.{eq-eqb, ne_eqb}
 use Rattle.mps_reader.specs.inside.Rows.{names_of}
 use Rattle.mps_reader.proofs.NameFacts.{any-names}
-use Rattle.mps_reader.proofs.StampFacts.{found-row, unknown-fault, repeated-fault, no-fault}
+use Rattle.mps_reader.proofs.SeenRowFacts.{found-row, unknown-fault, repeated-fault, no-fault}
 use Rattle.mps_reader.proofs.rows.stamp_row.Goals as goal
 
 pub returns-in_default-clause-fault : goal.returns-in_default-clause-fault
