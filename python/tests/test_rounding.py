@@ -1,6 +1,4 @@
-"""Inequalities by rounding: each holds of all points, and so do the lines that show it; and the
-splits that part columns.
-"""
+"""Inequalities by rounding: each holds of all points, and so do the lines that show it."""
 import random
 from collections.abc import Sequence
 
@@ -12,12 +10,10 @@ from test_problem import make_wide_program
 from tied_auctions import subsets
 from wdp.certify import search
 from wdp.certify.layout import Layout
-from wdp.certify.nodes import Node
 from wdp.certify.other_points import Beaten, UniquenessSearch
 from wdp.certify.problem import Problem
 from wdp.certify.rounding import LARGEST, MOST_CHOICES, Inequality, Rounding, list_multipliers
 from wdp.certify.search import CertificateSearch, Hints
-from wdp.certify.splits import MOST_SPLITS, find_splits
 from wdp.certify.strengthening import Strengthening
 from wdp.texts.zero_one import AT_LEAST, AT_MOST, EQUAL, Column, Row, ZeroOne
 from zero_one_programs import draw_small_program
@@ -206,30 +202,6 @@ def test_a_complete_tree_is_not_begun_again(
     hints = Hints(known_rows="2 C1 1\n")
     again = CertificateSearch(Layout(program), optimum.ones, hints=hints)
     assert len(again.find_certificate().splitlines()) == 3
-
-
-@pytest.mark.parametrize("is_forced", [False, True])
-@pytest.mark.parametrize("seed", range(5))
-def test_splits_part_the_columns_with_a_value_in_different_ways(seed: int, is_forced: bool) -> None:
-    draw = random.Random(seed)
-    layout = Layout(make_wide_program(seed, bidders=4, bids=20))
-    places = np.array(sorted(draw.sample(range(layout.count), 12)))
-    values = np.array([draw.choice([0.25, 0.5]) for _ in places])
-    node = Node(layout.is_open)
-    if is_forced:
-        node = node.require(layout, layout.blocks.members[0])
-    splits = find_splits(layout, node, places=places, values=values)
-    assert splits
-    assert len(splits) <= MOST_SPLITS
-    sets = []
-    for split in splits:
-        assert len({*layout.blocks.of_columns[split.places]}) == 1
-        held = np.isin(places, split.places)
-        assert abs(values[held].sum() - split.part) < 1e-9
-        sets.append(held.tobytes())
-    assert len({*sets}) == len(sets)
-    evenness = [abs(split.part - 0.5) for split in splits]
-    assert evenness == sorted(evenness)
 
 
 def find_with_bidders(problem: Problem) -> list[str]:

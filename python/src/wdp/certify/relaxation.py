@@ -8,7 +8,7 @@ needs to be above 20 gaps.
 from dataclasses import dataclass
 
 import numpy as np
-from scipy.sparse import eye, hstack
+from scipy.sparse import coo_matrix, csr_matrix
 
 from wdp.certify.bounds import Bound
 from wdp.certify.layout import Array
@@ -20,12 +20,25 @@ _CAP_IN_GAPS = 20
 POSITIVE = 1e-6  # values above are taken for more than 0
 
 
+def _add_slacks(rows: csr_matrix, shared: int) -> coo_matrix:
+    """Rows with further columns: a slack for each, and what oversteps each of the last ones, which
+    are shared.
+    """
+    height, count = rows.shape
+    entries = rows.tocoo()
+    slacks = np.arange(height)
+    over = np.arange(height - shared, height)
+    data = np.concatenate([entries.data, np.ones(height), -np.ones(shared)])
+    of_rows = np.concatenate([entries.row, slacks, over])
+    of_columns = np.concatenate([entries.col, np.arange(count, count + height + shared)])
+    return coo_matrix((data, (of_rows, of_columns)), (height, count + height + shared))
+
+
 class Relaxation:
     """The relaxation of a bound's program below its node, for a search that misses by this gap.
 
     Its columns are those that are allowed at first, as `core`, a slack for each row, and what
-    oversteps each shared row, in this order. `upper` has their upper bounds. Objectives are in
-    units above the bound's value.
+    oversteps each shared row, in this order. Objectives are in units above the bound's value.
     """
 
     def __init__(self, bound: Bound, gap: int) -> None:
@@ -41,17 +54,17 @@ class Relaxation:
         right_sides = layout.linear.right_sides
         blocks = len(layout.blocks.members)
         shared = len(layout.shared.rows)
-        height = len(right_sides)
         # no slack is above what the row could be short of at all: boxed columns are never dual
         # infeasible
         reach = (abs(right_sides) + abs(rows).sum(axis=1).A1)[blocks:]
-        self.upper: Array = np.concatenate([np.ones(self.count + blocks), reach, reach])
-        over = -eye(height, shared, -blocks)
-        matrix = hstack([rows, eye(height), over], "csc")
+        uppers = [1.0] * (self.count + blocks) + reach.tolist() * 2
+        # the columns and the slacks of blocks whose upper bound is 1 and not 0
+        self._is_free: Array = np.ones(self.count + blocks, bool)
+        matrix = _add_slacks(rows, shared)
         self._simplex = Simplex(matrix, right_sides, first_slack=self.count)
-        for column, cost in enumerate(self._list_costs(bound)):
+        for column, (cost, upper) in enumerate(zip(self._list_costs(bound), uppers, strict=True)):
             self._simplex.set_cost(column, cost)
-            self._set_bound(column)
+            self._simplex.set_upper(column, upper)
 
     def _list_costs(self, bound: Bound) -> list[float]:
         """The cost of each column in units."""
@@ -61,20 +74,16 @@ class Relaxation:
         in_units = [min(cap, float(cost / self._unit)) for cost in costs]
         return in_units + [cap] * len(bound.prices)
 
-    def _set_bound(self, column: int) -> None:
-        self._simplex.set_upper(column, float(self.upper[column]))
-
     def enter(self, node: Node, basis: list[int] | None = None) -> None:
         """Takes the bounds of a node, and the basis to start from."""
-        upper = self.upper.copy()
-        blocks = len(self.layout.blocks.members)
-        upper[: self.count] = node.allowed[self.core]
-        upper[self.count : self.count + blocks] = 1
-        upper[[self.count + block for block in node.forced]] = 0
-        changed = np.flatnonzero(upper != self.upper)
-        self.upper = upper
-        for column in changed:
-            self._set_bound(int(column))
+        is_free = np.ones(len(self._is_free), bool)
+        node.allowed.take(self.core, out=is_free[: self.count])
+        for block in node.forced:
+            is_free[self.count + block] = False
+        changed = (is_free != self._is_free).nonzero()[0]
+        self._is_free = is_free
+        for column, upper in zip(changed.tolist(), is_free[changed].tolist(), strict=True):
+            self._simplex.set_upper(column, 1.0 if upper else 0.0)
         if basis:
             self._simplex.set_basis(basis)
 
@@ -109,7 +118,8 @@ class Relaxation:
     def measure_overstep(self) -> float:
         """By how much the shared rows are overstepped in all."""
         first = self.count + self._simplex.height
-        return sum(map(float, self._simplex.read_values(range(first, len(self.upper)))))
+        last = first + len(self.root_prices)
+        return sum(map(float, self._simplex.read_values(range(first, last))))
 
 
 @dataclass(frozen=True, eq=False)

@@ -27,7 +27,7 @@ from wdp.certify.nodes import Node
 from wdp.certify.relaxation import POSITIVE, Relaxation, Visit
 from wdp.certify.root import find_nearest, find_root_prices
 from wdp.certify.rounding import Inequality, Rounding
-from wdp.certify.splits import choose_strongest, find_splits, halve
+from wdp.certify.splits import Scores, choose_strongest, find_partings, halve
 from wdp.certify.strengthening import Strengthening
 from wdp.certify.tree import Tree, Written
 from wdp.certify.unfinished import Unfinished
@@ -98,6 +98,7 @@ class CertificateSearch:
         self.most_lines = lines
         self.hints = hints
         self.tree = Tree()
+        self.scores = Scores()
         self.root_value = -math.inf
         # (whether a tree that begins at the root has a good point looked for first)
         self._begins_with_promising = ones <= layout.fixed_ones
@@ -390,13 +391,14 @@ class CertificateSearch:
         node = visit.node
         relaxation = visit.relaxation
         values = relaxation.read_values()
-        held = np.flatnonzero(values > POSITIVE)
-        splits = find_splits(self.layout, node, places=relaxation.core[held], values=values[held])
-        if reached is not None and splits:
+        if reached is not None:
+            held = np.flatnonzero(values > POSITIVE)
+            partings = find_partings(self.layout, node, relaxation.core[held], values[held])
             limit = relaxation.to_units(self.least - 1)
-            strongest = choose_strongest(visit, splits, reached=reached, limit=limit)
-            self._split_at(visit, strongest.places)
-            return
+            strongest = choose_strongest(visit, partings, self.scores, reached=reached, limit=limit)
+            if strongest is not None:
+                self._split_at(visit, strongest.places)
+                return
         self._try_point(set(relaxation.core[values > 0.5].tolist()))
         half = halve(self.layout, node)
         if half is None:

@@ -1,10 +1,11 @@
 """Linear programs in equations, solved by GLPK's simplex from the basis of the solve before."""
 import weakref
 from collections.abc import Iterable
+from ctypes import memmove
 
 import numpy as np
 import swiglpk as glpk
-from scipy.sparse import coo_matrix, csc_matrix
+from scipy.sparse import coo_matrix
 
 from wdp.certify.layout import Array
 
@@ -16,6 +17,11 @@ _TRIES = 3
 _ENDED = (0, glpk.GLP_EOBJUL, glpk.GLP_EITLIM, glpk.GLP_ETMLIM)
 
 
+def _fill(array: glpk.intArray | glpk.doubleArray, numbers: Array) -> None:
+    """Copies numbers, of the type of an array of GLPK, to its places from 1 on."""
+    memmove(int(array.cast()) + numbers.itemsize, numbers.ctypes.data, numbers.nbytes)
+
+
 class Simplex:
     """A linear program that is minimised, whose columns are at least 0.
 
@@ -23,7 +29,7 @@ class Simplex:
     rows from 1, and the columns after them.
     """
 
-    def __init__(self, matrix: csc_matrix, right_sides: Array, *, first_slack: int) -> None:
+    def __init__(self, matrix: coo_matrix, right_sides: Array, *, first_slack: int) -> None:
         """Makes the problem of a sparse matrix, with a basis of slacks alone: the columns from this
         one on, one for each row.
         """
@@ -31,7 +37,7 @@ class Simplex:
         self._problem = glpk.glp_create_prob()
         weakref.finalize(self, glpk.glp_delete_prob, self._problem)
         self._control = glpk.glp_smcp()
-        self._load(matrix.tocoo())
+        self._load(matrix)
         glpk.glp_init_smcp(self._control)
         self._control.msg_lev = glpk.GLP_MSG_OFF
         self._control.meth = glpk.GLP_DUALP
@@ -49,13 +55,9 @@ class Simplex:
         rows = glpk.intArray(entries.nnz + 1)
         columns = glpk.intArray(entries.nnz + 1)
         numbers = glpk.doubleArray(entries.nnz + 1)
-        triples = zip(
-            entries.row.tolist(), entries.col.tolist(), entries.data.tolist(), strict=True
-        )
-        for index, (row, column, number) in enumerate(triples, 1):
-            rows[index] = row + 1
-            columns[index] = column + 1
-            numbers[index] = number
+        _fill(rows, (entries.row + 1).astype(np.intc))
+        _fill(columns, (entries.col + 1).astype(np.intc))
+        _fill(numbers, entries.data.astype(np.double))
         glpk.glp_load_matrix(self._problem, entries.nnz, rows, columns, numbers)
 
     def set_cost(self, column: int, cost: float) -> None:

@@ -2,17 +2,22 @@
 
 A node is split at what a bidder wins, not at single columns. A split asks whether a block wins
 anything, or at least or at most so much of a shared row. Such sets part many columns at once, and
-lead to far smaller trees than single columns do. Of the most even ones a few are tried by some
-steps of the dual simplex, and the one is taken that raises the bounds of both sides most.
+lead to far smaller trees than single columns do. Splits are tried by some steps of the dual
+simplex, one after the other, until several in turn raise the bounds of both sides less than the
+best one. The first ones are those of which most is expected: they are even, and the same questions
+gained much at earlier nodes.
 """
 from collections.abc import Iterator
 from dataclasses import dataclass
+from math import sqrt
+from typing import NamedTuple
 
 from wdp.certify.layout import Array, Layout
 from wdp.certify.nodes import Node
 from wdp.certify.relaxation import POSITIVE, Visit
 
-MOST_SPLITS = 16  # that are tried
+MOST_TRIES = 32  # at a node
+MOST_IDLE = 6  # tries in turn that gain less than the best one
 _STEPS = 40  # of the dual simplex for each side
 _UNDECIDED = 1e-5
 _LEAST_GAIN = 1e-9
@@ -27,12 +32,12 @@ class Split:
     part: float
 
 
-@dataclass(frozen=True)
-class _Way:
-    """Columns that take at least `load` of a shared row, or with the sign -1 at most; without a
-    row, all of them.
+class Way(NamedTuple):
+    """The columns of a block that take at least `load` of a shared row, or with the sign -1 at
+    most; without a row, all of them.
     """
 
+    block: int
     row: int | None
     load: int = 0
     sign: int = 1
@@ -61,16 +66,20 @@ class _Held:
         """Whether a value is neither 0 nor 1."""
         return len(self.values) > 1 or self.values[0] < 1 - POSITIVE
 
+    def add_up(self, chosen: int) -> float:
+        """What those columns have in all whose bits are set."""
+        return sum(value for bit, value in enumerate(self.values) if chosen >> bit & 1)
+
 
 @dataclass(frozen=True)
-class _Parting:
+class Parting:
     """What some of a block's columns with a value have in all, and the ways that choose just
     these.
     """
 
     part: float
     block: int
-    ways: list[_Way]
+    ways: list[Way]
 
     @property
     def is_undecided(self) -> bool:
@@ -78,29 +87,62 @@ class _Parting:
         return _UNDECIDED < self.part < 1 - _UNDECIDED
 
     @property
-    def unevenness(self) -> float:
-        """How far the part is from a half."""
-        return abs(self.part - 0.5)
+    def evenness(self) -> float:
+        """1 if the part is a half, and 0 if it is nothing or all."""
+        return 1 - 2 * abs(self.part - 0.5)
+
+    def make_split(self, layout: Layout, node: Node) -> Split:
+        """The smallest split of a node by one of the ways."""
+        members = layout.blocks.members[self.block]
+        members = members[node.allowed[members]]
+        loads = layout.shared.loads[members]
+        chosen = (way.choose(members, loads) for way in self.ways)
+        return Split(min(chosen, key=len), self.part)
 
 
-def find_splits(layout: Layout, node: Node, places: Array, values: Array) -> list[Split]:
-    """The most even splits at which the values of these columns are undecided, no two alike for the
-    columns.
+class Scores:
+    """What the ways to split have gained at the nodes before.
+
+    The score of a try is the geometric mean of what its two sides gained, as parts of what is
+    missing at the node: 1 if both sides are shown.
+    """
+
+    def __init__(self) -> None:
+        self._sums: dict[Way, float] = {}
+        self._counts: dict[Way, int] = {}
+        self._sum = 0.0
+        self._count = 0
+
+    def add(self, ways: list[Way], score: float) -> None:
+        """Takes the score of a try."""
+        self._sum += score
+        self._count += 1
+        for way in ways:
+            self._sums[way] = self._sums.get(way, 0.0) + score
+            self._counts[way] = self._counts.get(way, 0) + 1
+
+    def rank(self, partings: list[Parting]) -> list[Parting]:
+        """The partings of which most is expected first."""
+        return sorted(partings, key=lambda parting: -parting.evenness * self._expect(parting.ways))
+
+    def _expect(self, ways: list[Way]) -> float:
+        """The mean score of some ways so far, or of all if they are new."""
+        known = [way for way in ways if way in self._counts]
+        if not known:
+            return self._sum / self._count if self._count else 1.0
+        return sum(map(self._sums.__getitem__, known)) / sum(map(self._counts.__getitem__, known))
+
+
+def find_partings(layout: Layout, node: Node, places: Array, values: Array) -> list[Parting]:
+    """Where the values of these columns are undecided, no two alike for the columns, the most even
+    ones first.
     """
     partings = [
         parting
         for held in _group_by_block(layout, places, values)
         for parting in _find_partings(held, is_forced=held.block in node.forced)
     ]
-    partings.sort(key=lambda parting: parting.unevenness)
-    splits: list[Split] = []
-    for parting in partings[:MOST_SPLITS]:
-        members = layout.blocks.members[parting.block]
-        members = members[node.allowed[members]]
-        loads = layout.shared.loads[members]
-        chosen = [way.choose(members, loads) for way in parting.ways]
-        splits.append(Split(min(chosen, key=len), parting.part))
-    return splits
+    return sorted(partings, key=lambda parting: -parting.evenness)
 
 
 def _group_by_block(layout: Layout, places: Array, values: Array) -> list[_Held]:
@@ -115,29 +157,33 @@ def _group_by_block(layout: Layout, places: Array, values: Array) -> list[_Held]
     return [held for held in by_block.values() if held.is_undecided]
 
 
-def _list_ways(held: _Held, *, is_forced: bool) -> Iterator[tuple[_Way, tuple[bool, ...]]]:
-    """The ways to choose some of a block's columns, each with whether it chooses each of them."""
+def _list_ways(held: _Held, *, is_forced: bool) -> Iterator[tuple[Way, int]]:
+    """The ways to choose some of a block's columns, each with the bits of those that it chooses."""
+    everything = (1 << len(held.values)) - 1
     if not is_forced:
-        yield _Way(None), (True,) * len(held.values)
+        yield Way(held.block, None), everything
     for row, loads in enumerate(zip(*held.loads, strict=True)):
-        for load in sorted(set(loads)):
+        of_load: dict[int, int] = {}
+        for bit, load in enumerate(loads):
+            of_load[load] = of_load.get(load, 0) | 1 << bit
+        below = 0
+        for load in sorted(of_load):
             if load != 0:
-                yield _Way(row, load), tuple(each >= load for each in loads)
+                yield Way(held.block, row, load), everything ^ below
+            below |= of_load[load]
             if not is_forced:
-                yield _Way(row, load, -1), tuple(each <= load for each in loads)
+                yield Way(held.block, row, load, -1), below
 
 
-def _find_partings(held: _Held, *, is_forced: bool) -> list[_Parting]:
+def _find_partings(held: _Held, *, is_forced: bool) -> list[Parting]:
     """Each set of the columns with a value that some ways choose, if its part in all is
     undecided.
     """
-    partings: dict[tuple[bool, ...], _Parting] = {}
-    for way, is_chosen in _list_ways(held, is_forced=is_forced):
-        if is_chosen not in partings:
-            pairs = zip(held.values, is_chosen, strict=True)
-            part = sum(value for value, is_one in pairs if is_one)
-            partings[is_chosen] = _Parting(part, held.block, ways=[])
-        partings[is_chosen].ways.append(way)
+    partings: dict[int, Parting] = {}
+    for way, chosen in _list_ways(held, is_forced=is_forced):
+        if chosen not in partings:
+            partings[chosen] = Parting(held.add_up(chosen), held.block, ways=[])
+        partings[chosen].ways.append(way)
     return [parting for parting in partings.values() if parting.is_undecided]
 
 
@@ -157,35 +203,64 @@ def halve(layout: Layout, node: Node) -> Split | None:
     return Split(places, 0.5)
 
 
-def choose_strongest(visit: Visit, splits: list[Split], *, reached: float, limit: float) -> Split:
-    """The split whose sides have the greatest product of gains, at a node whose relaxation has
-    reached an objective. A side is shown at the limit.
+class Trial:
+    """Tries splits of a node whose relaxation has reached an objective, by some steps of the dual
+    simplex. A side is shown at the limit.
+
+    `best` is the split whose sides have the greatest product of gains, and `idle` how many tries
+    there were since that one.
     """
-    best = splits[0]
-    best_score = -1.0
-    for split in splits:
-        low, high = _measure_gains(visit, split, reached=reached, limit=limit)
-        if low * high > best_score:
-            best = split
-            best_score = low * high
-        if min(low, high) >= (limit - reached) * _NEARLY_ALL:
+
+    def __init__(self, visit: Visit, *, reached: float, limit: float) -> None:
+        self.best: Split | None = None
+        self.idle = 0
+        self.visit = visit
+        self.reached = reached
+        self.missing = max(_LEAST_GAIN, limit - reached)
+        self._greatest = 0.0
+
+    def try_split(self, split: Split) -> float:
+        """Measures the gains of both sides; the score (see Scores).
+
+        If the second side can't make up for what the first one lacks, it counts as a half.
+        """
+        low = self._measure_gain(self.visit.node.exclude(split.places))
+        high = self.missing / 2
+        is_hopeful = low * self.missing > self._greatest
+        if is_hopeful:
+            node = self.visit.node.require(self.visit.relaxation.layout, split.places)
+            high = self._measure_gain(node)
+        self.idle += 1
+        if is_hopeful and low * high > self._greatest:
+            self.best = split
+            self.idle = 0
+            self._greatest = low * high
+        return sqrt(low * high) / self.missing
+
+    def is_over(self) -> bool:
+        """Whether no more splits are worth a try."""
+        return self.idle >= MOST_IDLE or self._greatest >= (_NEARLY_ALL * self.missing) ** 2
+
+    def _measure_gain(self, side: Node) -> float:
+        """By how much some steps raise the objective of a side, up to the limit."""
+        relaxation = self.visit.relaxation
+        relaxation.enter(side, self.visit.basis)
+        limit = self.reached + self.missing
+        raised = relaxation.solve(limit=limit, steps=_STEPS)
+        gain = 0.0 if raised is None else min(limit, raised) - self.reached
+        return max(_LEAST_GAIN, gain)
+
+
+def choose_strongest(
+    visit: Visit, partings: list[Parting], scores: Scores, *, reached: float, limit: float
+) -> Split | None:
+    """The split that gains most of those that are tried at a node, whose relaxation has reached an
+    objective. A side is shown at the limit.
+    """
+    trial = Trial(visit, reached=reached, limit=limit)
+    for parting in scores.rank(partings)[:MOST_TRIES]:
+        split = parting.make_split(visit.relaxation.layout, visit.node)
+        scores.add(parting.ways, trial.try_split(split))
+        if trial.is_over():
             break
-    return best
-
-
-def _measure_gains(
-    visit: Visit, split: Split, *, reached: float, limit: float
-) -> tuple[float, float]:
-    """By how much some steps of the dual simplex raise the objective of each side, up to the
-    limit.
-    """
-
-    def measure_gain(side: Node) -> float:
-        visit.relaxation.enter(side, visit.basis)
-        raised = visit.relaxation.solve(limit=limit, steps=_STEPS)
-        best = reached if raised is None else min(limit, raised)
-        return max(_LEAST_GAIN, best - reached)
-
-    low = measure_gain(visit.node.exclude(split.places))
-    high = measure_gain(visit.node.require(visit.relaxation.layout, split.places))
-    return low, high
+    return trial.best
