@@ -4,10 +4,12 @@ Given prices, the best multiplier of each block follows: the least of its priced
 needs only prices, however they were found, and is exact in whole numbers.
 """
 from collections import Counter
+from collections.abc import Iterable
+from functools import cached_property
 
 import numpy as np
 
-from wdp.certify.layout import Array, Layout
+from wdp.certify.layout import Array, Layout, Part
 from wdp.certify.nodes import Node
 
 _EXACT_IN_64_BITS = 2**59
@@ -22,27 +24,46 @@ class Bound:
     """What prices of the shared rows, at a scale, show for the points of a node: no point's scaled
     objective is below `value`.
 
-    `priced` has the scaled costs of the columns with what the prices add, and `parts` what each
-    block adds to the value; both are exact.
+    `parts` are what each block adds to the value; they are exact. If a part of the columns is given
+    that has all that the node allows, no others are looked at.
     """
 
-    def __init__(self, layout: Layout, node: Node, *, prices: list[int], scale: int = 1) -> None:
+    def __init__(
+        self,
+        layout: Layout,
+        node: Node,
+        *,
+        prices: list[int],
+        scale: int = 1,
+        part: Part | None = None,
+    ) -> None:
         self.layout = layout
         self.node = node
         self.scale = scale
         self.prices = prices
+        self._part = part
         shared = layout.shared
         size = scale * layout.largest_cost
         size += sum(
             abs(price) * load for price, load in zip(prices, shared.largest_loads, strict=True)
         )
         fits = size < _EXACT_IN_64_BITS
-        dtype = np.int64 if fits else object
-        self.priced: Array = scale * layout.costs.astype(dtype)
-        self.priced += shared.loads.astype(dtype) @ np.array(prices, dtype)
+        self._dtype = np.int64 if fits else object
+        self._priced_part = self.priced if part is None else self._price(part.costs, part.loads)
         self.parts = self._find_parts(_NEVER if fits else _NEVER_AT_ANY_SIZE)
         right = sum(price * side for price, side in zip(prices, shared.right_sides, strict=True))
         self.value = scale * layout.constant + sum(self.parts) - right
+
+    @cached_property
+    def priced(self) -> Array:
+        """The scaled costs of all columns with what the prices add, which are exact."""
+        return self._price(self.layout.costs, self.layout.shared.loads)
+
+    def _price(self, costs: Array, loads: Array) -> Array:
+        """The scaled costs of columns with what the prices add for these loads."""
+        priced: Array = self.scale * costs.astype(self._dtype)
+        priced += loads.astype(self._dtype, copy=False) @ np.array(self.prices, self._dtype)
+        return priced
 
     def _find_parts(self, never: int) -> list[int]:
         """What each block adds: the least priced cost, and at most 0 if the block needn't win.
@@ -50,12 +71,21 @@ class Bound:
         `never` is above every priced cost. Any number is right for a block that has to win and has
         no column left.
         """
-        counted = np.where(self.node.allowed, self.priced, never)
-        parts: list[int] = []
-        for block, least in enumerate(self.layout.blocks.find_least(counted)):
-            number = 1 if least >= never else least
-            parts.append(number if block in self.node.forced else min(0, number))
+        parts = [0] * len(self.layout.blocks.members)
+        for block in self.node.forced:
+            parts[block] = 1
+        for block, least in self._find_least(never):
+            if least < never:
+                parts[block] = least if block in self.node.forced else min(0, least)
         return parts
+
+    def _find_least(self, never: int) -> Iterable[tuple[int, int]]:
+        """Blocks with the least priced cost of an allowed column, or with `never`."""
+        if self._part is None:
+            counted = np.where(self.node.allowed, self.priced, never)
+            return enumerate(self.layout.blocks.find_least(counted))
+        counted = np.where(self.node.allowed[self._part.places], self._priced_part, never)
+        return self._part.find_least(counted)
 
     def compute_gap(self, least: int) -> int:
         """How far it is from showing that no objective is below `least`: below 0 if it shows
@@ -63,9 +93,25 @@ class Bound:
         """
         return self.scale * (least - 1) - self.value
 
-    def compute_reduced_costs(self) -> Array:
-        """How much more the bound would be with a column at 1; for the allowed columns."""
-        return np.subtract(self.priced, self.layout.blocks.spread(self.parts, self.priced.dtype))
+    def compute_reduced_costs(self, part: Part | None = None) -> Array:
+        """How much more the bound would be with a column at 1; for the allowed columns of a part,
+        or of all.
+        """
+        of_columns = self.layout.blocks.of_columns
+        parts: Array = np.array([*self.parts, 0], self._dtype)
+        if part is None:
+            return np.subtract(self.priced, parts[of_columns])
+        is_own = part is self._part
+        priced = self._priced_part if is_own else self._price(part.costs, part.loads)
+        return np.subtract(priced, parts[of_columns[part.places]])
+
+    def find_costly(self, gap: int) -> tuple[Array, Array]:
+        """The places of the allowed columns whose reduced cost is above a gap, and that cost."""
+        part = self._part
+        reduced = self.compute_reduced_costs(part)
+        places = np.arange(self.layout.count) if part is None else part.places
+        is_costly = self.node.allowed[places] & (reduced > gap)
+        return places[is_costly], reduced[is_costly]
 
 
 class Leaf:

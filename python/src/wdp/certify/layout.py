@@ -81,6 +81,30 @@ class Blocks:
         return least
 
 
+@dataclass(frozen=True, eq=False)
+class Part:
+    """Some open columns of a layout in their order, by their `places`: their costs, what they take
+    of shared rows, and the block of each.
+
+    `order` has their indexes block by block, `starts` where each block begins there that has one of
+    them, and `numbers` these blocks.
+    """
+
+    places: Array
+    costs: Array
+    loads: Array
+    order: Array
+    starts: Array
+    numbers: list[int]
+
+    def find_least(self, values: Array) -> list[tuple[int, int]]:
+        """Each block that has a column here, with the least of the values of these."""
+        if not self.numbers:
+            return []
+        least: list[int] = np.minimum.reduceat(values[self.order], self.starts).tolist()
+        return list(zip(self.numbers, least, strict=True))
+
+
 def _find_blocks(
     program: ZeroOne, entries: csr_matrix, is_open: Array
 ) -> Iterator[tuple[Array, int | None]]:
@@ -235,6 +259,20 @@ class Layout:
             loads=loads,
             largest_loads=[int(abs(column).max(initial=0)) for column in loads.T],
             right_sides=[side - part for side, part in zip(sides, taken, strict=True)],
+        )
+
+    def take_part(self, places: Array) -> Part:
+        """The part of these open columns."""
+        of_columns = self.blocks.of_columns[places]
+        order = np.argsort(of_columns, kind="stable")
+        numbers, starts = np.unique(of_columns[order], return_index=True)
+        return Part(
+            places=places,
+            costs=self.costs[places],
+            loads=self.shared.loads[places],
+            order=order,
+            starts=starts,
+            numbers=numbers.tolist(),
         )
 
     def add_splits(self, splits: Sequence[SplitRow]) -> "Layout":

@@ -37,7 +37,7 @@ def _add_slacks(rows: csr_matrix, shared: int) -> coo_matrix:
 class Relaxation:
     """The relaxation of a bound's program below its node, for a search that misses by this gap.
 
-    Its columns are those that are allowed at first, as `core`, a slack for each row, and what
+    Its columns are those that are allowed at first, as `core` and `part`, a slack for each row, and what
     oversteps each shared row, in this order. Objectives are in units above the bound's value.
     """
 
@@ -45,6 +45,7 @@ class Relaxation:
         layout = bound.layout
         self.layout = layout
         self.core = np.flatnonzero(bound.node.allowed)
+        self.part = layout.take_part(self.core)
         self.count = len(self.core)
         self.gap = gap
         self.root_prices = bound.prices
@@ -69,7 +70,7 @@ class Relaxation:
     def _list_costs(self, bound: Bound) -> list[float]:
         """The cost of each column in units."""
         cap = float(_CAP_IN_GAPS * _UNITS_IN_GAP)
-        reduced = bound.compute_reduced_costs()[self.core].astype(object)
+        reduced = bound.compute_reduced_costs(self.part).astype(object)
         costs = [*reduced, *(-part for part in bound.parts), *bound.prices]
         in_units = [min(cap, float(cost / self._unit)) for cost in costs]
         return in_units + [cap] * len(bound.prices)

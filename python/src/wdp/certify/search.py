@@ -235,7 +235,8 @@ class CertificateSearch:
         """
         for scale in _SCALES:
             prices = relaxation.round_prices(scale)
-            bound = Bound(self.layout, node, prices=prices, scale=scale)
+            part = relaxation.part
+            bound = Bound(self.layout, node, prices=prices, scale=scale, part=part)
             gap = bound.compute_gap(self.least)
             if gap < 0:
                 return self._write(Leaf(bound))
@@ -328,12 +329,11 @@ class CertificateSearch:
         what is left of the bound's node.
         """
         node = bound.node
-        reduced = bound.compute_reduced_costs()
-        places = np.flatnonzero(node.allowed & (reduced > bound.compute_gap(self.least)))
+        places, reduced = bound.find_costly(bound.compute_gap(self.least))
         if not len(places) or len(places) < part * node.allowed.sum():
             return node
         # the same prices show the second side, on which one of them is 1, whatever their blocks
-        second = Leaf(bound, node.require_any(places), last=int(reduced[places].min()))
+        second = Leaf(bound, node.require_any(places), last=int(reduced.min()))
         if not second.fits():
             return node
         self.tree.write_split(self.layout, places)
@@ -371,12 +371,16 @@ class CertificateSearch:
         fixed = node
         basis = relaxation.find_basis()
         if relaxation.measure_overstep() < _OVERSTEPS:
-            bound = Bound(self.layout, node, prices=relaxation.round_prices(1))
+            prices = relaxation.round_prices(1)
+            bound = Bound(self.layout, node, prices=prices, part=relaxation.part)
             fixed = self._fix(bound, _NODE_PART)
         left = fixed.allowed.sum()
         is_smaller = relaxation.count > _SMALL and left < _SHRINKS_AT * relaxation.count
         if is_smaller:
-            within = Bound(self.layout, Node(fixed.allowed), prices=relaxation.root_prices)
+            left_node = Node(fixed.allowed)
+            within = Bound(
+                self.layout, left_node, prices=relaxation.root_prices, part=relaxation.part
+            )
             relaxation = Relaxation(within, relaxation.gap)
             basis = None
         is_again = is_smaller or fixed is not node
