@@ -4,6 +4,7 @@ solutions.
 Of a program nothing is judged. A solution has a line NAME VALUE for each column, and comments;
 other columns are 0.
 """
+import io
 import operator
 import re
 from collections.abc import Iterable, Iterator, Set
@@ -248,28 +249,35 @@ def format_program(program: ZeroOne) -> bytes:
     """A program in free MPS, as `wdp` writes it, without the rows that no column has and that are
     met.
     """
+    text = io.BytesIO()
+    for piece in _list_pieces(program):
+        text.write(piece.encode("ascii"))
+    return text.getvalue()
+
+
+def _list_pieces(program: ZeroOne) -> Iterator[str]:
+    """The text of a program in pieces, of which none is longer than a column or all rows."""
     used = {place for column in program.columns for place, _ in column.entries}
     rows = [row for place, row in enumerate(program.rows) if place in used or not row.is_met_by(0)]
-    lines = ["NAME wdp", "ROWS", " N OBJ"]
-    lines += [f" {row.kind} {row.name}" for row in rows]
-    lines += ["COLUMNS"]
+    yield "NAME wdp\nROWS\n N OBJ\n"
+    yield "".join(f" {row.kind} {row.name}\n" for row in rows)
+    yield "COLUMNS\n"
     if program.columns:
-        lines += [" M1 'MARKER' 'INTORG'"]
+        yield " M1 'MARKER' 'INTORG'\n"
+    names = [row.name for row in program.rows]
     for column in program.columns:
-        lines += [f" {column.name} OBJ {column.cost}"]
-        for place, coefficient in column.entries:
-            lines.append(f" {column.name} {program.rows[place].name} {coefficient}")
+        lines = [f" {column.name} {names[place]} {number}\n" for place, number in column.entries]
+        yield "".join([f" {column.name} OBJ {column.cost}\n", *lines])
     if program.columns:
-        lines += [" M2 'MARKER' 'INTEND'"]
-    lines += ["RHS"]
-    lines += [f" RHS {row.name} {row.right_side}" for row in rows]
+        yield " M2 'MARKER' 'INTEND'\n"
+    yield "RHS\n"
+    yield "".join(f" RHS {row.name} {row.right_side}\n" for row in rows)
     if program.columns:
-        lines += ["BOUNDS"]
+        yield "BOUNDS\n"
     for column in program.columns:
         kind = "FX" if column.is_fixed else "UP"
-        lines += [f" {kind} BND {column.name} {column.upper}"]
-    lines += ["ENDATA", ""]
-    return "\n".join(lines).encode("ascii")
+        yield f" {kind} BND {column.name} {column.upper}\n"
+    yield "ENDATA\n"
 
 
 def _parse_whole(number: str) -> int:
