@@ -55,7 +55,7 @@ class Settler:
 
     def make_first(self) -> Problem:
         """The problem of group 1, with what its search found."""
-        problem = self._make_problem(FIRST_GROUP, self._read("program", FIRST_GROUP))
+        problem = self._make_problem(FIRST_GROUP)
         problem.known_rows = self.contents.read_rows()
         return problem
 
@@ -65,14 +65,14 @@ class Settler:
         """
         store = self.contents.store
         goals = self.contents.goals
-        program = self._read("program", group)
+        self._read("program", group)  # (a file that was changed is refused, though nobody needs it)
         if not goals.is_certified:
-            self._answer_alone(group, program)
+            self._answer_alone(group)
             return
         solution = name_file("solution", group)
         certificate = name_file("certificate", group)
         if not store.has(certificate) or not store.has(solution):
-            settled = self._take_over(group) or self._certify(group, program)
+            settled = self._take_over(group) or self._certify(group)
             if group == FIRST_GROUP:
                 store.leave(ROWS, settled.rows.encode("ascii"))
             self.contents.leave_group(
@@ -98,7 +98,7 @@ class Settler:
             store.leave(kept, answer)
         return store.read(kept)
 
-    def _answer_alone(self, group: int, program: bytes) -> None:
+    def _answer_alone(self, group: int) -> None:
         """The solver's answer to a group's program if nothing certifies it; a solution that is
         there counts as one.
         """
@@ -107,7 +107,7 @@ class Settler:
         solution = name_file("solution", group)
         if not store.has(answer) and store.has(solution):
             store.leave(answer, store.read(solution))
-        self._answer(group, program)
+        self._answer(group, self._read("program", group))
 
     def _take_over(self, group: int) -> certify.Optimum | None:
         """What shows a group that leaves out fewer, if its solution has no bid of the others: then
@@ -119,29 +119,29 @@ class Settler:
         names = self.contents.read_names()
         return find_shown(self.contents, names[group], groups.find_smaller(names, group))
 
-    def _make_problem(self, group: int, program: bytes) -> Problem:
+    def _make_problem(self, group: int) -> Problem:
         """The problem of a group, of which nothing is read if that of group 1 is there, with what
         that one's search found.
         """
         problem = self.first
         if problem is None:
-            problem = certify.read_problem(program)
+            problem = certify.read_problem(self._read("program", group))
         elif left_out := self.contents.read_names()[group]:
             problem = problem.leave_out(self.contents.number_bidders(left_out))
         problem.known_rows = self.contents.read_rows() if group != FIRST_GROUP else ""
         return problem
 
-    def _certify(self, group: int, program: bytes) -> certify.Optimum:
+    def _certify(self, group: int) -> certify.Optimum:
         """What a solver, if there is one, and the search for a certificate come to; it goes on
         where an earlier run gave up.
         """
         with self.means.at_once():
-            problem = self._make_problem(group, program)
+            problem = self._make_problem(group)
         try:
             if self.means.solver is None:
                 settled = self._search_alone(group, problem)
             else:
-                settled = self._search(group, program, problem)
+                settled = self._search(group, problem)
         except LimitReached as reached:
             self._leave_unfinished(group, reached)
             part = format_percent(reached.part_missing)
@@ -161,14 +161,15 @@ class Settler:
             begin = problem.make_empty_solution()
         return problem.find_optimum(begin, seconds=self.means.seconds)
 
-    def _search(self, group: int, program: bytes, problem: Problem) -> certify.Optimum:
+    def _search(self, group: int, problem: Problem) -> certify.Optimum:
         """What the search comes to; LimitReached at its limit."""
         from wdp.certify.settling import settle
 
         def ask(turn: int, text: bytes | None) -> bytes | None:
             name: int | str = f"{group}.{turn}" if turn else group
+            program = self._read("program", group) if text is None else text
             try:
-                return self._answer(name, program if text is None else text)
+                return self._answer(name, program)
             except NotSolved as failed:
                 if failed.status != solve.TIME_OUT:
                     raise
