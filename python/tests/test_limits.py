@@ -4,6 +4,7 @@ many steps memory has room for.
 import re
 from dataclasses import replace
 from pathlib import Path
+from typing import Any
 
 import pytest
 
@@ -15,7 +16,9 @@ from wdp.runs.solutions import format_percent
 from wdp.certify import search
 from wdp.certify.layout import Layout
 from wdp.certify.limits import LimitReached
+from wdp.certify.outcomes import Optimum
 from wdp.certify.problem import Problem
+from wdp.certify.search import CertificateSearch
 from wdp.certify.settling import TURNS, settle
 from wdp.certify.unfinished import Unfinished
 
@@ -134,6 +137,33 @@ def test_a_solver_gets_more_columns_in_turns(monkeypatch: pytest.MonkeyPatch) ->
         best
     )
     assert len(asked.turns) == 1
+
+
+@pytest.mark.parametrize("is_better", [False, True])
+def test_a_search_goes_on_unless_the_solver_has_a_better_answer(
+    monkeypatch: pytest.MonkeyPatch, is_better: bool
+) -> None:
+    """With a better one it begins again; either way the whole is a certificate."""
+    monkeypatch.setattr("wdp.certify.settling.TURNS", [replace(TURNS[0], lines=6), TURNS[-1]])
+    program = make_wide_program(3)
+    problem = Problem(Layout(program))
+    best = problem.find_optimum(b"").solution
+    least = problem.compute_objective(best)
+    monkeypatch.setattr(CertificateSearch, "_dive", lambda *_: False)
+    monkeypatch.setattr(CertificateSearch, "_try_promising", lambda *_: None)
+    earlier: list[str] = []
+    find_optimum = problem.find_optimum
+
+    def find_and_record(solution: bytes, **given: Any) -> Optimum:
+        earlier.append(given["earlier"])
+        return find_optimum(solution, **given)
+
+    monkeypatch.setattr(problem, "find_optimum", find_and_record)
+    answers = iter([b"", best if is_better else b""])
+    found = settle(problem, lambda turn, text: next(answers))
+    assert problem.compute_objective(found.solution) == least
+    assert Checker(program).verdict(least, found.certificate) == (None, [])
+    assert [bool(tree) for tree in earlier] == [False, not is_better]
 
 
 def test_a_small_program_goes_whole_to_the_solver() -> None:

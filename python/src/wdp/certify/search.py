@@ -176,7 +176,7 @@ class CertificateSearch:
 
     def _go_on(self, prices: list[int], unfinished: Unfinished) -> None:
         """Goes on with the tree of an earlier search, whose best point this one begins with."""
-        self._is_strong = True
+        self._is_strong = bool(unfinished.rows)
         if unfinished.rows:
             rounding = Rounding(self.layout)
             self._add_inequalities([rounding.parse(row) for row in unfinished.rows])

@@ -3,8 +3,9 @@ columns.
 
 The search decides over all columns, so a solver only has to give a good point. Where the gap
 between the root's bound and that point is wide, a point of few columns may be far from the best
-one; then the search doesn't end soon, and the solver gets more. What a turn does depends on no
-time, so the same program ends in the same bytes wherever no limit is met.
+one; then the search doesn't end soon, and the solver gets more. If that brings nothing better, the
+search goes on where it was. What a turn does depends on no time, so the same program ends in the
+same bytes wherever no limit is met.
 """
 import math
 from collections.abc import Callable
@@ -55,6 +56,9 @@ class _Settling:
         self.problem = problem
         self.known: bytes | None = None
         self.asked: Array | None = None
+        # (what a search came to is kept without the exception, whose frames have all of the search)
+        self._found: bytes | None = None
+        self._tree = ""
 
     def make_question(self, turn: Turn) -> _Question:
         """What the solver is asked next."""
@@ -84,6 +88,18 @@ class _Settling:
             if objective < problem.compute_objective(self.known):
                 self.known = answer
         return self.known
+
+    def pause(self, reached: LimitReached) -> None:
+        """Takes what a search came to that ended at its limit of lines."""
+        self.known = reached.solution
+        self._found = reached.solution
+        self._tree = reached.tree
+
+    def find_earlier(self) -> str:
+        """The tree of the search before, if nothing better is known now than at its end. Else a new
+        search is better, in which more columns are fixed at the root.
+        """
+        return self._tree if self.known == self._found else ""
 
     def has_all(self) -> bool:
         """Whether a solver had all columns that a better solution may have."""
@@ -119,10 +135,15 @@ def settle(
             is_last = turn is TURNS[-1] or has_failed or settling.has_all()
             lines = math.inf if is_last else turn.lines
             try:
-                return problem.find_optimum(known, seconds=max(left, _LEAST_SECONDS), lines=lines)
+                return problem.find_optimum(
+                    known,
+                    seconds=max(left, _LEAST_SECONDS),
+                    lines=lines,
+                    earlier=settling.find_earlier(),
+                )
             except LimitReached as reached:
                 if is_last or reached.is_late:
                     raise
-                settling.known = reached.solution
+                settling.pause(reached)
         left -= monotonic() - begin
     raise AssertionError("the last turn has no limit of lines")
