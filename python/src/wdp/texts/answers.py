@@ -1,6 +1,7 @@
 """What the program prints, read by docs/REFERENCE.md: an answer with anything more or less is
 refused.
 """
+import io
 import math
 import re
 from collections.abc import Iterable, Iterator, Sequence
@@ -145,7 +146,9 @@ def split_programs(
             raise _make_unclear("it doesn't begin with a program")
         else:
             count += 1
-            yield left_out, _check_program(b"".join(piece), group=count)
+            text = io.BytesIO()
+            text.writelines(piece)  # (as a list they would take four times the memory)
+            yield left_out, _check_program(text.getvalue(), group=count)
     if count != len(expected.groups):
         raise _make_unclear(f"it has {count} programs, for {len(expected.groups)} groups")
 
