@@ -1,6 +1,6 @@
 -- What is read of an input is the auction that it describes.
 use Rattle.std.proofs.Common.{◌≡◌, ◌≤◌, ◌<◌, ◌+◌, ◌++◌, ◌==◌, ◌∷◌, ◌∙◌, [], ℕ, suc, zero, Bool, true, false, List, Option, None, Some, Result, Ok, Err}
-use Rattle.std.proofs.Common.{ap, append_assoc, append-nil, arith, codes, cond, inl, inr, length, length-append, map, nat_lt, refl, slice_index_or, subst, sym}
+use Rattle.std.proofs.Common.{ap, append_assoc, append-nil, arith, codes, cond, inl, inr, length, length-append, nat_lt, refl, slice_index_or, subst, sym}
 use Rattle.std.proofs.lemmas.Bool.{cases_Bool, eq-eqb, eqb-true, ltb-false, ltb-true}
 use Rattle.std.proofs.lemmas.Bool.Decides.{leb_tells}
 use Rattle.std.proofs.lemmas.List.Elements.{All-cons, All-head, All-nil, All-tail, filter-append}
@@ -35,8 +35,6 @@ use Rattle.auction_input.specs.ParsedTexts.{form_in, parsed_form, parsed_groups,
 use Rattle.auction_input.specs.Parts.{Part, bytes_before, cut_lines, has_bytes_before, input_fault, input_parts, part_fault, part_names, parts_named, text_numbers, unknown_part}
 use Rattle.auction_input.specs.Plan.{miscounted, taken_by}
 use Rattle.auction_input.specs.Submissions.{forms_of}
-use Rattle.auction_input.specs.declared.form_texts.AnotherForm.{AnotherForm}
-use Rattle.auction_input.specs.declared.part_kind.PartKind.{PartKind}
 use Rattle.auction_input.specs.declared.part_kind.PartKind.TheVariants as kind
 use Rattle.auction_input.specs.declared.parts.PartFault.{PartFault}
 use Rattle.auction_input.specs.declared.parts.PartFault.TheVariants as fault

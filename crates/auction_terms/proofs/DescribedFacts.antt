@@ -1,5 +1,5 @@
 -- What is read of a text is what the text describes.
-use Rattle.std.proofs.Common.{◌≡◌, ◌∷◌, ◌∙◌, ℕ, List, [], Option, Some, None, Ok, Err, ap, refl, sym, map}
+use Rattle.std.proofs.Common.{◌≡◌, ◌∷◌, ℕ, List, [], Option, Some, None, Ok, Err, ap, refl, sym, map}
 use Rattle.std.specs.Prelude.{◌↔◌}
 use Rattle.std.specs.Option.{option_map_or}
 use Rattle.auction_terms.proofs.AcceptedRulesFacts.{none-rules}
@@ -10,7 +10,7 @@ use Rattle.auction_terms.specs.GroupsText.{group_faults, group_of, groups_of}
 use Rattle.auction_terms.specs.Judged.{Fault, first_or}
 use Rattle.auction_terms.specs.Lines.{lines_of}
 use Rattle.auction_terms.specs.Records.{Record}
-use Rattle.auction_terms.specs.RulesText.{faults_of_version, rules_faults, rules_of_records, terms_of_version, version_fault, version_of}
+use Rattle.auction_terms.specs.RulesText.{faults_of_version, rules_faults, rules_of_records, terms_of_version, version_of}
 use Rattle.auction_terms.specs.Terms.{Terms}
 use Rattle.auction_terms.specs.declared.record_kinds.Version.{Version}
 use Rattle.auction_terms.specs.declared.rules.Bidder.{Bidder}

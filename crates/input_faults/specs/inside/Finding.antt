@@ -1,5 +1,5 @@
 -- How faults of an input are found, one text after the other.
-use Rattle.std.specs.Prelude.{◌≡◌, ◌++◌, ℕ, List, [], Option, None, Some, Result, Ok, Err, codes}
+use Rattle.std.specs.Prelude.{◌≡◌, ◌++◌, ℕ, List, [], Option, None, Some, Ok, Err, codes}
 use Rattle.auction_input.specs.ParsedParts.{only_text}
 use Rattle.auction_input.specs.ParsedTexts.{parsed_groups}
 use Rattle.auction_input.specs.Parts.{Part, parts_named}
