@@ -26,7 +26,8 @@ MOST_OF_ANSWER = 32 * 1024 * 1024  # bytes of any file that a solver writes
 MOST_OF_PROGRAM = 1024 * 1024 * 1024
 _FILES = {"mps": "program.mps", "free": "free.mps", "out": "solution.txt"}
 _PLACE = re.compile(r"\{([^{}]*)\}")  # of these files, and of the `seconds`
-_CBC = "cbc {free} -sec {seconds} -timeMode elapsed -solve -solu {out}"
+# (in these programs cbc's cuts and its own preprocessing take longer than the nodes they save)
+_CBC = "cbc {free} -cuts off -preprocess off -sec {seconds} -timeMode elapsed -solve -solu {out}"
 _HIGHS = "{mps} {out} {seconds}"  # of highs.py, which Python runs
 _CBC_LINE = re.compile(r"(?:\*\*)? *[0-9]+ +(\S+) +(\S+) +\S+ *")
 _LONGEST_GRACE = 25  # seconds by which a solver may overstep its limit
