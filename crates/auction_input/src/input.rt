@@ -180,7 +180,7 @@ fn fault_among(text: &[u8], place: usize, count: usize) -> Option<FileFault>
 }
 
 // Reads the text of a name, which is at that place among so many, with at most so many bytes.
-fn read_given<D: Files, I: Read>(
+fn read_text<D: Files, I: Read>(
     alloc: Global,
     files: &D,
     name: &str,
@@ -191,20 +191,17 @@ fn read_given<D: Files, I: Read>(
 ) -> Result<NamedText, Unread>
     requires place { place < count }
     requires limit { limit ≤ INPUT_LIMIT }
-    ensures within { IfOk result (λ given. length given.bytes ≤ limit) }
-    ensures name { IfOk result (λ given. given.name ≡ name.now) }
-    ensures text { IfOk result (λ given. IsTextOf (D.shelf files.now).content given.name
-        (I.remaining input.old.reader) (I.remaining input.new.reader) given.bytes) }
-    ensures sound { IfOk result (λ given. fault_among given.bytes place count ≡ None) }
+    ensures within { IfOk result (λ text. length text.bytes ≤ limit) }
+    ensures name { IfOk result (λ text. text.name ≡ name.now) }
+    ensures text { IfOk result (λ text. IsTextOf (D.shelf files.now).content text.name
+        (I.remaining input.old.reader) (I.remaining input.new.reader) text.bytes) }
+    ensures sound { IfOk result (λ text. fault_among text.bytes place count ≡ None) }
     ensures unfailed { OnOk result (input.new.failures ≡ input.old.failures) }
     ensures unread { IfErr result (λ f. IsTextUnread (D.shelf files.now) name.now place count limit
         (I.remaining input.old.reader) (I.remaining input.new.reader) input.old.failures
         input.new.failures f) }
 {
-    let bytes = match read_named(alloc, files, name, place, input, limit) {
-        Ok(bytes) => bytes,
-        Err(fault) => return Err(fault),
-    };
+    let bytes = read_named(alloc, files, name, place, input, limit)?;
     if let Some(fault) = fault_among(bytes.as_slice(), place, count) {
         return Err(refused(place, fault));
     }
@@ -214,10 +211,10 @@ fn read_given<D: Files, I: Read>(
     }
 }
 
-fn add_given(texts: &mut Vec<NamedText>, given: NamedText) -> Result<(), AllocError>
-    ensures { OnOk result (texts.new.items ≡ texts.old.items ++ given ∷ []) }
+fn add_text(texts: &mut Vec<NamedText>, text: NamedText) -> Result<(), AllocError>
+    ensures { OnOk result (texts.new.items ≡ texts.old.items ++ text ∷ []) }
 {
-    texts.push(given)?;
+    texts.push(text)?;
     Ok(())
 }
 
@@ -241,13 +238,10 @@ fn read_each<D: Files, I: Read>(
     let mut room = INPUT_LIMIT;
     let mut place = 0;
     for name in names {
-        let given = match read_given(alloc, files, name.as_str(), place, names.len(), input, room) {
-            Ok(given) => given,
-            Err(fault) => return Err(fault),
-        };
+        let text = read_text(alloc, files, name.as_str(), place, names.len(), input, room)?;
         place += 1;
-        room -= given.bytes().len();
-        match add_given(&mut texts, given) {
+        room -= text.bytes().len();
+        match add_text(&mut texts, text) {
             Ok(()) => {}
             Err(AllocError) => return Err(Unread::Input(InputFault::OutOfMemory)),
         }
@@ -284,12 +278,9 @@ pub fn read_inputs<D: Files, I: Read>(
 {
     if names.is_empty() {
         return match read_alone(alloc, input) {
-            Ok(given) => Ok(given),
+            Ok(read) => Ok(read),
             Err(fault) => Err(Unread::Input(fault)),
         };
     }
-    match read_each(alloc, files, names, input) {
-        Ok(texts) => Ok(Input::new(texts)),
-        Err(fault) => Err(fault),
-    }
+    Ok(Input::new(read_each(alloc, files, names, input)?))
 }

@@ -23,14 +23,14 @@ loop-name-preserved g c =
     let next = ap named_files item ∙ map-append (λ name. name.bytes.items) (take i names) (x ∷ [])
     ∙ ap (λ (n : List ℕ). named_files (take i names) ++ n ∷ []) (sym (c.in-Ok.ensures.name ∙ c.as_str.ensures.value)) in
     let here = so.at ∙ sym (length-map (take i names) (λ name. name.bytes.items) ∙ length-take-le i names (omega arith)) in
-    let added = c.in-Ok-add_given.ensures in
+    let added = c.in-Ok-add_text.ensures in
     let more = read-more content (named_files (take i names)) _ _ _ old given so.read c.in-Ok.ensures.text in
     let sound = sound-more content (named_files (take i names)) _ _ old given c.loop-name.place (length names) so.read here so.sound
     c.in-Ok.ensures.sound in
     let small = c.in-Ok.ensures.within in record {
       read = rw (next, added) more;
       sound = rw added sound;
-      fit = bytes-more old c.add_given.new.texts.items given c.loop-name.room INPUT_LIMIT _ added so.fit (ap length c.bytes.ensures) small;
+      fit = bytes-more old c.add_text.new.texts.items given c.loop-name.room INPUT_LIMIT _ added so.fit (ap length c.bytes.ensures) small;
       unfailed = c.in-Ok.ensures.unfailed ∙ so.unfailed;
       at = omega arith;
     }
@@ -45,8 +45,8 @@ returns-in-Err-clause-unread g c =
     unread-next (g.D.Files.shelf c.args.files.now) names i x _ c.loop-name.place c.loop-name.room c.in-Err.fault _ _ _ _ _ _
     c.loop-name.texts.items item c.as_str.ensures.value so.at (omega arith) so.unfailed so.read so.sound so.fit c.in-Err.ensures.unread
 
-pub returns-in-Err-add_given-clause-unread : goal.returns-in-Err-add_given-clause-unread
-returns-in-Err-add_given-clause-unread g c =
+pub returns-in-Err-add_text-clause-unread : goal.returns-in-Err-add_text-clause-unread
+returns-in-Err-add_text-clause-unread g c =
     let shelf = g.D.Files.shelf c.args.files.now in
     let so = c.loop-name.invariant in
     let names = c.args.names.now in
