@@ -9,7 +9,7 @@ use Rattle.auction_terms.specs.Allocations.{total}
 use Rattle.auction_terms.specs.Groups.{has}
 use Rattle.auction_terms.specs.Only.{IsOnly}
 use Rattle.auction_terms.specs.Terms.{Terms}
-use Rattle.auction_terms.specs.declared.choices.Choice.{Choice}
+use Rattle.auction_terms.specs.declared.bids.Choice.{Choice}
 use Rattle.auction_input.specs.Auction.{Auction}
 use Rattle.bid_desk.specs.Sale.{Sale}
 use Rattle.outcome.proofs.TieFacts.{others_differ, the_only_is_greatest}

@@ -5,7 +5,7 @@ use Rattle.std.proofs.Common.{inl, inr, ◌==◌, ◌⊎◌, IfErr, OnOk, slice_
 use Rattle.std.specs.List.{AllZip}
 use Rattle.std.proofs.lemmas.Bool.{cases_lt, eq-eqb, ne_eqb}
 use Rattle.std.proofs.lemmas.List.{get_or_default, length-map}
-use Rattle.auction_terms.specs.declared.choices.Choice.{Choice}
+use Rattle.auction_terms.specs.declared.bids.Choice.{Choice}
 use Rattle.bid_desk.specs.Closing.{Closing}
 use Rattle.group_compiler.specs.Compiled.{Compiling, compiling, program_without}
 use Rattle.optimality.specs.Answers.{IsLimit}

@@ -10,7 +10,7 @@ use Rattle.auction_terms.specs.FirstFault.{first_failed}
 use Rattle.auction_terms.specs.Lines.{bytes_of}
 use Rattle.auction_terms.specs.Groups.{starts_empty}
 use Rattle.auction_terms.specs.Stages.{and_then, each_in_turn, refused_as, unless}
-use Rattle.auction_terms.specs.declared.choices.Choice.{Choice}
+use Rattle.auction_terms.specs.declared.bids.Choice.{Choice}
 use Rattle.auction_input.specs.Auction.{Auction}
 use Rattle.answers.specs.Programs.{program_for}
 use Rattle.auction_input.specs.Refused.{Refuses}

@@ -2,12 +2,12 @@
 use Rattle.std.proofs.Common.{◌≡◌, ◌≤◌, ◌<◌, ◌+◌, ◌-◌, ◌++◌, ◌∷◌, ◌∙◌, [], ℕ, zero, suc, List, Option, None, Some, Result}
 use Rattle.std.proofs.Common.{Ok, ap, arith, length, length-append, map, refl, slice_index_or, sym, take, inl, inr}
 use Rattle.std.proofs.lemmas.Bool.Decides.{leb_tells}
-use Rattle.auction_terms.specs.declared.choices.Choice.{Choice}
+use Rattle.auction_terms.specs.declared.bids.Choice.{Choice}
 use Rattle.bid_desk.specs.Closing.{Closing}
 use Rattle.group_compiler.specs.Compiled.{GroupProgram, compiled, program_without}
 use Rattle.byte_sinks.specs.Sinks.{GoesInPart, Outlet, SentFront, written_of}
-use Rattle.byte_sinks.specs.declared.write_fault.WriteFault.{WriteFault}
-use Rattle.byte_sinks.specs.declared.write_fault.WriteFault.TheVariants as write
+use Rattle.byte_sinks.specs.declared.writer.WriteFault.{WriteFault}
+use Rattle.byte_sinks.specs.declared.writer.WriteFault.TheVariants as write
 use Rattle.outcome.specs.Report.{allocation_text, in_turn}
 use Rattle.bid_desk.specs.Sale.{sale_of}
 use Rattle.program_rows.specs.Program.{Table}

@@ -26,7 +26,7 @@ use Rattle.auction_terms.specs.FirstFault.{first_failed}
 use Rattle.auction_terms.specs.Stages.{and_then, each_in_turn, refused_as, unless}
 use Rattle.auction_terms.specs.Terms.{Terms}
 use Rattle.bid_desk.specs.Sale.{Sale}
-use Rattle.auction_terms.specs.declared.choices.Choice.{Choice}
+use Rattle.auction_terms.specs.declared.bids.Choice.{Choice}
 use Rattle.answers.specs.Certified.{bounds_of, certified, shown}
 use Rattle.answers.specs.Claimed.{award_fault, claim_counts, first_program, known_others, parsed_claims, parsed_tie, parsed_ties, tie_fault, tie_number, unique_refused}
 use Rattle.answers.specs.Pricing.{InParts, alone_refused, covered, in_parts_of, known_alone, known_by, parsed_by_rule, parsed_prices, parsed_rule}

@@ -4,7 +4,7 @@ use Rattle.auction_input.specs.Line.{Puts}
 use Rattle.byte_sinks.proofs.AddingFacts.{sends}
 use Rattle.byte_sinks.specs.Adds.{Adds, IsBroken, IsNew, IsSent}
 use Rattle.byte_sinks.specs.Sinks.{Outlet, Sends, written_of}
-use Rattle.byte_sinks.specs.declared.write_fault.WriteFault.{WriteFault}
+use Rattle.byte_sinks.specs.declared.writer.WriteFault.{WriteFault}
 use Rattle.byte_sinks.specs.declared.writer.Writer.{Writer}
 
 -- what is sent is put

@@ -14,7 +14,7 @@ use Rattle.auction_terms.specs.Keeping.{is_kept_choice}
 use Rattle.auction_terms.specs.Limits.{IsBook}
 use Rattle.auction_terms.specs.Only.{IsOnly}
 use Rattle.auction_terms.specs.Stages.{refused_as}
-use Rattle.auction_terms.specs.declared.choices.Choice.{Choice}
+use Rattle.auction_terms.specs.declared.bids.Choice.{Choice}
 use Rattle.auction_terms.proofs.LimitFacts.{sized}
 use Rattle.auction_terms.proofs.PermutedFacts.{total_permuted}
 use Rattle.auction_input.specs.Auction.{Auction}

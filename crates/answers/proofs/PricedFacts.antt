@@ -9,7 +9,7 @@ use Rattle.auction_terms.specs.Groups.{has}
 use Rattle.auction_terms.specs.Limits.{IsBook}
 use Rattle.auction_terms.specs.FirstFault.{first_failed}
 use Rattle.auction_terms.specs.Stages.{each_in_turn}
-use Rattle.auction_terms.specs.declared.choices.Choice.{Choice}
+use Rattle.auction_terms.specs.declared.bids.Choice.{Choice}
 use Rattle.auction_input.specs.Input.{Input}
 use Rattle.auction_input.specs.Auction.{Auction, parsed_auction}
 use Rattle.auction_input.specs.FormTexts.{in_one_text}

@@ -5,7 +5,7 @@ use Rattle.std.proofs.Common.{IfOk, IfSome}
 use Rattle.std.specs.List.{AllZip, range_with_len, zip}
 use Rattle.std.proofs.lemmas.List.{drop_all, drop_more}
 use Rattle.std.proofs.lemmas.Slice.Zip.{get_or-zip, length-zip}
-use Rattle.auction_terms.specs.declared.choices.Choice.{Choice}
+use Rattle.auction_terms.specs.declared.bids.Choice.{Choice}
 use Rattle.group_compiler.specs.Compiled.{Compiling, program_without}
 use Rattle.auction_terms.specs.Lines.{bytes_of}
 use Rattle.bid_desk.specs.Sale.{sale_of}

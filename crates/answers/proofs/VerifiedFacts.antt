@@ -8,7 +8,7 @@ use Rattle.std.proofs.lemmas.Int.{ints}
 use Rattle.rayon.proofs.ListFacts.{AllZip-weaken}
 use Rattle.auction_terms.specs.Groups.{has, starts_empty}
 use Rattle.auction_terms.specs.Limits.{IsBook}
-use Rattle.auction_terms.specs.declared.choices.Choice.{Choice}
+use Rattle.auction_terms.specs.declared.bids.Choice.{Choice}
 use Rattle.optimality.proofs.BoundFacts.{shown-is-bound}
 use Rattle.optimality.proofs.VerdictFacts.{verdict}
 use Rattle.optimality.specs.Laws.{IsBound}

@@ -1,6 +1,6 @@
 -- How `verify` ends.
 use Rattle.std.proofs.Common.{◌≡◌, ℕ, List, Ok, length, refl, inl, inr, [], ◌⊎◌, slice_index_or}
-use Rattle.auction_terms.specs.declared.choices.Choice.{Choice}
+use Rattle.auction_terms.specs.declared.bids.Choice.{Choice}
 use Rattle.auction_input.specs.Auction.{Auction}
 use Rattle.answers.specs.Certified.{IsTooWide, bounds_of, certified}
 use Rattle.answers.specs.SolutionWinners.{winners_of_groups}

@@ -4,7 +4,7 @@ use Rattle.auction_terms.specs.Allocations.{IsFeasible}
 use Rattle.auction_terms.specs.Groups.{has}
 use Rattle.auction_terms.specs.Limits.{IsBook}
 use Rattle.auction_terms.specs.Stages.{refused_as}
-use Rattle.auction_terms.specs.declared.choices.Choice.{Choice}
+use Rattle.auction_terms.specs.declared.bids.Choice.{Choice}
 use Rattle.auction_input.proofs.AnswerFacts.{ok-after, ok-is, ok-refused_as}
 use Rattle.bid_desk.specs.Sale.{Sale}
 use Rattle.outcome.specs.PointAllocation.{allocation_of}

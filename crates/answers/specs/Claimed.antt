@@ -10,7 +10,7 @@ use Rattle.auction_input.specs.declared.tie_fault.TieFault.{TieFault}
 use Rattle.auction_terms.specs.Allocations.{total}
 use Rattle.auction_terms.specs.FirstFault.{first_failed}
 use Rattle.auction_terms.specs.Stages.{and_then, refused_as, unless}
-use Rattle.auction_terms.specs.declared.choices.Choice.{Choice}
+use Rattle.auction_terms.specs.declared.bids.Choice.{Choice}
 use Rattle.bid_desk.specs.Sale.{Sale}
 use Rattle.optimality.specs.OnlyPoints.{IsLargeOnlyAt, only_fault}
 use Rattle.outcome.specs.Others.{Others, others_of}

@@ -8,9 +8,9 @@ use Rattle.auction_input.specs.Settled.{IsUnsettled}
 use Rattle.auction_input.specs.declared.refusal.Refusal.TheVariants as refusal
 use Rattle.auction_input.specs.declared.request.Request.TheVariants as request
 use Rattle.auction_input.specs.declared.request.Request.{Request}
-use Rattle.auction_terms.specs.declared.choices.Choice.{Choice}
+use Rattle.auction_terms.specs.declared.bids.Choice.{Choice}
 use Rattle.byte_sinks.specs.Sinks.{GoesInPart, GoesWhole, Outlet}
-use Rattle.byte_sinks.specs.declared.write_fault.WriteFault.TheVariants as write
+use Rattle.byte_sinks.specs.declared.writer.WriteFault.TheVariants as write
 use Rattle.answers.specs.Answer.{answer}
 use Rattle.answers.specs.Certified.{IsTooWide, bounds_of, certified}
 use Rattle.answers.specs.Claimed.{IsTooWideClaim, parsed_claims}

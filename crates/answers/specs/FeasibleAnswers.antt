@@ -8,7 +8,7 @@ use Rattle.auction_input.specs.Described.{Describes}
 use Rattle.auction_input.specs.declared.request.Request.TheVariants.{Map, Report}
 use Rattle.auction_terms.specs.Allocations.{IsFeasible}
 use Rattle.auction_terms.specs.Groups.{has}
-use Rattle.auction_terms.specs.declared.choices.Choice.{Choice}
+use Rattle.auction_terms.specs.declared.bids.Choice.{Choice}
 use Rattle.outcome.specs.Report.{allocation_text, report_text}
 use Rattle.bid_desk.specs.Sale.{Sale}
 use Rattle.answers.specs.Answer.{answer}

@@ -10,7 +10,7 @@ use Rattle.auction_terms.specs.Fractions.{in_parts}
 use Rattle.auction_terms.specs.FirstFault.{first_failed}
 use Rattle.auction_terms.specs.Stages.{and_then, refused_as, unless}
 use Rattle.auction_terms.specs.Terms.{Terms}
-use Rattle.auction_terms.specs.declared.choices.Choice.{Choice}
+use Rattle.auction_terms.specs.declared.bids.Choice.{Choice}
 use Rattle.bid_desk.specs.Sale.{Sale, bidder_name}
 use Rattle.outcome.specs.Pricing.{Priced, price_in}
 use Rattle.auction_input.specs.PriceTexts.{Known, parsed_price_text, parsed_rule_lines, common_parts, price_given, prices_in_parts}

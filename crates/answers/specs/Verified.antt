@@ -8,7 +8,7 @@ use Rattle.auction_terms.specs.Allocations.{total}
 use Rattle.auction_terms.specs.Groups.{has, starts_empty}
 use Rattle.auction_terms.specs.Limits.{IsBook}
 use Rattle.auction_terms.specs.Only.{IsOnly}
-use Rattle.auction_terms.specs.declared.choices.Choice.{Choice}
+use Rattle.auction_terms.specs.declared.bids.Choice.{Choice}
 use Rattle.outcome.specs.Costs.{IsCost, IsGreatestTotal, opportunity_cost}
 use Rattle.outcome.specs.Pricing.{Priced, in_pounds, price_in, pricing_text}
 use Rattle.outcome.specs.Report.{amounts_of_group, cost, report_text}

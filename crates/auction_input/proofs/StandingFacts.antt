@@ -13,9 +13,9 @@ use Rattle.bid_forms.specs.Offers.{Offers}
 use Rattle.bid_book.specs.History.{changes, entries_beside, is_beside, is_change_reply, is_same_caller, left_standing, own_pairs, standing_after, standing_of}
 use Rattle.bid_book.specs.declared.call.Call.{Call}
 use Rattle.bid_book.specs.declared.call.Call.TheVariants.{Submit}
-use Rattle.bid_book.specs.declared.caller.Caller.{Caller}
-use Rattle.bid_book.specs.declared.caller.Caller.TheVariants.{Chair, Session}
-use Rattle.bid_book.specs.declared.entry.Entry.{Entry}
+use Rattle.bid_book.specs.declared.call.Caller.{Caller}
+use Rattle.bid_book.specs.declared.call.Caller.TheVariants.{Chair, Session}
+use Rattle.bid_book.specs.declared.records.Entry.{Entry}
 use Rattle.bid_book.specs.declared.reply.Reply.{Reply}
 use Rattle.bid_book.specs.declared.reply.Reply.TheVariants.{Accepted}
 use Rattle.bid_book.specs.declared.standing.Standing.{Standing}

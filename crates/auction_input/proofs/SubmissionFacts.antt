@@ -18,7 +18,7 @@ use Rattle.auction_terms.specs.Terms.{AreTerms, Terms, session_count}
 use Rattle.auction_terms.specs.declared.rules.Bidder.{Bidder}
 use Rattle.bid_book.specs.declared.call.Call.{Call}
 use Rattle.bid_book.specs.declared.call.Call.TheVariants.{Submit}
-use Rattle.bid_book.specs.declared.caller.Caller.{Caller}
+use Rattle.bid_book.specs.declared.call.Caller.{Caller}
 use Rattle.bid_book.specs.declared.reply.Reply.{Reply}
 use Rattle.bid_book.specs.declared.reply.Reply.TheVariants.{Accepted, CallLimit}
 use Rattle.bid_desk.specs.Holding.{Holding, IsRecorded, SessionOwn}

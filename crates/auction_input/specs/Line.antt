@@ -14,7 +14,7 @@ use Rattle.auction_terms.specs.RulesFaultText.{rules_fault_text}
 use Rattle.bid_forms.specs.FormFaultText.{form_fault_text}
 use Rattle.program_rows.specs.MpsFaultText.{mps_fault_text}
 use Rattle.byte_sinks.specs.Sinks.{GoesInPart, GoesWhole, Outlet}
-use Rattle.byte_sinks.specs.declared.write_fault.WriteFault.TheVariants as write
+use Rattle.byte_sinks.specs.declared.writer.WriteFault.TheVariants as write
 use Rattle.program_rows.specs.CertificateFaultText.{certificate_fault_text}
 use Rattle.auction_input.specs.PriceFaultText.{price_fault_text}
 use Rattle.auction_input.specs.declared.price_fault.PriceFault.TheVariants as price

@@ -11,7 +11,7 @@ use Rattle.auction_terms.specs.Lines.{lines_of}
 use Rattle.auction_terms.specs.Numbers.{number_of}
 use Rattle.auction_terms.specs.RulesText.{is_between}
 use Rattle.auction_terms.specs.Stages.{and_then, unless}
-use Rattle.auction_terms.specs.declared.choices.Choice.{Choice}
+use Rattle.auction_terms.specs.declared.bids.Choice.{Choice}
 use Rattle.auction_terms.specs.declared.fractions.Fraction.{Fraction}
 use Rattle.auction_terms.specs.declared.limits.TheConstants.{GREATEST_AMOUNT, MOST_PARTS}
 use Rattle.auction_terms.specs.declared.rules.Bidder.{Bidder}

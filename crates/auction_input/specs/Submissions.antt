@@ -4,7 +4,7 @@ use Rattle.std.specs.List.{AllZip, last_or}
 use Rattle.bid_book.specs.History.{own_pairs}
 use Rattle.bid_book.specs.declared.call.Call.TheVariants.{Submit}
 use Rattle.bid_book.specs.declared.call.Call.{Call}
-use Rattle.bid_book.specs.declared.caller.Caller.TheVariants.{Session}
+use Rattle.bid_book.specs.declared.call.Caller.TheVariants.{Session}
 use Rattle.bid_book.specs.declared.reply.Reply.TheVariants.{Accepted}
 use Rattle.bid_book.specs.declared.reply.Reply.{Reply}
 use Rattle.bid_desk.specs.Closing.{Closing, form_standing}

@@ -10,7 +10,7 @@ use Rattle.std.proofs.lemmas.List.FromFn.{get_or-map-range_with_len, length-map-
 use Rattle.std.proofs.lemmas.List.Sums.{AllPass-from_list_all, sum_by-cons, get_or-le-sum_by}
 use Rattle.std.proofs.lemmas.List.Elements.{recursion_from_All, All-from_recursion}
 use Rattle.auction_terms.specs.declared.bids.Bid.{Bid}
-use Rattle.auction_terms.specs.declared.choices.Choice.{Choice}
+use Rattle.auction_terms.specs.declared.bids.Choice.{Choice}
 use Rattle.std.proofs.lemmas.Int.{ints}
 use Rattle.auction_terms.specs.Packages.{Lots, WeightedCap, pool_at, fits, is_within, weighed, left, worth, worth_of_all}
 use Rattle.auction_terms.specs.inside.Packages.{is_within_cap}

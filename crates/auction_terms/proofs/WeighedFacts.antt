@@ -11,7 +11,7 @@ use Rattle.std.proofs.lemmas.List.Sums.{sum_by-cons}
 use Rattle.auction_terms.specs.inside.Terms.{has_values}
 use Rattle.auction_terms.specs.declared.rules.Category.{Category}
 use Rattle.auction_terms.specs.declared.bids.Bid.{Bid}
-use Rattle.auction_terms.specs.declared.choices.Choice.{Choice}
+use Rattle.auction_terms.specs.declared.bids.Choice.{Choice}
 use Rattle.auction_terms.specs.Packages.{Lots, WeightedCap, is_within, weighed, left}
 use Rattle.auction_terms.specs.inside.Packages.{is_within_cap}
 use Rattle.auction_terms.specs.Allocations.{Book, bid_of, quantity_of, weighed_choice, loads, IsSized}

@@ -5,7 +5,7 @@ use Rattle.std.specs.Prelude.{length, map, slice_get, slice_index, slice_index_o
 use Rattle.std.specs.Option.{option_map_or}
 use Rattle.std.specs.List.{range_with_len}
 use Rattle.auction_terms.specs.declared.bids.Bid.{Bid}
-use Rattle.auction_terms.specs.declared.choices.Choice.{Choice}
+use Rattle.auction_terms.specs.declared.bids.Choice.{Choice}
 use Rattle.auction_terms.specs.Packages.{Lots, fits, left, weighed, worth, worth_of_all}
 
 -- all bids of an auction: the form of each bidder, in order of the bidders' numbers, each a list of bids

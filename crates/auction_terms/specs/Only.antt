@@ -1,6 +1,6 @@
 -- Allocations whose total no other one reaches.
 use Rattle.std.specs.Prelude.{ℕ, ◌≤◌, Bool, List, IsPermutation}
-use Rattle.auction_terms.specs.declared.choices.Choice.{Choice}
+use Rattle.auction_terms.specs.declared.bids.Choice.{Choice}
 use Rattle.auction_terms.specs.Packages.{Lots}
 use Rattle.auction_terms.specs.Allocations.{Book, total, IsFeasible}
 

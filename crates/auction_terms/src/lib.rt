@@ -12,7 +12,6 @@ macro_rules! refuse {
 
 mod bids;
 mod causes;
-mod choices;
 mod decimals;
 mod draft;
 mod fractions;
@@ -40,9 +39,8 @@ mod weights;
 mod wording;
 mod worth;
 
-pub use bids::{Bid, Kept, KeptBid};
+pub use bids::{Bid, Choice, Kept, KeptBid};
 pub use causes::{count_cause, limits_cause, most_cause};
-pub use choices::Choice;
 pub use decimals::{NumberFault, read_number, scaled};
 pub use fractions::{Fraction, gcd, in_parts, lcm, read_fraction};
 pub use front::Front;

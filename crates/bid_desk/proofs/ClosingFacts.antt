@@ -17,13 +17,13 @@ use Rattle.auction_terms.specs.declared.bids.Bid.{Bid}
 use Rattle.auction_terms.specs.declared.limits.TheConstants.{GREATEST_AMOUNT, GREATEST_QUANTITY, MOST_BIDS}
 use Rattle.auction_terms.specs.Allocations.{form_of}
 use Rattle.bid_forms.specs.Offers.{Offers, Meets, eligibility_of, is_bid_under, points_of, reserve_of}
-use Rattle.bid_book.specs.declared.caller.Caller.{Caller}
-use Rattle.bid_book.specs.declared.caller.Caller.TheVariants.{Session, Chair}
+use Rattle.bid_book.specs.declared.call.Caller.{Caller}
+use Rattle.bid_book.specs.declared.call.Caller.TheVariants.{Session, Chair}
 use Rattle.bid_book.specs.declared.call.Call.{Call}
 use Rattle.bid_book.specs.declared.call.Call.TheVariants.{Submit}
 use Rattle.bid_book.specs.declared.reply.Reply.{Reply}
 use Rattle.bid_book.specs.declared.reply.Reply.TheVariants.{Accepted}
-use Rattle.bid_book.specs.declared.entry.Entry.{Entry}
+use Rattle.bid_book.specs.declared.records.Entry.{Entry}
 use Rattle.bid_book.specs.declared.standing.Standing.{Standing}
 use Rattle.bid_book.specs.History.{entries_beside, changes, is_change_reply, is_beside, left_standing, standing_after, standing_of}
 use Rattle.bid_desk.specs.Holding.{CallMeets, IsCallerOf, IsEntryOf}

@@ -9,11 +9,11 @@ use Rattle.std.proofs.lemmas.List.{length-replicate, take_all, length-set, lengt
 use Rattle.std.proofs.lemmas.Option.{get_or_from_slice_get, slice_get-get_or, slice_get_within}
 use Rattle.auction_terms.specs.Terms.{Terms}
 use Rattle.bid_forms.specs.Offers.{Offers}
-use Rattle.bid_book.specs.declared.caller.Caller.{Caller}
-use Rattle.bid_book.specs.declared.caller.Caller.TheVariants.{Session, Chair}
+use Rattle.bid_book.specs.declared.call.Caller.{Caller}
+use Rattle.bid_book.specs.declared.call.Caller.TheVariants.{Session, Chair}
 use Rattle.bid_book.specs.declared.call.Call.{Call}
 use Rattle.bid_book.specs.declared.reply.Reply.{Reply}
-use Rattle.bid_book.specs.declared.entry.Entry.{Entry}
+use Rattle.bid_book.specs.declared.records.Entry.{Entry}
 use Rattle.bid_book.specs.History.{is_same_caller, own_pairs}
 use Rattle.bid_desk.specs.declared.comparing.Comparison.{Comparison}
 use Rattle.bid_desk.specs.declared.comparing.Comparison.TheVariants.{Agrees, Differs}

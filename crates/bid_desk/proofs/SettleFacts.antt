@@ -5,8 +5,8 @@ use Rattle.std.specs.Prelude.{filter, slice_get, slice_index_or, All, ◌==◌, 
 use Rattle.std.proofs.lemmas.List.{map-append, take_more, take_at, length-take-le, get_or_at}
 use Rattle.std.proofs.lemmas.Option.{slice_get_within, get_or_from_slice_get, slice_get-get_or}
 use Rattle.std.proofs.lemmas.List.Elements.{filter-append}
-use Rattle.bid_book.specs.declared.caller.Caller.{Caller}
-use Rattle.bid_book.specs.declared.entry.Entry.{Entry}
+use Rattle.bid_book.specs.declared.call.Caller.{Caller}
+use Rattle.bid_book.specs.declared.records.Entry.{Entry}
 use Rattle.bid_book.specs.History.{is_same_caller, own_pairs}
 use Rattle.bid_desk.specs.Holding.{SessionOwn, IsEntryOf, IsCallerOf}
 use Rattle.bid_desk.specs.Settlement.{IsFirstDifference, AgreesAt, OwnIs}

@@ -5,7 +5,7 @@ use Rattle.std.specs.List.{range_with_len}
 use Rattle.auction_terms.specs.Terms.{AreTerms, Terms}
 use Rattle.auction_terms.specs.declared.bids.Bid.{Bid}
 use Rattle.bid_forms.specs.Offers.{Offers}
-use Rattle.bid_book.specs.declared.entry.Entry.{Entry}
+use Rattle.bid_book.specs.declared.records.Entry.{Entry}
 use Rattle.bid_book.specs.declared.standing.Standing.{Standing}
 use Rattle.bid_book.specs.History.{IsLegalHistory, is_closed, standing_of}
 use Rattle.bid_desk.specs.Holding.{IsEntryOf}

@@ -3,12 +3,12 @@ use Rattle.std.specs.Prelude.{ℕ, ◌+◌, ◌≡◌, List, [], ◌∷◌, ◌+
 use Rattle.std.specs.declared.sync.Arc.{Arc}
 use Rattle.auction_terms.specs.Terms.{Terms}
 use Rattle.bid_forms.specs.Offers.{Offers, Meets}
-use Rattle.bid_book.specs.declared.caller.Caller.{Caller}
-use Rattle.bid_book.specs.declared.caller.Caller.TheVariants.{Session, Chair}
+use Rattle.bid_book.specs.declared.call.Caller.{Caller}
+use Rattle.bid_book.specs.declared.call.Caller.TheVariants.{Session, Chair}
 use Rattle.bid_book.specs.declared.call.Call.{Call}
 use Rattle.bid_book.specs.declared.call.Call.TheVariants.{Submit}
 use Rattle.bid_book.specs.declared.reply.Reply.{Reply}
-use Rattle.bid_book.specs.declared.entry.Entry.{Entry}
+use Rattle.bid_book.specs.declared.records.Entry.{Entry}
 use Rattle.bid_book.specs.History.{call_value, reply_value}
 use Rattle.bid_desk.specs.Sessions.{IsSessionOf}
 

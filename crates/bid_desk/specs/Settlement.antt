@@ -2,9 +2,9 @@
 use Rattle.std.specs.Prelude.{ℕ, ◌+◌, ◌-◌, ◌≡◌, ◌≢◌, ◌<◌, ◌≤◌, ◌⊎◌, ◌==◌, ◌&&◌, List, Bool, true, false, Option, take, slice_get, count_by, All, Any, IsTrue, ⊤}
 use Rattle.bid_forms.specs.Offers.{Offers}
 use Rattle.auction_terms.specs.Terms.{Terms}
-use Rattle.bid_book.specs.declared.caller.Caller.{Caller}
-use Rattle.bid_book.specs.declared.caller.Caller.TheVariants.{Session, Chair}
-use Rattle.bid_book.specs.declared.entry.Entry.{Entry}
+use Rattle.bid_book.specs.declared.call.Caller.{Caller}
+use Rattle.bid_book.specs.declared.call.Caller.TheVariants.{Session, Chair}
+use Rattle.bid_book.specs.declared.records.Entry.{Entry}
 use Rattle.bid_book.specs.History.{own_pairs, is_closed}
 use Rattle.bid_desk.specs.declared.settle.Cause.{Cause}
 use Rattle.bid_desk.specs.declared.settle.Cause.TheVariants.{StillOpen, Sessions, Differs, OutOfMemory}

@@ -3,7 +3,7 @@
 ghost use Rattle.std.specs.Prelude.{◌≡◌, map, length};
 ghost use Rattle.bid_desk.specs.Holding.{pair_value};
 
-use crate::brand::Round;
+use crate::desk::Round;
 use bid_book::{Call, Reply};
 use std::marker::Model;
 use std::sync::ledger::Share;

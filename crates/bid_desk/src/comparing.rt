@@ -10,8 +10,8 @@ ghost use Rattle.bid_desk.specs.Settlement.{IsFirstDifference, StandOnce};
 ghost use Rattle.bid_desk.specs.inside.Slots.{AreSlots};
 ghost use Rattle.bid_desk.specs.inside.Comparing.{AreCompared, IsCompared, IsWithin};
 
-use crate::brand::Round;
 use crate::chair::Chair;
+use crate::desk::Round;
 use crate::session::Session;
 use crate::slots::{Slot, slot_of};
 use bid_book::{Call, Caller, Entry, Reply};

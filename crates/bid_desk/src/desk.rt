@@ -1,15 +1,29 @@
-//! The desk, open and stopped.
+//! The desk, open and stopped, and what contracts name its rules by.
 
-ghost use Rattle.std.specs.Prelude.{◌≡◌, map, length, All};
+ghost use Rattle.std.specs.Prelude.{◌≡◌, map, length, All, ℕ, []};
 ghost use Rattle.bid_book.specs.History.{entry_value, IsLegalHistory};
 ghost use Rattle.bid_desk.specs.Holding.{IsEntryOf};
+ghost use Rattle.auction_terms.specs.Terms.{Terms};
 
-use crate::brand::Round;
 use crate::held::Held;
 use auction_terms::Rules;
 use bid_book::Entry;
-use std::marker::Model;
+use std::marker::{Brand, Model};
+use std::sync::ledger::Ledger;
 use std::sync::{Mutex, MutexGuard, Wait};
+
+/// Names a desk's rules and the number of parts of its ledger. It is for contracts alone.
+pub trait Round: Ledger {
+    ghost rules: { Terms };
+
+    ghost part_count: { ℕ };
+}
+
+impl Round for Brand {
+    ghost rules = { record { step = 0; categories = []; bidders = []; pools = [] } };
+
+    ghost part_count = { 0 };
+}
 
 /// The book under its lock, and the rules.
 #[derive(Drop)]

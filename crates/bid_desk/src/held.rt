@@ -10,9 +10,9 @@ ghost use Rattle.bid_book.specs.History.{entry_value, call_value, reply_value, s
 ghost use Rattle.bid_desk.specs.Closing.{closing};
 ghost use Rattle.bid_desk.specs.Holding.{caller_of, CallMeets, IsEntryOf, IsRecordedBy, IsRecordedByChair};
 
-use crate::brand::Round;
 use crate::chair::Chair;
 use crate::closed::ClosedBook;
+use crate::desk::Round;
 use crate::session::Session;
 use auction_terms::Rules;
 use bid_book::{Book, Call, Caller, Entry, Reply, Standing, StepError};

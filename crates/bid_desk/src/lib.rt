@@ -6,7 +6,6 @@
 //! settled against all of them.
 #![tactic(auto)]
 
-mod brand;
 mod chair;
 mod closed;
 mod comparing;
@@ -17,10 +16,9 @@ mod session;
 mod settle;
 mod slots;
 
-pub use brand::Round;
 pub use chair::Chair;
 pub use closed::ClosedBook;
-pub use desk::{Desk, Stopped};
+pub use desk::{Desk, Round, Stopped};
 pub use held::{DeskError, Held};
 pub use open::OpenError;
 pub use session::Session;

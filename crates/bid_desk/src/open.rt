@@ -5,9 +5,8 @@ ghost use Rattle.auction_terms.specs.Terms.{session_count};
 ghost use Rattle.bid_desk.specs.Sessions.{IsSessionOf};
 ghost use Rattle.bid_desk.specs.Opening.{all_sessions, sessions_of, fresh_session};
 
-use crate::brand::Round;
 use crate::chair::Chair;
-use crate::desk::Desk;
+use crate::desk::{Desk, Round};
 use crate::held::Held;
 use crate::session::Session;
 use auction_terms::Rules;

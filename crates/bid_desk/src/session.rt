@@ -5,7 +5,7 @@ ghost use Rattle.bid_desk.specs.Holding.{pair_value};
 ghost use Rattle.bid_desk.specs.inside.Slots.{slot_of};
 ghost use Rattle.bid_desk.specs.Sessions.{IsSessionOf};
 
-use crate::brand::Round;
+use crate::desk::Round;
 use crate::slots::slot_of;
 use bid_book::{Call, Reply};
 use std::marker::Model;

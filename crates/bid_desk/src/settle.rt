@@ -24,11 +24,10 @@ ghost use Rattle.bid_desk.specs.Holding.{IsEntryOf};
 ghost use Rattle.bid_desk.specs.Settlement.{IsSettled, IsCause, IsFirstOfAll, StandOnce, AgreeAll};
 ghost use Rattle.bid_desk.specs.inside.Slots.{AreSlots};
 
-use crate::brand::Round;
 use crate::chair::Chair;
 use crate::closed::ClosedBook;
 use crate::comparing::compare;
-use crate::desk::Stopped;
+use crate::desk::{Round, Stopped};
 use crate::session::Session;
 use crate::slots::{Slot, missing, session_at, slots_of};
 use auction_terms::Rules;

@@ -5,7 +5,7 @@ ghost use Rattle.auction_terms.specs.Terms.{AreTerms};
 ghost use Rattle.bid_desk.specs.Sessions.{IsSessionOf};
 ghost use Rattle.bid_desk.specs.inside.Slots.{AllOnce, AreSlots, IsFirstWrong, slot_of};
 
-use crate::brand::Round;
+use crate::desk::Round;
 use crate::session::Session;
 use auction_terms::{MOST_SESSIONS, Rules};
 use std::alloc::{AllocError, Global};

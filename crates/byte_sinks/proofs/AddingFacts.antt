@@ -4,7 +4,7 @@ use Rattle.std.specs.Prelude.{IfErr, OnOk}
 use Rattle.std.specs.Io.KnownBytes.{Appends, append_known}
 use Rattle.std.proofs.lemmas.List.{append-nil}
 use denote.Ref.{MutBor}
-use Rattle.byte_sinks.specs.declared.write_fault.WriteFault.{WriteFault}
+use Rattle.byte_sinks.specs.declared.writer.WriteFault.{WriteFault}
 use Rattle.byte_sinks.specs.declared.writer.Writer.{Writer}
 use Rattle.byte_sinks.specs.Sinks.{Counts, GoesInPart, GoesWhole, HasFailed, IsFront, Outlet, Sends, SentFront, written_of}
 use Rattle.byte_sinks.specs.Adds.{Adds, IsBroken, IsNew, IsSent, bytes_given}

@@ -5,10 +5,8 @@ mod json;
 pub mod laws;
 mod limit_sink;
 mod memory_sink;
-mod sending;
 mod sink;
 mod std_sink;
-mod write_fault;
 mod writer;
 
 pub use json::{Format, add_json_text, add_number_member, add_text_member};
@@ -16,5 +14,4 @@ pub use limit_sink::LimitSink;
 pub use memory_sink::MemorySink;
 pub use sink::{Sink, SinkFailed};
 pub use std_sink::StdSink;
-pub use write_fault::WriteFault;
-pub use writer::{BLOCK_LEN, PIECE_LEN, Writer};
+pub use writer::{BLOCK_LEN, PIECE_LEN, WriteFault, Writer};

@@ -24,7 +24,7 @@ use Rattle.program_rows.proofs.LegalFacts.{Rises, dedup_rises, bidders_never_fal
 use Rattle.mps_text.specs.Text.{written}
 use Rattle.mps_text.specs.Bytes.{entry_bytes, cost_bytes, column_bytes, bound_bytes}
 use Rattle.program_rows.specs.ProgramNames.{row_name}
-use Rattle.program_rows.specs.declared.bounds.Bounds.TheVariants.{One}
+use Rattle.program_rows.specs.declared.column.Bounds.TheVariants.{One}
 
 abbrev name_of : Offer → List ℕ
 name_of o = bid_name o.bidder o.number

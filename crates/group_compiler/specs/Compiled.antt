@@ -3,7 +3,7 @@ use Rattle.std.specs.Prelude.{ℕ, List}
 use Rattle.auction_terms.specs.Groups.{has}
 use Rattle.auction_terms.specs.Keeping.{kept_of}
 use Rattle.auction_terms.specs.Terms.{lots_in}
-use Rattle.auction_terms.specs.declared.choices.Choice.{Choice}
+use Rattle.auction_terms.specs.declared.bids.Choice.{Choice}
 use Rattle.bid_desk.specs.Closing.{Closing, book_of}
 use Rattle.presolve.specs.Flags.{kept_among}
 use Rattle.program_rows.specs.Program.{Table}

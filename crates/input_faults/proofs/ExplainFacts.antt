@@ -26,8 +26,8 @@ use Rattle.byte_sinks.proofs.AddingFacts.{goes-nothing}
 use Rattle.byte_sinks.specs.declared.json.Format.{Format}
 use Rattle.byte_sinks.specs.declared.json.Format.TheVariants.{Words, Json}
 use Rattle.byte_sinks.specs.Sinks.{GoesInPart, GoesWhole, Outlet, written_of}
-use Rattle.byte_sinks.specs.declared.write_fault.WriteFault.{WriteFault}
-use Rattle.byte_sinks.specs.declared.write_fault.WriteFault.TheVariants as write
+use Rattle.byte_sinks.specs.declared.writer.WriteFault.{WriteFault}
+use Rattle.byte_sinks.specs.declared.writer.WriteFault.TheVariants as write
 use Rattle.auction_input.specs.declared.request.Request.{Request}
 
 -- the lines of kept faults are those of the faults

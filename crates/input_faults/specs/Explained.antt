@@ -3,7 +3,7 @@ use Rattle.std.specs.Prelude.{◌≡◌, ℕ, List}
 use Rattle.auction_input.specs.declared.refusal.Refusal.{Refusal}
 use Rattle.auction_input.specs.declared.refusal.Refusal.TheVariants as refusal
 use Rattle.byte_sinks.specs.Sinks.{GoesInPart, Outlet}
-use Rattle.byte_sinks.specs.declared.write_fault.WriteFault.TheVariants as write
+use Rattle.byte_sinks.specs.declared.writer.WriteFault.TheVariants as write
 
 -- why lines aren't written whole: memory was short before the first, or a put failed after the first bytes, as many as the refusal says
 pub data IsCutShort (lines : List ℕ) (before after : Outlet) : Refusal → Type 0 where

@@ -7,7 +7,7 @@ use Rattle.std.specs.List.{AllByRecursion, IsDistinct}
 use Rattle.std.specs.List.Sorted.{IsPermutation, IsNonDecreasingBy}
 use Rattle.std.proofs.lemmas.List.{map_push, append-nil}
 use denote.Ref.{Bor}
-use Rattle.program_rows.specs.declared.bounds.Bounds.TheVariants.{ZeroOrOne}
+use Rattle.program_rows.specs.declared.column.Bounds.TheVariants.{ZeroOrOne}
 use Rattle.program_rows.specs.Program.{TableColumn}
 use Rattle.program_rows.specs.Parts.{IsName, AreEntries}
 use Rattle.mps_reader.specs.inside.Rows.{names_of, option_now}

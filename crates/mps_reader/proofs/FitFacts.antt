@@ -6,7 +6,7 @@ use Rattle.std.specs.Prelude.{is_some, IfSome, bytes_eq}
 use Rattle.std.specs.Option.{option_to_list}
 use Rattle.std.specs.List.{AllByRecursion, IsDistinct, slice_set}
 use Rattle.program_rows.specs.declared.row.Row.{Row}
-use Rattle.program_rows.specs.declared.bounds.Bounds.{Bounds}
+use Rattle.program_rows.specs.declared.column.Bounds.{Bounds}
 use Rattle.program_rows.specs.Program.{TableRow, TableColumn}
 use Rattle.program_rows.specs.Bounded.{bounded}
 use Rattle.program_rows.specs.Parts.{IsName, AreEntries, IsProgram, shown_row}

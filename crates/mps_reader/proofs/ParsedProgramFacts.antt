@@ -9,8 +9,8 @@ use Rattle.program_rows.specs.MpsProgram.{column_pairs, number_beside, line_righ
 use Rattle.program_rows.specs.Bounded.{bounded}
 use Rattle.program_rows.specs.Program.{TableRow, TableColumn}
 use Rattle.program_rows.specs.Parts.{shown_row}
-use Rattle.program_rows.specs.declared.bounds.Bounds.{Bounds}
-use Rattle.program_rows.specs.declared.bounds.Bounds.TheVariants.{ZeroOrOne, Zero, One}
+use Rattle.program_rows.specs.declared.column.Bounds.{Bounds}
+use Rattle.program_rows.specs.declared.column.Bounds.TheVariants.{ZeroOrOne, Zero, One}
 use Rattle.mps_reader.specs.inside.Columns.{entries_at}
 use Rattle.mps_reader.specs.inside.Rows.{option_now, declared_row_names}
 use Rattle.mps_reader.specs.inside.Agreeing.{ReadingFits}

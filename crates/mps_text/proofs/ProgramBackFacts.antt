@@ -25,7 +25,7 @@ use Rattle.mps_text.proofs.EntriesBackFacts.{worth, pair_of, entries-back}
 use Rattle.mps_text.proofs.ListingFacts.{row_names, pairs_of, all_listed, places-differ, names-at, names-listed, all-filled, all-pairs-differ}
 use Rattle.program_rows.specs.ProgramNames.{row_name}
 use Rattle.program_rows.specs.declared.mps_fault_kind.MpsFaultKind.TheVariants.{NotBinary}
-use Rattle.program_rows.specs.declared.bounds.Bounds.TheVariants.{One, Zero, ZeroOrOne}
+use Rattle.program_rows.specs.declared.column.Bounds.TheVariants.{One, Zero, ZeroOrOne}
 use Rattle.std.specs.Ordering.{int_eq}
 use Rattle.mps_text.proofs.FieldFacts.{row_fields, right_side_fields, bound_fields}
 

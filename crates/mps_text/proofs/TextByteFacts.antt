@@ -4,7 +4,7 @@ use Rattle.std.specs.Prelude.{codes, flat_map, ℤ}
 use Rattle.std.proofs.lemmas.List.{map-append}
 use Rattle.std.proofs.lemmas.List.Folds.{flat_map-map}
 use Rattle.std.proofs.lemmas.Grind.{flat_map-append}
-use Rattle.program_rows.specs.declared.parts.ProgramParts.{ProgramParts}
+use Rattle.program_rows.specs.declared.program.ProgramParts.{ProgramParts}
 use Rattle.program_rows.specs.Program.{Table, TableColumn}
 use Rattle.program_rows.specs.Parts.{shown_row, table_of}
 use Rattle.auction_terms.specs.LineFields.{LineFields}

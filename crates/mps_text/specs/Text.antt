@@ -4,8 +4,8 @@ use Rattle.std.specs.List.{join_with_byte}
 use Rattle.std.specs.Fmt.{signed_decimal}
 use Rattle.program_rows.specs.declared.row.RowKind.{RowKind}
 use Rattle.program_rows.specs.declared.row.RowKind.TheVariants.{AtMost, AtLeast, Equal}
-use Rattle.program_rows.specs.declared.bounds.Bounds.{Bounds}
-use Rattle.program_rows.specs.declared.bounds.Bounds.TheVariants.{ZeroOrOne, Zero, One}
+use Rattle.program_rows.specs.declared.column.Bounds.{Bounds}
+use Rattle.program_rows.specs.declared.column.Bounds.TheVariants.{ZeroOrOne, Zero, One}
 use Rattle.program_rows.specs.Program.{Table, TableColumn}
 use Rattle.auction_terms.specs.LineFields.{LineFields}
 use Rattle.program_rows.specs.MpsLines.{Line, Header, Data}

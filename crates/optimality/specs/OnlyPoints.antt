@@ -3,8 +3,8 @@
 use Rattle.std.specs.Prelude.{◌≡◌, ◌↔◌, ℕ, suc, ◌+◌, ◌&&◌, Bool, true, false, List, [], ◌∷◌, All, length, map, reverse}
 use Rattle.std.specs.Prelude.{Option, Some, None, Ok, ℤ, pos, neg_ℤ, ◌+ℤ◌, if◌then◌else◌}
 use Rattle.auction_terms.specs.Lines.{lines_of}
-use Rattle.program_rows.specs.declared.bounds.Bounds.{Bounds}
-use Rattle.program_rows.specs.declared.bounds.Bounds.TheVariants.{ZeroOrOne}
+use Rattle.program_rows.specs.declared.column.Bounds.{Bounds}
+use Rattle.program_rows.specs.declared.column.Bounds.TheVariants.{ZeroOrOne}
 use Rattle.program_rows.specs.Only.{AreOnlyLeast}
 use Rattle.program_rows.specs.Points.{IsPoint, objective}
 use Rattle.program_rows.specs.Program.{Table, TableColumn}

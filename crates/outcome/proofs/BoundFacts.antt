@@ -2,7 +2,7 @@
 use Rattle.std.proofs.Common.{◌≡◌, ℕ, zero, suc, ◌+◌, Bool, not, cond, List, [], ◌∷◌, Some, slice_get, drop, refl}
 use Rattle.std.specs.List.{position_from, zip}
 use Rattle.std.specs.Option.{option_map}
-use Rattle.program_rows.specs.declared.bounds.Bounds.{Bounds}
+use Rattle.program_rows.specs.declared.column.Bounds.{Bounds}
 use Rattle.program_rows.specs.Program.{TableColumn}
 use Rattle.program_rows.specs.Points.{allows}
 

@@ -7,7 +7,7 @@ use Rattle.std.proofs.lemmas.Bool.{and_parts, and_from}
 use Rattle.std.proofs.lemmas.Int.{ints}
 use Rattle.std.proofs.lemmas.List.Filters.{sum_by-filter_both}
 use Rattle.std.proofs.lemmas.List.Elements.{recursion_from_All, All-from_recursion}
-use Rattle.auction_terms.specs.declared.choices.Choice.{Choice}
+use Rattle.auction_terms.specs.declared.bids.Choice.{Choice}
 use Rattle.auction_terms.specs.Allocations.{Book, bid_of, amount_of, quantity_of, weighed_choice, loads, total, is_eligible, IsFeasible}
 use Rattle.auction_terms.proofs.OfferFacts.{all_filter, all_agree}
 use Rattle.auction_terms.specs.Groups.{has}

@@ -7,7 +7,7 @@ use Rattle.std.proofs.Math.Dec.{leb-suc-suc, leb-suc-zero}
 use Rattle.std.proofs.lemmas.List.{take_all}
 use Rattle.auction_terms.specs.Allocations.{Book, IsSized}
 use Rattle.auction_terms.specs.Packages.{Lots}
-use Rattle.auction_terms.specs.declared.choices.Choice.{Choice}
+use Rattle.auction_terms.specs.declared.bids.Choice.{Choice}
 use Rattle.auction_terms.specs.declared.limits.TheConstants.{MOST_TIES}
 use Rattle.outcome.specs.Following.{AreAllGreatest, AreAllKept, EachPair, following, with_following}
 use Rattle.outcome.specs.Others.{AreTrueOthers, IsAnother, OthersAreTrue}

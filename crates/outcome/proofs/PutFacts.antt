@@ -17,7 +17,7 @@ use Rattle.std.proofs.lemmas.List.FromFn.{fill_by_all}
 use Rattle.std.proofs.lemmas.List.Sums.{sum_by-set, get_or-le-sum_by}
 use Rattle.std.proofs.lemmas.Option.{none-some, same_Some}
 use Rattle.auction_terms.specs.declared.bids.Bid.{Bid}
-use Rattle.auction_terms.specs.declared.choices.Choice.{Choice}
+use Rattle.auction_terms.specs.declared.bids.Choice.{Choice}
 use Rattle.auction_terms.specs.Packages.{Lots, fits, is_within, left}
 use Rattle.auction_terms.specs.Domination.{net}
 use Rattle.auction_terms.specs.Allocations.{Book, form_of, bid_at, bid_of, quantity_of, loads, IsFeasible, IsSized}

@@ -14,7 +14,7 @@ use Rattle.auction_terms.specs.Keeping.{Offer, kept_of}
 use Rattle.auction_terms.specs.Limits.{IsBook}
 use Rattle.auction_terms.specs.Lines.{lines_of}
 use Rattle.auction_terms.specs.Packages.{Lots}
-use Rattle.auction_terms.specs.declared.choices.Choice.{Choice}
+use Rattle.auction_terms.specs.declared.bids.Choice.{Choice}
 use Rattle.auction_terms.specs.declared.limits.TheConstants.{MOST_BIDDERS}
 use Rattle.auction_terms.proofs.LimitFacts.{kept_are_offers}
 use Rattle.auction_terms.proofs.OfferFacts.{all_agree}

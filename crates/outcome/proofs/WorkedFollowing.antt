@@ -1,7 +1,7 @@
 -- Small books, the awards that follow from one, and what is printed of others.
 use Rattle.std.proofs.Common.{◌≡◌, ℕ, List, [], ◌∷◌, refl}
 use Rattle.auction_terms.specs.declared.bids.Bid.{Bid}
-use Rattle.auction_terms.specs.declared.choices.Choice.{Choice}
+use Rattle.auction_terms.specs.declared.bids.Choice.{Choice}
 use Rattle.auction_terms.specs.Packages.{Lots}
 use Rattle.auction_terms.specs.Allocations.{Book}
 use Rattle.outcome.specs.Following.{following, with_following}

@@ -2,7 +2,7 @@
 use Rattle.std.proofs.Common.{ℕ, Bool, true, false, List, [], ◌∷◌, pos, negsuc}
 use Rattle.std.specs.Prelude.{codes}
 use Rattle.program_rows.specs.declared.row.RowKind.TheVariants.{AtMost}
-use Rattle.program_rows.specs.declared.bounds.Bounds.TheVariants.{ZeroOrOne, One}
+use Rattle.program_rows.specs.declared.column.Bounds.TheVariants.{ZeroOrOne, One}
 use Rattle.program_rows.specs.Program.{Table, TableRow}
 
 abbrev pub at_most : List ℕ → ℕ → TableRow

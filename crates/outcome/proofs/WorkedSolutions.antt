@@ -7,7 +7,7 @@ use Rattle.auction_terms.specs.LineFields.{fields}
 use Rattle.program_rows.specs.Spelling.{column_bid}
 use Rattle.auction_terms.specs.FirstFault.{first_fault}
 use Rattle.auction_terms.specs.declared.bids.Bid.{Bid}
-use Rattle.auction_terms.specs.declared.choices.Choice.{Choice}
+use Rattle.auction_terms.specs.declared.bids.Choice.{Choice}
 use Rattle.auction_terms.specs.Packages.{Lots}
 use Rattle.auction_terms.specs.Allocations.{Book}
 use Rattle.auction_terms.specs.Keeping.{kept_of}

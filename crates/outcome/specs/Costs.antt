@@ -1,7 +1,7 @@
 -- Opportunity costs of allocations of greatest total.
 use Rattle.std.specs.Prelude.{◌≡◌, ℕ, ◌≤◌, Bool, false, List, filter, sum_by, ℤ, pos, ◌-ℤ◌, ◌≤ℤ◌}
 use Rattle.auction_terms.specs.Groups.{has}
-use Rattle.auction_terms.specs.declared.choices.Choice.{Choice}
+use Rattle.auction_terms.specs.declared.bids.Choice.{Choice}
 use Rattle.auction_terms.specs.Packages.{Lots}
 use Rattle.auction_terms.specs.Allocations.{Book, total, weighed_choice, IsSized}
 use Rattle.program_rows.specs.Faithful.{IsGreatest}

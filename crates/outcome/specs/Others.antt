@@ -3,7 +3,7 @@ use Rattle.std.specs.Prelude.{◌≡◌, ℕ, suc, Bool, List, [], ◌∷◌, �
 use Rattle.std.specs.List.{AllByRecursion}
 use Rattle.auction_terms.specs.Allocations.{Book, IsSized}
 use Rattle.auction_terms.specs.Packages.{Lots}
-use Rattle.auction_terms.specs.declared.choices.Choice.{Choice}
+use Rattle.auction_terms.specs.declared.bids.Choice.{Choice}
 use Rattle.auction_terms.specs.declared.limits.TheConstants.{MOST_TIES}
 use Rattle.bid_desk.specs.Sale.{Sale}
 use Rattle.outcome.specs.Following.{AreAllKept, AreApart, with_following}

@@ -1,7 +1,7 @@
 -- The allocation that a point wins, as a list of rising bidders.
 use Rattle.std.specs.Prelude.{◌≡◌, ℕ, ◌+◌, ◌<◌, ◌≤◌, Bool, ◌&&◌, ◌==◌, List, [], ◌∷◌, filter, flat_map, count_by, if◌then◌else◌, bytes_eq}
 use Rattle.std.specs.List.{AllByRecursion, range_with_len}
-use Rattle.auction_terms.specs.declared.choices.Choice.{Choice}
+use Rattle.auction_terms.specs.declared.bids.Choice.{Choice}
 use Rattle.auction_terms.specs.declared.limits.TheConstants.{MOST_BIDDERS}
 use Rattle.program_rows.specs.Program.{Table, TableColumn}
 use Rattle.program_rows.specs.Spelling.{bid_name, is_bid}

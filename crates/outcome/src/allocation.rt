@@ -14,7 +14,7 @@ pub struct Allocation {
 
 impl Model for Allocation {
     ghost use Rattle.std.specs.Prelude.{List};
-    ghost use Rattle.auction_terms.specs.declared.choices.Choice.{Choice};
+    ghost use Rattle.auction_terms.specs.declared.bids.Choice.{Choice};
     ghost use Rattle.outcome.specs.PointAllocation.{HasRisingBidders};
 
     ghost Value = { List Choice };

@@ -9,7 +9,7 @@ use Rattle.std.proofs.lemmas.List.Filters.{sum_by-filter_both}
 use Rattle.std.proofs.lemmas.List.Sums.{sum_by-cons}
 use Rattle.std.proofs.Math.Nat.{mul-le-mul_left, le_of_mul-le-mul_left}
 use Rattle.std.proofs.lemmas.List.Elements.{recursion_from_All, All-from_recursion}
-use Rattle.auction_terms.specs.declared.choices.Choice.{Choice}
+use Rattle.auction_terms.specs.declared.bids.Choice.{Choice}
 use Rattle.auction_terms.specs.Groups.{has}
 use Rattle.auction_terms.specs.Packages.{Lots, left, worth}
 use Rattle.auction_terms.specs.Allocations.{Book, form_of, bid_of, amount_of, loads, total, is_eligible, IsFeasible}

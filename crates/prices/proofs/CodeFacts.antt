@@ -14,7 +14,7 @@ use Rattle.std.proofs.lemmas.List.Sums.{sum_by-cons}
 use Rattle.std.proofs.lemmas.List.Elements.{recursion_from_All}
 use Rattle.auction_terms.specs.declared.limits.TheConstants.{GREATEST_AMOUNT}
 use Rattle.auction_terms.specs.declared.bids.Bid.{Bid}
-use Rattle.auction_terms.specs.declared.choices.Choice.{Choice}
+use Rattle.auction_terms.specs.declared.bids.Choice.{Choice}
 use Rattle.auction_terms.specs.Packages.{Lots, left, worth}
 use Rattle.auction_terms.specs.Allocations.{Book, amount_of, bid_at, bid_of, form_of, loads, total}
 use Rattle.auction_terms.specs.Limits.{IsBid, IsBook}

@@ -1,6 +1,6 @@
 -- When prices in parts of a pound suffice: no feasible allocation blocks.
 use Rattle.std.specs.Prelude.{◌≡◌, ◌↔◌, ◌+◌, ◌-◌, ◌*◌, ◌≤◌, ◌==◌, ℕ, All, List, false, true, filter, sum_by}
-use Rattle.auction_terms.specs.declared.choices.Choice.{Choice}
+use Rattle.auction_terms.specs.declared.bids.Choice.{Choice}
 use Rattle.auction_terms.specs.Packages.{Lots, left, worth}
 use Rattle.auction_terms.specs.Allocations.{Book, amount_of, loads, total, IsFeasible, IsSized}
 use Rattle.auction_terms.specs.Keeping.{is_kept_choice}

@@ -1,6 +1,6 @@
 -- What follows from the rules, the bids and the winners alone.
 use Rattle.std.specs.Prelude.{◌≡◌, ℕ, All, List}
-use Rattle.auction_terms.specs.declared.choices.Choice.{Choice}
+use Rattle.auction_terms.specs.declared.bids.Choice.{Choice}
 use Rattle.auction_terms.specs.Packages.{Lots}
 use Rattle.auction_terms.specs.Allocations.{Book}
 use Rattle.auction_terms.specs.Limits.{IsBook}

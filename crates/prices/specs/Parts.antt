@@ -1,6 +1,6 @@
 -- Prices in parts of a pound: each price is a whole number of parts, of which the same number make a pound. And which prices are those of the rule.
 use Rattle.std.specs.Prelude.{◌≡◌, ◌+◌, ◌-◌, ◌*◌, ◌≤◌, ℕ, All, List, pos, sum_by, ◌*ℤ◌, ◌≤ℤ◌}
-use Rattle.auction_terms.specs.declared.choices.Choice.{Choice}
+use Rattle.auction_terms.specs.declared.bids.Choice.{Choice}
 use Rattle.auction_terms.specs.Groups.{has}
 use Rattle.auction_terms.specs.Packages.{Lots}
 use Rattle.auction_terms.specs.Allocations.{Book, weighed_choice}

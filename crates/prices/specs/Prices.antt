@@ -1,6 +1,6 @@
 -- Prices of the winners of an allocation in whole pounds, and when they cover what every group of bidders costs the others. A bidder that wins nothing pays nothing.
 use Rattle.std.specs.Prelude.{ℕ, ◌≤◌, List, All, filter, map, pos, ◌≤ℤ◌}
-use Rattle.auction_terms.specs.declared.choices.Choice.{Choice}
+use Rattle.auction_terms.specs.declared.bids.Choice.{Choice}
 use Rattle.auction_terms.specs.Groups.{has}
 use Rattle.auction_terms.specs.Packages.{Lots}
 use Rattle.auction_terms.specs.Allocations.{Book, weighed_choice}

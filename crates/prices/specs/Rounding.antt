@@ -1,6 +1,6 @@
 -- Prices in parts of a pound, each rounded up to whole pounds: what the winners are to pay.
 use Rattle.std.specs.Prelude.{◌≡◌, ℕ, All, List}
-use Rattle.auction_terms.specs.declared.choices.Choice.{Choice}
+use Rattle.auction_terms.specs.declared.bids.Choice.{Choice}
 use Rattle.auction_terms.specs.Packages.{Lots}
 use Rattle.auction_terms.specs.Allocations.{Book}
 use Rattle.outcome.specs.Pricing.{in_pounds}

@@ -1,7 +1,7 @@
 -- Weights that show that prices in parts of a pound are the prices of the rule.
 use Rattle.std.specs.Prelude.{◌≡◌, ◌+◌, ◌*◌, ◌&&◌, ◌||◌, ◌==◌, ℕ, Bool, All, List, [], ◌∷◌, Option, None, int_le, nat_le, pos, ◌*ℤ◌}
 use Rattle.std.specs.List.{list_all}
-use Rattle.auction_terms.specs.declared.choices.Choice.{Choice}
+use Rattle.auction_terms.specs.declared.bids.Choice.{Choice}
 use Rattle.auction_terms.specs.FirstFault.{first_failed}
 use Rattle.auction_terms.specs.Groups.{has}
 use Rattle.auction_terms.specs.Packages.{Lots}

@@ -1,6 +1,6 @@
 -- Weights on groups and on the winners' reserves.
 use Rattle.std.specs.Prelude.{◌+◌, ℕ, List, [], ◌∷◌, cond, sum_by}
-use Rattle.auction_terms.specs.declared.choices.Choice.{Choice}
+use Rattle.auction_terms.specs.declared.bids.Choice.{Choice}
 use Rattle.auction_terms.specs.Groups.{has}
 use Rattle.outcome.specs.Pricing.{price_in}
 

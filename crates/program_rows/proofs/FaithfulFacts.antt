@@ -15,7 +15,7 @@ use Rattle.std.proofs.lemmas.List.FromFn.{get_or-map-range_with_len, length-map-
 use Rattle.std.proofs.lemmas.Option.{slice_get-get_or, slice_get-map}
 use Rattle.std.proofs.lemmas.List.Kept.{Contains-dedup_nat}
 use Rattle.auction_terms.specs.declared.bids.Bid.{Bid}
-use Rattle.auction_terms.specs.declared.choices.Choice.{Choice}
+use Rattle.auction_terms.specs.declared.bids.Choice.{Choice}
 use Rattle.auction_terms.specs.Packages.{Lots, pool_at, fits, weighed, worth, worth_of_all}
 use Rattle.auction_terms.specs.Domination.{net, is_kept}
 use Rattle.auction_terms.specs.Allocations.{Book, form_of, bid_of, amount_of, loads, total, is_eligible, IsFeasible, IsSized}
@@ -39,7 +39,7 @@ use Rattle.program_rows.proofs.EachFacts.{at_place, each_map}
 use Rattle.program_rows.proofs.LegalFacts.{all_there}
 use Rattle.program_rows.proofs.NamedItemFacts.{stands as is_there}
 use Rattle.program_rows.proofs.SpellingFacts.{reads_back}
-use Rattle.program_rows.specs.declared.bounds.Bounds.TheVariants.{One}
+use Rattle.program_rows.specs.declared.column.Bounds.TheVariants.{One}
 
 -- ---------- the rows of subjects ----------
 

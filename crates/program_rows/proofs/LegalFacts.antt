@@ -32,7 +32,7 @@ use Rattle.program_rows.specs.inside.Building.{IsThere}
 use Rattle.program_rows.specs.Legal.{IsSmall, IsSmallColumn, BuiltIsLegal}
 use Rattle.program_rows.proofs.EachFacts.{each, each_map, in_range}
 use Rattle.program_rows.proofs.SpellingFacts.{bid_name-injective}
-use Rattle.program_rows.specs.declared.bounds.Bounds.TheVariants.{One}
+use Rattle.program_rows.specs.declared.column.Bounds.TheVariants.{One}
 
 -- what holds of the bidders, of each category and of each pool holds of each subject
 pub each_subject : (P : Subject → Type 0) (lots : Lots) (bs : List ℕ) → AllByRecursion (λ b. P (Bidder b)) bs

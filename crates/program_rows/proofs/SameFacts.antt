@@ -11,7 +11,7 @@ use Rattle.std.proofs.lemmas.List.Folds.{find_at}
 use Rattle.std.proofs.lemmas.Map.Keys.{IsDistinct-tail}
 use Rattle.std.proofs.lemmas.Option.{same_Some}
 use Rattle.std.proofs.lemmas.Slice.Eq.{bytes_eq-Decides}
-use Rattle.program_rows.specs.declared.bounds.Bounds.{Bounds}
+use Rattle.program_rows.specs.declared.column.Bounds.{Bounds}
 use Rattle.program_rows.specs.Program.{Table, TableRow, TableColumn}
 use Rattle.program_rows.specs.Parts.{IsProgram, AreEntries}
 use Rattle.program_rows.specs.Points.{coefficient_at}

@@ -1,7 +1,7 @@
 -- Worked texts and their meanings, which the definitions compute.
 use Rattle.std.specs.Prelude.{◌≡◌, ◌-◌, ◌^◌, [], ◌∷◌, pos, negsuc, Ok, Err, codes, refl}
 use Rattle.program_rows.specs.declared.row.RowKind.TheVariants.{AtMost}
-use Rattle.program_rows.specs.declared.bounds.Bounds.TheVariants.{ZeroOrOne}
+use Rattle.program_rows.specs.declared.column.Bounds.TheVariants.{ZeroOrOne}
 use Rattle.program_rows.specs.Program.{Table}
 use Rattle.auction_terms.specs.LineFields.{fields}
 use Rattle.program_rows.specs.MpsLines.{line_of}

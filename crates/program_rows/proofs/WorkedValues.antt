@@ -3,12 +3,12 @@ use Rattle.std.proofs.Common.{◌≡◌, ℕ, Bool, true, false, List, [], ◌�
 use Rattle.std.specs.Prelude.{◌==◌, codes}
 use Rattle.std.specs.Fmt.{digits}
 use Rattle.auction_terms.specs.declared.bids.Bid.{Bid}
-use Rattle.auction_terms.specs.declared.choices.Choice.{Choice}
+use Rattle.auction_terms.specs.declared.bids.Choice.{Choice}
 use Rattle.auction_terms.specs.Packages.{Lots, fits}
 use Rattle.auction_terms.specs.Allocations.{Book, total}
 use Rattle.auction_terms.specs.Keeping.{kept_of}
 use Rattle.program_rows.specs.declared.row.RowKind.TheVariants.{AtMost}
-use Rattle.program_rows.specs.declared.bounds.Bounds.TheVariants.{ZeroOrOne, One}
+use Rattle.program_rows.specs.declared.column.Bounds.TheVariants.{ZeroOrOne, One}
 use Rattle.program_rows.specs.Program.{Table, TableColumn}
 use Rattle.program_rows.specs.Points.{broken_row, objective}
 use Rattle.program_rows.specs.Spelling.{column_bid}

@@ -1,6 +1,6 @@
 -- Columns with other bounds.
 use Rattle.std.specs.Prelude.{List, [], ◌∷◌}
-use Rattle.program_rows.specs.declared.bounds.Bounds.{Bounds}
+use Rattle.program_rows.specs.declared.column.Bounds.{Bounds}
 use Rattle.program_rows.specs.Program.{TableColumn}
 
 -- each column with the bounds at its place

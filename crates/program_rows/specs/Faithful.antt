@@ -1,7 +1,7 @@
 -- When a program says of a book, and of a group of bidders left out, what the allocations say.
 use Rattle.std.specs.Prelude.{◌≡◌, ℕ, ◌≤◌, Bool, true, false, List, [], ◌∷◌, ◌++◌, pos, neg_ℤ, ◌≤ℤ◌}
 use Rattle.std.specs.Option.{option_to_list}
-use Rattle.auction_terms.specs.declared.choices.Choice.{Choice}
+use Rattle.auction_terms.specs.declared.bids.Choice.{Choice}
 use Rattle.auction_terms.specs.Packages.{Lots}
 use Rattle.auction_terms.specs.Allocations.{Book, total, IsFeasible}
 use Rattle.auction_terms.specs.Keeping.{kept_of}

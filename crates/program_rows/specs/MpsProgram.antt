@@ -7,7 +7,7 @@ use Rattle.std.specs.Result.{result_unwrap_or}
 use Rattle.std.specs.Ordering.{int_eq}
 use Rattle.program_rows.specs.declared.row.RowKind.{RowKind}
 use Rattle.program_rows.specs.declared.row.RowKind.TheVariants.{AtMost, AtLeast, Equal}
-use Rattle.program_rows.specs.declared.bounds.Bounds.TheVariants.{ZeroOrOne, Zero, One}
+use Rattle.program_rows.specs.declared.column.Bounds.TheVariants.{ZeroOrOne, Zero, One}
 use Rattle.program_rows.specs.Program.{Table, TableRow, TableColumn}
 use Rattle.auction_terms.specs.LineFields.{LineFields, field}
 use Rattle.auction_terms.specs.Decimals.{number}

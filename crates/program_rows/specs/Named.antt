@@ -1,6 +1,6 @@
 -- What `column_bid` reads: laws.
 use Rattle.std.specs.Prelude.{◌≡◌, ℕ, true, List, Some}
-use Rattle.auction_terms.specs.declared.choices.Choice.{Choice}
+use Rattle.auction_terms.specs.declared.bids.Choice.{Choice}
 use Rattle.program_rows.specs.Spelling.{bid_name, is_bid, column_bid}
 
 -- the name of a bid is read back

@@ -1,6 +1,6 @@
 -- Points whose objective no other one reaches.
 use Rattle.std.specs.Prelude.{◌≡◌, ◌∷◌, ℕ, ◌≤◌, Bool, true, List, All, Any, Contains, IsPermutation, ◌≤ℤ◌}
-use Rattle.auction_terms.specs.declared.choices.Choice.{Choice}
+use Rattle.auction_terms.specs.declared.bids.Choice.{Choice}
 use Rattle.auction_terms.specs.Packages.{Lots}
 use Rattle.auction_terms.specs.Allocations.{Book, total, IsFeasible}
 use Rattle.auction_terms.specs.Keeping.{is_kept_choice, kept_of}

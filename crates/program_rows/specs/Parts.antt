@@ -3,7 +3,7 @@ use Rattle.std.specs.Prelude.{◌≢◌, ℕ, ◌<◌, ◌≤◌, List, [], ◌�
 use Rattle.std.specs.List.{AllByRecursion, IsDistinct}
 use Rattle.program_rows.specs.declared.row.Row.{Row}
 use Rattle.program_rows.specs.declared.column.Column.{Column}
-use Rattle.program_rows.specs.declared.parts.ProgramParts.{ProgramParts}
+use Rattle.program_rows.specs.declared.program.ProgramParts.{ProgramParts}
 use Rattle.program_rows.specs.Program.{Table, TableRow, TableColumn}
 
 -- a row that the code holds, as contracts see it

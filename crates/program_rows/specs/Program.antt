@@ -1,7 +1,7 @@
 -- A 0-1 program: rows with a right side, and columns with bounds, a cost and entries.
 use Rattle.std.specs.Prelude.{ℕ, List, ℤ}
 use Rattle.program_rows.specs.declared.row.RowKind.{RowKind}
-use Rattle.program_rows.specs.declared.bounds.Bounds.{Bounds}
+use Rattle.program_rows.specs.declared.column.Bounds.{Bounds}
 
 -- a row of a program: its name, whether its sum is to be at most, at least or equal to its right side, and that right side
 pub record TableRow : Type 0 where

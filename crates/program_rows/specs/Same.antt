@@ -1,7 +1,7 @@
 -- Programs that are equal as maps, whatever their order.
 use Rattle.std.specs.Prelude.{◌≡◌, ℕ, List, ℤ, pos, Option, find, position, option_map, bytes_eq}
 use Rattle.std.specs.Option.{option_map_or}
-use Rattle.program_rows.specs.declared.bounds.Bounds.{Bounds}
+use Rattle.program_rows.specs.declared.column.Bounds.{Bounds}
 use Rattle.program_rows.specs.Program.{Table, TableRow, TableColumn}
 use Rattle.program_rows.specs.Points.{coefficient_at}
 

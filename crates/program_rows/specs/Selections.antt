@@ -6,7 +6,7 @@ use Rattle.auction_terms.specs.Limits.{AreOffers}
 use Rattle.auction_terms.specs.Packages.{Lots}
 use Rattle.program_rows.specs.Program.{Table, TableColumn, TableRow}
 use Rattle.program_rows.specs.Rows.{program_of, subjects, worth_column}
-use Rattle.program_rows.specs.declared.bounds.Bounds.TheVariants.{ZeroOrOne}
+use Rattle.program_rows.specs.declared.column.Bounds.TheVariants.{ZeroOrOne}
 use Rattle.program_rows.specs.declared.row.RowKind.TheVariants.{AtMost}
 use Rattle.program_rows.specs.declared.subject.Subject.{Subject}
 use Rattle.program_rows.specs.declared.subject.Subject.TheVariants.{Bidder, Category, Pool}

@@ -6,12 +6,10 @@ ghost use Rattle.program_rows.specs.Parts.{shown_column, shown_row};
 ghost use Rattle.program_rows.specs.ProgramNames.{row_name};
 ghost use Rattle.program_rows.specs.Same as same;
 
-use crate::bounds::Bounds;
-use crate::column::Column;
+use crate::column::{Bounds, Column};
 use crate::columns::Columns;
 use crate::lookups::{column_place, row_place};
-use crate::row::{Row, RowKind};
-use crate::row_readers::row_at;
+use crate::row::{Row, RowKind, row_at};
 use crate::row_sums::coefficient_of;
 
 fn is_same_kind(kind: RowKind, other: RowKind) -> bool

@@ -11,12 +11,11 @@ ghost use Rattle.program_rows.specs.inside.Building.{IsThere, built_column};
 ghost use Rattle.program_rows.specs.Parts.{shown_row};
 ghost use Rattle.program_rows.specs.Rows.{bidder_subjects, column_of, program_of, row_of, subjects as subjects_of, weight, worth_column};
 
-use crate::bounds::Bounds;
+use crate::column::Bounds;
 use crate::columns::Columns;
 use crate::entries::{MOST_ENTRIES, write_entries};
 use crate::names::{NAME_LEN, objective_name, write_bid_name};
-use crate::parts::ProgramParts;
-use crate::program::Program;
+use crate::program::{Program, ProgramParts};
 use crate::rows::{add_categories, add_pools, bidders, rows};
 use crate::subject::Subject;
 use auction_terms::{Bid, Kept, KeptBid, Rules};

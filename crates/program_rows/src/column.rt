@@ -1,4 +1,12 @@
-use crate::bounds::Bounds;
+//! The columns of a program.
+
+/// The values that a column may take.
+#[derive(Clone, Copy, Debug, PartialEq, Eq)]
+pub enum Bounds {
+    ZeroOrOne,
+    Zero,
+    One,
+}
 
 /// A column of a program, lent by the list that holds it.
 #[derive(Clone, Copy)]

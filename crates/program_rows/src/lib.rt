@@ -3,7 +3,6 @@
 #![tactic(auto)]
 
 mod agreeing;
-mod bounds;
 mod broken;
 mod building;
 mod certificate_fault;
@@ -19,11 +18,9 @@ mod mps_fault_kind;
 mod name_set;
 mod names;
 mod ones;
-mod parts;
 mod point;
 mod program;
 mod row;
-mod row_readers;
 mod row_sums;
 mod rows;
 mod same;
@@ -34,17 +31,15 @@ mod solution_fault;
 mod spelling;
 mod subject;
 
-pub use bounds::Bounds;
 pub use building::{build, build_bids};
 pub use certificate_fault::{CertificateFault, CertificateFaultKind};
-pub use column::Column;
+pub use column::{Bounds, Column};
 pub use columns::Columns;
 pub use mps_fault::MpsFault;
 pub use mps_fault_kind::MpsFaultKind;
 pub use name_set::{NameSet, Seeded, place_of};
-pub use parts::ProgramParts;
 pub use point::Point;
-pub use program::Program;
+pub use program::{Program, ProgramParts};
 pub use row::{Row, RowKind};
 pub use same::same_program;
 pub use selected_entries::Entries;

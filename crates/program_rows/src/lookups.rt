@@ -4,8 +4,7 @@ ghost use Rattle.std.specs.List.{IsDistinct, position_or_len};
 ghost use Rattle.program_rows.specs.Parts.{shown_row};
 
 use crate::columns::Columns;
-use crate::row::Row;
-use crate::row_readers::name_at;
+use crate::row::{Row, name_at};
 
 pub(crate) fn is_same_name(name: &[u8], other: &[u8]) -> bool
     ensures { result ≡ bytes_eq name.now other.now }

@@ -5,16 +5,23 @@ ghost use Rattle.program_rows.specs.Parts.{IsProgram, table_of};
 ghost use Rattle.program_rows.specs.Points.{broken_row, objective};
 ghost use Rattle.program_rows.specs.Spelling.{column_bid};
 
-use crate::bounds::Bounds;
 use crate::broken::broken_row;
+use crate::column::Bounds;
+use crate::columns::Columns;
 use crate::costs::cost_sum;
-use crate::parts::ProgramParts;
 use crate::point::Point;
-use crate::row::RowKind;
-use crate::row_readers::{kind_at, name_at, right_side_at};
+use crate::row::{Row, RowKind, kind_at, name_at, right_side_at};
 use crate::spelling::bid_named;
 use auction_terms::Choice;
 use std::marker::Model;
+
+/// What a program is made of.
+#[derive(Drop)]
+pub struct ProgramParts {
+    pub objective_name: Vec<u8>,
+    pub rows: Vec<Row>,
+    pub columns: Columns,
+}
 
 /// A 0-1 program. Its rows and columns go by their places from 0.
 #[derive(Drop)]

@@ -8,8 +8,7 @@ ghost use Rattle.program_rows.specs.Same.{IsSameProgram};
 use crate::agreeing::{is_among_columns, is_among_rows};
 use crate::columns::Columns;
 use crate::lookups::is_same_name;
-use crate::parts::ProgramParts;
-use crate::program::Program;
+use crate::program::{Program, ProgramParts};
 use crate::row::Row;
 
 fn are_rows_among(rows: &[Row], others: &[Row]) -> bool

@@ -3,7 +3,7 @@
 ghost use Rattle.std.specs.Prelude.{◌≡◌, ◌<◌, Some, length, option_map, slice_get};
 ghost use Rattle.program_rows.specs.inside.Seen.{AreThere, seen, seen_column};
 
-use crate::bounds::Bounds;
+use crate::column::Bounds;
 use crate::program::Program;
 use crate::row::RowKind;
 use crate::selected_entries::Entries;

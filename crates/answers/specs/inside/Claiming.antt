@@ -7,7 +7,7 @@ use Rattle.auction_input.specs.declared.refusal.Refusal.{Refusal}
 use Rattle.auction_input.specs.Line.{refusal_text}
 use Rattle.auction_terms.specs.Lines.{bytes_of}
 use Rattle.auction_terms.specs.Groups.{starts_empty}
-use Rattle.auction_terms.specs.declared.choices.Choice.{Choice}
+use Rattle.auction_terms.specs.declared.bids.Choice.{Choice}
 use Rattle.group_compiler.specs.Compiled.{program_without}
 use Rattle.optimality.specs.OnlyPoints.{IsLargeOnlyAt, only_fault}
 use Rattle.outcome.specs.Solution.{solution}

@@ -4,7 +4,7 @@ use Rattle.std.specs.List.{zip}
 use Rattle.auction_input.specs.declared.refusal.Refusal.{Refusal}
 use Rattle.auction_terms.specs.Stages.{each_in_turn}
 use Rattle.auction_input.specs.declared.refusal.Refusal.TheVariants as refusal
-use Rattle.auction_terms.specs.declared.choices.Choice.{Choice}
+use Rattle.auction_terms.specs.declared.bids.Choice.{Choice}
 use Rattle.bid_desk.specs.Closing.{Closing}
 use Rattle.bid_desk.specs.Sale.{sale_of}
 use Rattle.group_compiler.specs.Compiled.{program_without}

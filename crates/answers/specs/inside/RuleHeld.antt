@@ -1,6 +1,6 @@
 -- What the code holds of prices and of a rule.
 use Rattle.std.specs.Prelude.{ℕ, List}
-use Rattle.auction_terms.specs.declared.choices.Choice.{Choice}
+use Rattle.auction_terms.specs.declared.bids.Choice.{Choice}
 use Rattle.prices.specs.Rule.{Rule}
 use Rattle.prices.specs.Weights.{Weights, listed_weights}
 use Rattle.answers.specs.Pricing.{InParts}

@@ -4,7 +4,7 @@ use Rattle.std.specs.List.{AllZip, range_with_len, zip}
 use Rattle.auction_terms.specs.Stages.{each_in_turn}
 use Rattle.auction_input.specs.Refused.{Refuses}
 use Rattle.auction_input.specs.declared.refusal.Refusal.{Refusal}
-use Rattle.auction_terms.specs.declared.choices.Choice.{Choice}
+use Rattle.auction_terms.specs.declared.bids.Choice.{Choice}
 use Rattle.group_compiler.specs.Compiled.{Compiling}
 use Rattle.bid_desk.specs.Sale.{Sale, sale_of}
 use Rattle.answers.specs.Programs.{program_for}

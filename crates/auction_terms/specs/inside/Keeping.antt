@@ -1,6 +1,6 @@
 -- What presolve keeps of a book, and what stands in for a bid that it drops.
 use Rattle.std.specs.Prelude.{ℕ, Bool, not, ◌&&◌}
-use Rattle.auction_terms.specs.declared.choices.Choice.{Choice}
+use Rattle.auction_terms.specs.declared.bids.Choice.{Choice}
 use Rattle.auction_terms.specs.Allocations.{Book, form_of}
 use Rattle.auction_terms.specs.Domination.{is_kept}
 use Rattle.auction_terms.specs.Keeping.{Offer}

@@ -1,8 +1,8 @@
 -- How far the callers' own lists agree with a history.
 use Rattle.std.specs.Prelude.{ℕ, ◌≡◌, ◌<◌, ◌≤◌, ⊤, List, length, take, slice_index_or}
 use Rattle.bid_forms.specs.Offers.{Offers}
-use Rattle.bid_book.specs.declared.caller.Caller.TheVariants.{Chair}
-use Rattle.bid_book.specs.declared.entry.Entry.{Entry}
+use Rattle.bid_book.specs.declared.call.Caller.TheVariants.{Chair}
+use Rattle.bid_book.specs.declared.records.Entry.{Entry}
 use Rattle.bid_book.specs.History.{own_pairs}
 use Rattle.bid_desk.specs.declared.comparing.Comparison.{Comparison}
 use Rattle.bid_desk.specs.declared.comparing.Comparison.TheVariants.{Agrees, Differs}

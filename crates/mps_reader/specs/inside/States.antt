@@ -1,7 +1,7 @@
 -- The values that a column may take.
 use Rattle.std.specs.Prelude.{Bool, true, false, not, ◌&&◌, ◌||◌, Option, Some, None, if◌then◌else◌}
-use Rattle.program_rows.specs.declared.bounds.Bounds.{Bounds}
-use Rattle.program_rows.specs.declared.bounds.Bounds.TheVariants.{ZeroOrOne, Zero, One}
+use Rattle.program_rows.specs.declared.column.Bounds.{Bounds}
+use Rattle.program_rows.specs.declared.column.Bounds.TheVariants.{ZeroOrOne, Zero, One}
 use Rattle.mps_reader.specs.declared.tables.ColumnState.{ColumnState}
 
 -- whether the lower bound of a column is at most its upper one, where true is 1; if it has no upper one it isn't

@@ -10,7 +10,7 @@ use Rattle.program_rows.specs.MpsSections.{Sections}
 use Rattle.program_rows.specs.MpsProgram.{first_free, table_rows, columns_named, lower, upper, is_binary_bound}
 use Rattle.program_rows.specs.MpsProgram.{column_pairs, number_beside, line_right_sides, bound_pair}
 use Rattle.program_rows.specs.MpsFaults.{is_integer_open, stands_in_integers}
-use Rattle.program_rows.specs.declared.bounds.Bounds.TheVariants.{ZeroOrOne}
+use Rattle.program_rows.specs.declared.column.Bounds.TheVariants.{ZeroOrOne}
 use Rattle.program_rows.specs.Program.{TableColumn}
 use Rattle.program_rows.specs.Parts.{shown_row}
 use Rattle.mps_reader.specs.inside.Columns.{entries_at, nearest_column}

@@ -1,6 +1,6 @@
 -- The bytes of the lines of each row and column, and of each section.
 use Rattle.std.specs.Prelude.{ℕ, List, [], ◌∷◌, ◌++◌, map, flat_map, codes}
-use Rattle.program_rows.specs.declared.parts.ProgramParts.{ProgramParts}
+use Rattle.program_rows.specs.declared.program.ProgramParts.{ProgramParts}
 use Rattle.program_rows.specs.Parts.{shown_row}
 use Rattle.program_rows.specs.MpsLines.{Data}
 use Rattle.mps_text.specs.Text.{written}

@@ -1,7 +1,7 @@
 -- Flags of bids: whether each bid of a book is kept.
 use Rattle.std.specs.Prelude.{◌≡◌, ◌≤◌, ◌+◌, ◌-◌, ◌&&◌, ◌==◌, ℕ, Bool, if◌then◌else◌, List, [], ◌∷◌, map, slice_get}
 use Rattle.auction_terms.specs.declared.bids.Bid.{Bid}
-use Rattle.auction_terms.specs.declared.choices.Choice.{Choice}
+use Rattle.auction_terms.specs.declared.bids.Choice.{Choice}
 use Rattle.auction_terms.specs.Packages.{Lots}
 use Rattle.auction_terms.specs.Allocations.{Book, form_of}
 use Rattle.auction_terms.specs.Keeping.{Offer}

@@ -1,7 +1,7 @@
 -- The weights on a bidder, and what the code compares with them.
 use Rattle.std.specs.Prelude.{◌+◌, ◌*◌, ◌==◌, ℕ, Bool, cond, List, sum_by}
 use Rattle.std.specs.List.{zip}
-use Rattle.auction_terms.specs.declared.choices.Choice.{Choice}
+use Rattle.auction_terms.specs.declared.bids.Choice.{Choice}
 use Rattle.auction_terms.specs.Groups.{has}
 
 -- the weights of the groups that a bidder is in

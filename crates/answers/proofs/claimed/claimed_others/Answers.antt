@@ -4,7 +4,7 @@ use Rattle.auction_terms.specs.Allocations.{IsFeasible}
 use Rattle.auction_terms.specs.Keeping.{is_kept_choice}
 use Rattle.auction_terms.specs.Lines.{bytes_of}
 use Rattle.auction_terms.specs.Terms.{lots_in}
-use Rattle.auction_terms.specs.declared.choices.Choice.{Choice}
+use Rattle.auction_terms.specs.declared.bids.Choice.{Choice}
 use Rattle.auction_input.specs.Refused.{Refuses}
 use Rattle.auction_input.specs.Settled.{held}
 use Rattle.auction_input.specs.declared.refusal.Refusal.TheVariants as refusal

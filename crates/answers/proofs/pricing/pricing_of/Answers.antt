@@ -6,7 +6,7 @@ use Rattle.auction_input.specs.Refused.{Refuses}
 use Rattle.auction_input.specs.Settled.{held}
 use Rattle.auction_input.specs.declared.refusal.Refusal.{Refusal}
 use Rattle.auction_terms.specs.Terms.{lots_in}
-use Rattle.auction_terms.specs.declared.choices.Choice.{Choice}
+use Rattle.auction_terms.specs.declared.bids.Choice.{Choice}
 use Rattle.auction_terms.specs.FirstFault.{first_failed}
 use Rattle.bid_desk.specs.Closing.{book_of}
 use Rattle.program_rows.specs.Faithful.{IsGreatest}

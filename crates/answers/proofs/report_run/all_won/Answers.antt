@@ -1,6 +1,6 @@
 use Rattle.std.proofs.Common.{◌≡◌, ◌<◌, ◌≤◌, ◌+◌, ◌-◌, ◌∷◌, ◌∙◌, [], ℕ, List, Ok, Option, sym, subst, ap, arith, length, length-append}
 use Rattle.std.proofs.lemmas.List.{length-map}
-use Rattle.auction_terms.specs.declared.choices.Choice.{Choice}
+use Rattle.auction_terms.specs.declared.bids.Choice.{Choice}
 use Rattle.auction_terms.specs.Lines.{bytes_of}
 use Rattle.bid_desk.specs.Sale.{sale_of}
 use Rattle.auction_input.specs.Refused.{Refuses}

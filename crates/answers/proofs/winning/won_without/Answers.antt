@@ -1,5 +1,5 @@
 use Rattle.std.proofs.Common.{◌≡◌, ℕ, List, Ok, Option, subst, IfSome}
-use Rattle.auction_terms.specs.declared.choices.Choice.{Choice}
+use Rattle.auction_terms.specs.declared.bids.Choice.{Choice}
 use Rattle.group_compiler.specs.Compiled.{program_without}
 use Rattle.answers.specs.SolutionWinners.{winners_by}
 use Rattle.answers.proofs.winning.won_without.Goals as goal

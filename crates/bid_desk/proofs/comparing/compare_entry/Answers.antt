@@ -6,9 +6,9 @@ use Rattle.std.proofs.lemmas.List.{length-map}
 use Rattle.std.proofs.lemmas.Option.{slice_get-map, slice_get_read}
 use Rattle.auction_terms.specs.Terms.{Terms}
 use Rattle.bid_forms.specs.Offers.{Offers}
-use Rattle.bid_book.specs.declared.caller.Caller.TheVariants.{Session, Chair}
+use Rattle.bid_book.specs.declared.call.Caller.TheVariants.{Session, Chair}
 use Rattle.bid_book.specs.declared.call.Call.{Call}
-use Rattle.bid_book.specs.declared.entry.Entry.{Entry}
+use Rattle.bid_book.specs.declared.records.Entry.{Entry}
 use Rattle.bid_book.specs.declared.reply.Reply.{Reply}
 use Rattle.bid_book.specs.History.{entry_value, own_pairs}
 use Rattle.bid_desk.specs.declared.slots.Slot.{Slot}

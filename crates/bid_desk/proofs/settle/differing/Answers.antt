@@ -4,7 +4,7 @@ use Rattle.std.proofs.lemmas.Bool.{cases_lt}
 use Rattle.auction_terms.specs.Terms.{Terms}
 use Rattle.bid_forms.specs.Offers.{Offers}
 use Rattle.bid_book.specs.declared.call.Call.{Call}
-use Rattle.bid_book.specs.declared.caller.Caller.TheVariants.{Chair}
+use Rattle.bid_book.specs.declared.call.Caller.TheVariants.{Chair}
 use Rattle.bid_book.specs.declared.reply.Reply.{Reply}
 use Rattle.bid_book.specs.History.{entry_value, own_pairs}
 use Rattle.bid_desk.specs.inside.Comparing.{IsCompared}

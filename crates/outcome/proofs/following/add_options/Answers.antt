@@ -2,7 +2,7 @@ use Rattle.std.proofs.Common.{◌≡◌, ◌∙◌, ◌++◌, ◌∷◌, Some, L
 use Rattle.std.proofs.lemmas.List.{length-map}
 use Rattle.std.proofs.lemmas.Result.{on_ok_weaker}
 use Rattle.auction_terms.specs.declared.rules.Category.{Category}
-use Rattle.auction_terms.specs.declared.choices.Choice.{Choice}
+use Rattle.auction_terms.specs.declared.bids.Choice.{Choice}
 use Rattle.auction_terms.specs.Allocations.{bid_of, loads}
 use Rattle.auction_terms.specs.Terms.{lots_in}
 use Rattle.auction_terms.proofs.AllocationFacts.{loads_length}

@@ -1,6 +1,6 @@
 use Rattle.std.proofs.Common.{◌≡◌, ◌+◌, ◌∙◌, ◌∷◌, ◌++◌, ℕ, Bool, List, [], cond, length, set, ap, arith, rules}
 use Rattle.std.proofs.lemmas.List.{length_push}
-use Rattle.auction_terms.specs.declared.choices.Choice.{Choice}
+use Rattle.auction_terms.specs.declared.bids.Choice.{Choice}
 use Rattle.auction_terms.specs.Domination.{net}
 use Rattle.auction_terms.specs.Terms.{lots_in}
 use Rattle.outcome.specs.inside.Following.{each_put, replaces}

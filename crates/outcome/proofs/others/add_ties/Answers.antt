@@ -1,6 +1,6 @@
 use Rattle.std.proofs.Common.{◌<◌, ◌++◌, ◌∙◌, List, ap, length, take, arith}
 use Rattle.std.specs.Prelude.{flat_map}
-use Rattle.auction_terms.specs.declared.choices.Choice.{Choice}
+use Rattle.auction_terms.specs.declared.bids.Choice.{Choice}
 use Rattle.byte_sinks.proofs.AddingFacts.{Adds-then, Adds-to}
 use Rattle.byte_sinks.proofs.KnownByteFacts.{flat_map-next_or}
 use Rattle.bid_desk.specs.Sale.{sale_of}

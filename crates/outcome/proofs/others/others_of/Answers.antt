@@ -1,7 +1,7 @@
 use Rattle.std.proofs.Common.{◌≡◌, ◌∙◌, ◌∷◌, ◌+◌, ℕ, Bool, suc, List, ap, ap₂, drop, length, nat_le, refl, sym, take}
 use Rattle.std.specs.Prelude.{if◌then◌else◌}
 use Rattle.auction_terms.specs.Terms.{lots_in}
-use Rattle.auction_terms.specs.declared.choices.Choice.{Choice}
+use Rattle.auction_terms.specs.declared.bids.Choice.{Choice}
 use Rattle.auction_terms.specs.declared.limits.TheConstants.{MOST_TIES}
 use Rattle.bid_desk.specs.Closing.{book_of}
 use Rattle.outcome.specs.Following.{with_following}

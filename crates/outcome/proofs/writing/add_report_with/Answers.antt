@@ -1,6 +1,6 @@
 use Rattle.std.proofs.Common.{◌≡◌, ◌<◌, ◌∷◌, [], List, length, slice_index_or, arith}
 use Rattle.byte_sinks.proofs.AddingFacts.{Adds-then}
-use Rattle.auction_terms.specs.declared.choices.Choice.{Choice}
+use Rattle.auction_terms.specs.declared.bids.Choice.{Choice}
 use Rattle.outcome.proofs.writing.add_report_with.Goals as goal
 
 first-is : (won : List (List Choice)) (first : List Choice) → 0 < length won → first ≡ slice_index_or won 0 first → first ≡ slice_index_or won 0 []

@@ -1,6 +1,6 @@
 use Rattle.std.proofs.Common.{rules, arith}
 use Rattle.std.proofs.lemmas.Fn.{always_returns_same}
-use Rattle.auction_terms.specs.declared.choices.Choice.{Choice}
+use Rattle.auction_terms.specs.declared.bids.Choice.{Choice}
 use Rattle.presolve.proofs.ChoiceFacts.{IsInOrder}
 use Rattle.presolve.proofs.SizeFacts.{all_pairs, up_to, up_to_trans}
 use Rattle.presolve.proofs.flags.by_rising_bid.Goals as goal

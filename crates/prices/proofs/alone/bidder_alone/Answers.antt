@@ -1,6 +1,6 @@
 use Rattle.std.proofs.Common.{◌∙◌, ap, sym, Ok, Option}
 use Rattle.std.specs.Option.{option_map_or}
-use Rattle.auction_terms.specs.declared.choices.Choice.{Choice}
+use Rattle.auction_terms.specs.declared.bids.Choice.{Choice}
 use Rattle.auction_terms.specs.Terms.{lots_in}
 use Rattle.bid_desk.specs.Closing.{book_of}
 use Rattle.prices.specs.Alone.{winner_alone}

@@ -1,6 +1,6 @@
 use Rattle.std.proofs.Common.{◌<◌, ◌+◌, ◌-◌, ◌∙◌, Option, List, Ok, ap, arith, length, slice_index_or, sym}
 use Rattle.std.specs.Option.{ok_or, option_map}
-use Rattle.auction_terms.specs.declared.choices.Choice.{Choice}
+use Rattle.auction_terms.specs.declared.bids.Choice.{Choice}
 use Rattle.auction_terms.specs.Terms.{lots_in}
 use Rattle.bid_desk.specs.Closing.{book_of}
 use Rattle.prices.specs.declared.alone.AloneFault.TheVariants.{NotListed}

@@ -1,5 +1,5 @@
 use Rattle.std.proofs.Common.{List, inr, refl, subst}
-use Rattle.auction_terms.specs.declared.choices.Choice.{Choice}
+use Rattle.auction_terms.specs.declared.bids.Choice.{Choice}
 use Rattle.byte_sinks.specs.Sinks.{GoesInPart, GoesWhole, written_of}
 use Rattle.outcome.specs.Report.{report_text}
 use Rattle.bid_desk.specs.Sale.{sale_of}

@@ -1,5 +1,5 @@
 use Rattle.std.proofs.Common.{◌++◌, ◌∙◌, [], List, Ok, ap, inl, inr, refl, slice_index_or, sym}
-use Rattle.auction_terms.specs.declared.choices.Choice.{Choice}
+use Rattle.auction_terms.specs.declared.bids.Choice.{Choice}
 use Rattle.outcome.specs.Pricing.{pricing_text}
 use Rattle.outcome.specs.Report.{report_text}
 use Rattle.bid_desk.specs.Sale.{sale_of}

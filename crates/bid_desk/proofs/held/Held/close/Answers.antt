@@ -2,10 +2,10 @@ use Rattle.std.proofs.Common.{◌≡◌, ◌≢◌, [], ◌∷◌, ◌++◌, ap,
 use Rattle.std.proofs.lemmas.Bool.{both_ways}
 use Rattle.std.proofs.lemmas.List.Elements.{All-push}
 use Rattle.bid_forms.specs.Offers.{Offers}
-use Rattle.bid_book.specs.declared.caller.Caller.TheVariants.{Chair}
+use Rattle.bid_book.specs.declared.call.Caller.TheVariants.{Chair}
 use Rattle.bid_book.specs.declared.call.Call.TheVariants.{Close}
 use Rattle.bid_book.specs.declared.reply.Reply.TheVariants.{CallLimit}
-use Rattle.bid_book.specs.declared.entry.Entry.{Entry}
+use Rattle.bid_book.specs.declared.records.Entry.{Entry}
 use Rattle.bid_book.specs.declared.reply.Reply.{Reply}
 use Rattle.bid_book.specs.History.{reply_value}
 use Rattle.bid_book.proofs.HistoryFacts.{answer-close_not_shown}

@@ -1,11 +1,11 @@
 use Rattle.std.proofs.Common.{◌≡◌, ◌≢◌, [], ◌∷◌, ◌++◌, ap, ap₂, sym, subst, ◌∙◌, arith, length, length-append, map}
 use Rattle.std.proofs.lemmas.Bool.{both_ways}
 use Rattle.std.proofs.lemmas.List.Elements.{All-push}
-use Rattle.bid_book.specs.declared.caller.Caller.TheVariants.{Session}
+use Rattle.bid_book.specs.declared.call.Caller.TheVariants.{Session}
 use Rattle.bid_book.specs.declared.reply.Reply.TheVariants.{CallLimit}
 use Rattle.bid_forms.specs.Offers.{Offers}
 use Rattle.bid_book.specs.declared.call.Call.{Call}
-use Rattle.bid_book.specs.declared.entry.Entry.{Entry}
+use Rattle.bid_book.specs.declared.records.Entry.{Entry}
 use Rattle.bid_book.specs.declared.reply.Reply.{Reply}
 use Rattle.bid_book.specs.History.{call_value, reply_due, reply_value}
 use Rattle.bid_book.proofs.HistoryFacts.{answer-shown}

@@ -6,7 +6,7 @@ use Rattle.auction_terms.specs.Keeping.{Offer, kept_of}
 use Rattle.auction_terms.specs.Offers.{offers}
 use Rattle.auction_terms.specs.Terms.{lots_in}
 use Rattle.auction_terms.specs.declared.bids.KeptBid.{KeptBid}
-use Rattle.auction_terms.specs.declared.choices.Choice.{Choice}
+use Rattle.auction_terms.specs.declared.bids.Choice.{Choice}
 use Rattle.auction_terms.proofs.LimitFacts.{kept_are_offers, offers_left}
 use Rattle.bid_desk.specs.Closing.{book_of}
 use Rattle.presolve.specs.Flags.{has_choice}

@@ -2,7 +2,7 @@ use Rattle.std.proofs.Common.{take, drop, rules, arith, sym, ◌∙◌}
 use Rattle.std.proofs.lemmas.List.{length-drop, take-append-drop}
 use Rattle.byte_sinks.proofs.KnownByteFacts.{Appends-nothing, Appends-then, Appends-keeps, IsFront-from, OnErr-any, piece-step, piece-within}
 use Rattle.byte_sinks.specs.declared.writer.TheConstants.{PIECE_LEN}
-use Rattle.byte_sinks.proofs.sending.put_all.Goals as goal
+use Rattle.byte_sinks.proofs.writer.put_all.Goals as goal
 
 pub loop-from-init : goal.loop-from-init
 loop-from-init g c = record { within = omega arith; gone = Appends-nothing _; count = omega arith; failures = search rules; place = search rules }

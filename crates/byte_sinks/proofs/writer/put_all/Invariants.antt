@@ -1,7 +1,7 @@
 use Rattle.std.proofs.Common.{◌≡◌, ◌+◌, ◌-◌, ◌≤◌, take, length}
 use Rattle.std.specs.Io.KnownBytes.{Appends}
 use Rattle.std.specs.Prelude.{min, ◌^◌}
-use Rattle.byte_sinks.proofs.sending.put_all.Given as goal
+use Rattle.byte_sinks.proofs.writer.put_all.Given as goal
 
 -- a front of the bytes has gone out
 abbrev pub invariant-loop-from : goal.invariant-loop-from
