@@ -19,7 +19,7 @@ use Rattle.auction_terms.specs.LineFields.{LineFields}
 use Rattle.program_rows.specs.MpsProgram.{columns_named, column_pairs, number_beside}
 use Rattle.mps_reader.specs.inside.Columns.{same_place, ColumnsFit, AddsColumn, entries_at}
 use Rattle.mps_reader.specs.inside.Rows.{names_of}
-use Rattle.mps_reader.specs.inside.Tracking.{number_at_place, OpenTells, ColumnsTell, ColumnAdded, gathered_column, parsed_values, state_values}
+use Rattle.mps_reader.specs.inside.Tracking.{number_at_place, HoldsNumbers, ColumnsTell, ColumnAdded, gathered_column, parsed_values, state_values}
 use Rattle.mps_reader.specs.declared.tables.ColumnTable.{ColumnTable}
 use Rattle.mps_reader.proofs.NameFacts.{all-push}
 use Rattle.mps_reader.proofs.EntryFacts.{sorted-entries}
@@ -152,15 +152,15 @@ closed-tells o rows lines bounds old new sorted name cost fit current spent move
   states = ap (λ s. map state_values s.items) states ∙ h.states;
   done = subst (λ ks. AllByRecursion (λ (k : TableColumn). k ≡ gathered_column o rows lines k.name) ks) (sym done)
       (all-push (λ (k : TableColumn). k ≡ gathered_column o rows lines k.name) old.done last h.done parsed);
-  opened = subst (λ c. IfSome c (λ n. OpenTells o rows (number_beside (column_pairs lines n.now)) new.current_column)) (sym none) tt;
+  opened = subst (λ c. IfSome c (λ n. HoldsNumbers o rows (number_beside (column_pairs lines n.now)) new.current_column)) (sym none) tt;
   closed = λ e. nothing;
 }
   where
     last : TableColumn
     last = record { name = name.now; bounds = ZeroOrOne; cost = cost; entries = sorted }
 
-    current-tells : OpenTells o rows (number_beside (column_pairs lines name.now)) old.current_column
-    current-tells = subst (λ c. IfSome c (λ n. OpenTells o rows (number_beside (column_pairs lines n.now)) old.current_column)) current h.opened
+    current-tells : HoldsNumbers o rows (number_beside (column_pairs lines name.now)) old.current_column
+    current-tells = subst (λ c. IfSome c (λ n. HoldsNumbers o rows (number_beside (column_pairs lines n.now)) old.current_column)) current h.opened
 
     legal : AreEntries (length rows) sorted
     legal = sorted-entries (length rows) old.current_column.entries.items sorted moved up fit.opened

@@ -21,7 +21,7 @@ use Rattle.program_rows.specs.declared.mps_fault_kind.MpsFaultKind.{MpsFaultKind
 use Rattle.program_rows.specs.declared.mps_fault_kind.MpsFaultKind.TheVariants.{ColumnSplit}
 use Rattle.mps_reader.specs.inside.Columns.{ColumnsFit, entries_at, nearest_column}
 use Rattle.mps_reader.specs.inside.Rows.{names_of, option_now, declared_row_names, StampsAre, RowsFit}
-use Rattle.mps_reader.specs.inside.Tracking.{number_at_place, OpenTells, ColumnsTell, ColumnAdded, InColumns, AreStampsUpTo}
+use Rattle.mps_reader.specs.inside.Tracking.{number_at_place, HoldsNumbers, ColumnsTell, ColumnAdded, InColumns, AreStampsUpTo}
 use Rattle.mps_reader.specs.inside.Tracking.{gathered_column, parsed_values, state_values, is_current}
 use Rattle.mps_reader.specs.declared.tables.ColumnTable.{ColumnTable}
 use Rattle.mps_reader.specs.declared.tables.OpenColumn.{OpenColumn}
@@ -167,7 +167,7 @@ marker-tells f o rows lines old new m names_both states done none nothing begun 
 
 -- its column is the current one, and what the lines before say of it
 pub record IsReady (f : LineFields) (o : Option (List ℕ)) (rows : List (List ℕ)) (lines : List LineFields) (r : Rows) (c : ColumnTable) : Type 0 where
-  pub tells : OpenTells o rows (number_beside (column_pairs lines (field 0 f))) c.current_column
+  pub tells : HoldsNumbers o rows (number_beside (column_pairs lines (field 0 f))) c.current_column
   pub stamps : StampsAre r.stamps.items (length (names_of c.names)) (names_of r.names)
       (λ row. list_any (λ other. bytes_eq row other.0) (column_pairs lines (field 0 f)))
   pub low : AreStampsUpTo (length (names_of c.names)) r
@@ -197,7 +197,7 @@ ready-same f o rows lines r c m current fit h at =
     ∙ any-last (field 0 f) (map (λ (k : TableColumn). k.name) c.done) in
     let same = names-known f lines m own in
     record {
-      tells = now-is c.current (field 0 f) (λ n. OpenTells o rows (number_beside (column_pairs lines n)) c.current_column) current h.opened;
+      tells = now-is c.current (field 0 f) (λ n. HoldsNumbers o rows (number_beside (column_pairs lines n)) c.current_column) current h.opened;
       stamps = now-is c.current (field 0 f) (λ n. StampsAre r.stamps.items (length (names_of c.names)) (names_of r.names)
           (λ row. list_any (λ other. bytes_eq row other.0) (column_pairs lines n))) current at.stamps;
       low = at.low;
@@ -287,7 +287,7 @@ done-more f o rows lines (k ∷ ks) m d h =
 
 pub line-tells : (f : LineFields) (o : Option (List ℕ)) (rows : List (List ℕ)) (lines : List LineFields) (r : Rows) (c : ColumnTable) (column : OpenColumn)
     → is_marker f ≡ false → ColumnsFit (length rows) c → option_now c.current ≡ Some (field 0 f) → IsReady f o rows lines r c
-    → OpenTells o rows (number_beside (pairs (drop 1 f) ++ column_pairs lines (field 0 f))) column
+    → HoldsNumbers o rows (number_beside (pairs (drop 1 f) ++ column_pairs lines (field 0 f))) column
     → ColumnsTell o rows (f ∷ lines) [] (record c { current_column = column })
 line-tells f o rows lines r c column m fit current h tells =
     let split : names_of c.names ≡ map (λ (k : TableColumn). k.name) c.done ++ field 0 f ∷ [] =
@@ -297,8 +297,8 @@ line-tells f o rows lines r c column m fit current h tells =
       begun = h.begun ∙ rw m refl;
       states = h.states;
       done = done-more f o rows lines c.done m (all-last c.done (field 0 f) (subst (λ ns. IsDistinct bytes_eq ns) split fit.distinct)) h.done;
-      opened = now-from (λ n. OpenTells o rows (number_beside (column_pairs (f ∷ lines) n)) column) c.current (Some (field 0 f)) current
-          (subst (λ ps. OpenTells o rows (number_beside ps) column) (sym (pairs-own f lines m)) tells);
+      opened = now-from (λ n. HoldsNumbers o rows (number_beside (column_pairs (f ∷ lines) n)) column) c.current (Some (field 0 f)) current
+          (subst (λ ps. HoldsNumbers o rows (number_beside ps) column) (sym (pairs-own f lines m)) tells);
       closed = λ e. absurd (both_ways (is_some c.current) e (some-current c.current (field 0 f) current));
     }
 

@@ -8,7 +8,7 @@ use denote.Ref.{Bor}
 use Rattle.auction_terms.specs.Lines.{bytes_of}
 use Rattle.program_rows.specs.MpsProgram.{pairs, value, number_beside}
 use Rattle.mps_reader.specs.inside.Rows.{StampsAre}
-use Rattle.mps_reader.specs.inside.Tracking.{OpenTells}
+use Rattle.mps_reader.specs.inside.Tracking.{HoldsNumbers}
 use Rattle.mps_reader.specs.declared.tables.OpenColumn.{OpenColumn}
 use Rattle.mps_reader.proofs.NameFacts.{same_name}
 use Rattle.mps_reader.proofs.RowStepFacts.{no_name}
@@ -69,7 +69,7 @@ stamps-same stamps stamp ns has other e h = h ∙ go ns
     go (n ∷ ns) = rw (e n) (ap (λ bs. other n ∷ bs) (go ns))
 
 pub open-same : (o : Option (List ℕ)) (rows : List (List ℕ)) (number other : List ℕ → ℤ) (column : OpenColumn)
-    → ((n : List ℕ) → number n ≡ other n) → OpenTells o rows number column → OpenTells o rows other column
+    → ((n : List ℕ) → number n ≡ other n) → HoldsNumbers o rows number column → HoldsNumbers o rows other column
 open-same o rows number other column e h = record { cost = h.cost ∙ e _; entries = λ p n at. h.entries p n at ∙ e n }
 
 number-one : (row number : List ℕ) (earlier : List (List ℕ × List ℕ)) (n : List ℕ)

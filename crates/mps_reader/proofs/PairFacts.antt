@@ -13,7 +13,7 @@ use denote.Ref.{Bor}
 use Rattle.program_rows.specs.Parts.{IsName}
 use Rattle.mps_reader.specs.inside.Rows.{AreAt, StampsAre, IsObjective, option_now}
 use Rattle.mps_reader.specs.inside.Columns.{put_entries}
-use Rattle.mps_reader.specs.inside.Tracking.{number_at_place, OpenTells}
+use Rattle.mps_reader.specs.inside.Tracking.{number_at_place, HoldsNumbers}
 use Rattle.mps_reader.specs.declared.tables.OpenColumn.{OpenColumn}
 use Rattle.mps_reader.proofs.NameFacts.{same_name, own_name, all-rows, distinct-rows, placed}
 
@@ -117,7 +117,8 @@ pub open-put : (objective : Option (Bor (List ℕ))) (ns : List (List ℕ)) (ps 
     → ((p : ℕ) → place ≡ Some p → AllByRecursion (λ e. (e.0 == p) ≡ false) column.entries.items)
     → cost ≡ option_map_or (λ name. bytes_eq row name.now) objective false
     → after.cost ≡ (if cost then v else column.cost) → after.entries.items ≡ put_entries cost place v column.entries.items
-    → OpenTells (option_now objective) rows number column → OpenTells (option_now objective) rows (λ name. if bytes_eq name row then v else number name) after
+    → HoldsNumbers (option_now objective) rows number column
+    → HoldsNumbers (option_now objective) rows (λ name. if bytes_eq name row then v else number name) after
 open-put objective ns ps rows number column after i row cost place v distinct named at apart here there fresh is_cost spent entries h = record {
   cost = spent ∙ cost-case objective apart is_cost h.cost;
   entries = λ p n e. ap (number_at_place p) entries ∙ at-place p n e cost place is_cost there fresh;

@@ -13,7 +13,7 @@ ghost use Rattle.program_rows.specs.Parts.{IsName};
 ghost use Rattle.auction_terms.specs.Lines.{bytes_of};
 ghost use Rattle.mps_reader.specs.inside.Reading.{AnswersFault};
 ghost use Rattle.mps_reader.specs.inside.Rows.{RowsFit, StampsAre, names_of, declared_row_names, option_now};
-ghost use Rattle.mps_reader.specs.inside.Tracking.{AreStampsUpTo, OpenTells, ColumnsTell, InColumns};
+ghost use Rattle.mps_reader.specs.inside.Tracking.{AreStampsUpTo, HoldsNumbers, ColumnsTell, InColumns};
 ghost use Rattle.mps_reader.specs.declared.tables.Rows as row_table;
 ghost use Rattle.mps_reader.specs.inside.Columns.{ColumnsFit, put_entries, PairsFit, BothFit};
 ghost use Rattle.auction_terms.specs.Decimals.{number};
@@ -85,8 +85,8 @@ fn take_entry<'t>(
         (λ name. bytes_eq name row.now || has name)) }
     ensures low { OnOk result (AreStampsUpTo stamp rows.old → AreStampsUpTo stamp rows.new) }
     ensures tells { OnOk result (PairsFit stamp rows.old column.old → (number : List ℕ → ℤ)
-        → OpenTells (option_now rows.old.objective) (declared_row_names rows.old.rows.items) number
-        column.old → OpenTells (option_now rows.old.objective)
+        → HoldsNumbers (option_now rows.old.objective) (declared_row_names rows.old.rows.items)
+        number column.old → HoldsNumbers (option_now rows.old.objective)
         (declared_row_names rows.old.rows.items)
         (λ name. if bytes_eq name row.now then value token.now else number name) column.new) }
 {
@@ -153,9 +153,9 @@ fn take_entries<'t>(
         → (earlier : List (List ℕ × List ℕ))
         → StampsAre rows.old.stamps.items stamp (names_of rows.old.names)
         (λ row. list_any (λ other. bytes_eq row other.0) earlier)
-        → OpenTells (option_now rows.old.objective) (declared_row_names rows.old.rows.items)
+        → HoldsNumbers (option_now rows.old.objective) (declared_row_names rows.old.rows.items)
         (number_beside earlier) column.old
-        → OpenTells (option_now rows.old.objective) (declared_row_names rows.old.rows.items)
+        → HoldsNumbers (option_now rows.old.objective) (declared_row_names rows.old.rows.items)
         (number_beside (pairs (drop 1 (bytes_of fields.now)) ++ earlier)) column.new) }
 {
     take_entry(rows, column, stamp, fields[1], fields[2])?;

@@ -39,8 +39,8 @@ abbrev pub number_at_place : ℕ → List (ℕ × ℤ) → ℤ
 number_at_place place [] = pos 0
 number_at_place place (e ∷ entries) = if e.0 == place then e.1 else number_at_place place entries
 
--- the current column holds these numbers of the rows
-pub record OpenTells (objective : Option (List ℕ)) (rows : List (List ℕ)) (number : List ℕ → ℤ) (column : OpenColumn) : Type 0 where
+-- the open column's cost and entries are these numbers of the rows
+pub record HoldsNumbers (objective : Option (List ℕ)) (rows : List (List ℕ)) (number : List ℕ → ℤ) (column : OpenColumn) : Type 0 where
   pub cost : column.cost ≡ number (unwrap_or objective [])
   pub entries : (place : ℕ) (row : List ℕ) → slice_get rows place ≡ Some row → number_at_place place column.entries.items ≡ number row
 
@@ -82,7 +82,7 @@ pub record ColumnsTell (objective : Option (List ℕ)) (rows : List (List ℕ)) 
   pub begun : c.is_begun ≡ is_integer_open lines
   pub states : map state_values c.states.items ≡ map (parsed_values lines bounds) (columns_named lines)
   pub done : AllByRecursion (λ k. k ≡ gathered_column objective rows lines k.name) c.done
-  pub opened : IfSome c.current (λ name. OpenTells objective rows (number_beside (column_pairs lines name.now)) c.current_column)
+  pub opened : IfSome c.current (λ name. HoldsNumbers objective rows (number_beside (column_pairs lines name.now)) c.current_column)
   pub closed : is_some c.current ≡ false → c.current_column.cost ≡ pos 0
 
 -- whether the name is that of the current column

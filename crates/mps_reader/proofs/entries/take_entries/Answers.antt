@@ -3,7 +3,7 @@ use Rattle.std.specs.Prelude.{bytes_eq, if◌then◌else◌}
 use Rattle.std.specs.List.{list_any}
 use Rattle.program_rows.specs.MpsProgram.{value, number_beside}
 use Rattle.mps_reader.specs.inside.Rows.{names_of, option_now, declared_row_names}
-use Rattle.mps_reader.specs.inside.Tracking.{OpenTells}
+use Rattle.mps_reader.specs.inside.Tracking.{HoldsNumbers}
 use Rattle.mps_reader.specs.declared.tables.Rows.{Rows}
 use Rattle.mps_reader.proofs.NameFacts.{or-false}
 use Rattle.mps_reader.proofs.AnswerFacts.{handed-on}
@@ -63,9 +63,9 @@ returns-then-fields-eq5-clause-tells c = λ fits earlier s h.
     let first : List ℕ → ℤ = λ n. if bytes_eq n (at c.args.fields.now 1) then value (at c.args.fields.now 2) else number_beside earlier n in
     open-same _ _ _ _ c.take_entry-then-fields-eq5.new.column (two-numbers _ _ _ _ _ earlier (two-after c.args.fields.now c.if-fields-eq5.true)
     (or-false _ _ (not-repeated _ _ _ none)).0)
-    (subst (λ (q : Rows). OpenTells (option_now q.objective) (declared_row_names q.rows.items)
+    (subst (λ (q : Rows). HoldsNumbers (option_now q.objective) (declared_row_names q.rows.items)
     (λ n. if bytes_eq n (at c.args.fields.now 3) then value (at c.args.fields.now 4) else first n) c.take_entry-then-fields-eq5.new.column)
     c.in_ok-take_entry.ensures.frame
     (c.in_ok-take_entry-2.ensures.tells (c.in_ok-take_entry.ensures.entries fits) first
-    (subst (λ (q : Rows). OpenTells (option_now q.objective) (declared_row_names q.rows.items) first c.take_entry.new.column)
+    (subst (λ (q : Rows). HoldsNumbers (option_now q.objective) (declared_row_names q.rows.items) first c.take_entry.new.column)
     (sym c.in_ok-take_entry.ensures.frame) (c.in_ok-take_entry.ensures.tells fits (number_beside earlier) h))))

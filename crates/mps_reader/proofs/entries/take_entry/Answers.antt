@@ -8,7 +8,7 @@ use Rattle.program_rows.specs.Parts.{IsName}
 use Rattle.std.proofs.lemmas.Int.{to_z-of_z}
 use mir.Val.{SFits, to_z, of_z}
 use Rattle.mps_reader.specs.inside.Columns.{put_entries}
-use Rattle.mps_reader.specs.inside.Tracking.{OpenTells}
+use Rattle.mps_reader.specs.inside.Tracking.{HoldsNumbers}
 use Rattle.mps_reader.proofs.PairFacts.{stamped-are, open-put, all-at}
 use Rattle.mps_reader.proofs.entries.take_entry.Goals as goal
 
@@ -37,7 +37,7 @@ returns-clause-tells c = λ fits number h.
     let same : to_z w64 (of_z w64 c.in_ok-value.value) ≡ c.in_ok-value.value = to_z-of_z w64 c.in_ok-value.value fits_number in
     let stamped = slice_get-get_or c.args.rows.now.stamps.items c.in_ok-index.index 0
     (stamp-within c.args.rows.now _ c.args.row.now c.requires.fit c.in_ok-index.ensures.index) in
-    subst (λ v. OpenTells (option_now c.args.rows.now.objective) (declared_row_names c.args.rows.now.rows.items)
+    subst (λ v. HoldsNumbers (option_now c.args.rows.now.objective) (declared_row_names c.args.rows.now.rows.items)
     (λ name. if bytes_eq name c.args.row.now then v else number name) c.put.new.column) (sym c.in_ok-value.ensures.value)
     (open-put c.args.rows.now.objective (names_of c.args.rows.now.names) c.args.rows.now.places.items (declared_row_names c.args.rows.now.rows.items)
     number c.args.column.now c.put.new.column c.in_ok-index.index c.args.row.now c.is_cost.result c.index-place.result.now c.in_ok-value.value
