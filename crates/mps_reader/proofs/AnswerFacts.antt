@@ -6,7 +6,7 @@ use Rattle.mps_reader.specs.inside.Reading.{AnswersFault, AnswersUpTo}
 use Rattle.mps_reader.specs.declared.refusal.Refusal.{Refusal}
 use Rattle.mps_reader.specs.declared.refusal.Refusal.TheVariants.{Memory, Fault}
 
--- the same refusal answers a list of checks that begins with those that refused
+-- a refusal of the callee answers the checks of the caller, if what the callee finds is what the caller's checks find
 pub handed-on : (X : Type 0) {Y : Type 0} (to : Result Y Refusal) (e : Refusal) (f g : Option MpsFaultKind) → to ≡ Err e
     → ((kind : MpsFaultKind) → f ≡ Some kind → g ≡ Some kind) → AnswersFault {X = X} (Err e) f → AnswersFault to g
 handed-on X {Y} to e f g b step h = subst (λ t. AnswersFault t g) (sym b) (by e h)
@@ -19,7 +19,7 @@ handed-on X {Y} to e f g b step h = subst (λ t. AnswersFault t g) (sym b) (by e
 pub taken : {X : Type 0} (r : Result X Refusal) (x : X) (f : Option MpsFaultKind) → r ≡ Ok x → AnswersFault r f → f ≡ None
 taken r x f e h = subst (λ t. AnswersFault t f) e h
 
--- the same if the checks of the callee are those up to the last
+-- a refusal of a callee that makes all checks but the last answers all of them
 pub handed-up : (X : Type 0) {Y : Type 0} (to : Result Y Refusal) (e : Refusal) (f last g : Option MpsFaultKind) → to ≡ Err e
     → ((kind : MpsFaultKind) → f ≡ Some kind → g ≡ Some kind) → AnswersUpTo {X = X} (Err e) f last → AnswersFault to g
 handed-up X {Y} to e f last g b step h = subst (λ t. AnswersFault t g) (sym b) (by e h)

@@ -58,7 +58,7 @@ the-other a b n h ne = by (n == a) refl
     by true e = eqb-true _ _ e
     by false e = absurd (ne (eqb-true _ _ (ap (λ t. t || (n == b)) (sym e) ∙ h)))
 
--- ---- the same tests, and the same numbers
+-- ---- other tests of rows, and other numbers, with equal values
 
 stamps-same : (stamps : List ℕ) (stamp : ℕ) (ns : List (List ℕ)) (has other : List ℕ → Bool) → ((n : List ℕ) → has n ≡ other n)
     → StampsAre stamps stamp ns has → StampsAre stamps stamp ns other
@@ -98,7 +98,7 @@ number-two row number row2 number2 earlier differ n = by (bytes_eq n row2) (byte
     by true true h k = absurd (both_ways _ differ (subst (λ x. bytes_eq x row ≡ true) (same_name n row2 h) k))
     by _ _ h k = refl
 
--- ---- those of a line and those before
+-- ---- the pairs of a line in front of earlier ones
 
 pub two-stamps : (ps : List (List ℕ × List ℕ)) (row number row2 number2 : List ℕ) (stamps : List ℕ) (stamp : ℕ) (ns : List (List ℕ))
     (earlier : List (List ℕ × List ℕ))

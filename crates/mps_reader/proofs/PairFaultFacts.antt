@@ -17,7 +17,7 @@ pub last-one : (o : Option MpsFaultKind) → earliest_fault (o ∷ []) ≡ o
 last-one None = refl
 last-one (Some kind) = refl
 
--- those of a pair, whose row is known or not, and repeated or not, and one more
+-- what the checks of a pair find, whose row is known or not and repeated or not, with one check more
 abbrev pub pair_checks : Bool → Bool → List ℕ → Option MpsFaultKind → Option MpsFaultKind
 pair_checks known repeated number own =
     earliest_fault (when (not known) UnknownRow ∷ when repeated EntryRepeated ∷ number_fault (token_number number) ∷ own ∷ [])
