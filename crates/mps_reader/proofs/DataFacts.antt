@@ -15,7 +15,8 @@ use Rattle.mps_reader.specs.inside.Rows.{names_of, option_now, declared_row_name
 use Rattle.mps_reader.specs.inside.Columns.{ColumnsFit}
 use Rattle.mps_reader.specs.inside.Agreeing.{ReadingFits, IsClosed}
 use Rattle.mps_reader.specs.inside.Sections.{word_of}
-use Rattle.mps_reader.specs.inside.Tracking.{SectionTells, InRows, InColumns, InRightSides, AreStampsUpTo, ReadingTells, RowsTell, ColumnsTell, gathered_column}
+use Rattle.mps_reader.specs.inside.Tracking.{data_lines, IsAt, InRows, InColumns, InRightSides, AreStampsUpTo, ReadingTells}
+use Rattle.mps_reader.specs.inside.Tracking.{RowsTell, ColumnsTell, gathered_column}
 use Rattle.mps_reader.specs.declared.sections.Section.TheVariants as sections
 use Rattle.mps_reader.specs.declared.tables.Rows.{Rows}
 use Rattle.mps_reader.specs.declared.tables.ColumnTable.{ColumnTable}
@@ -84,27 +85,25 @@ pub row-step : (before : Sections) (f : LineFields) (r : Reading) (new : Rows) �
     → ((most : ℕ) → AreStampsUpTo most r.rows → AreStampsUpTo most new) → ReadingTells before r
     → ReadingTells (with_line before (Data f)) (record r { rows = new })
 row-step before f r new is fit parsed low h =
-    let at : InRows before.columns before.right_sides before.bounds r.rows r.columns =
-    subst (λ s. SectionTells s before.rows before.columns before.right_sides before.bounds r.rows r.columns) is h.lines.of_section in
+    let at : InRows (data_lines before) r.rows r.columns = subst (λ s. IsAt s (data_lines before) r.rows r.columns) is h.lines.of_section in
     let closed : is_some r.columns.current ≡ false = subst (λ s. IsClosed s r.columns) is fit.closed in
     let rows = parsed before.rows (subst (λ hs. RowsTell before.rows hs r.rows) at.no_rights h.lines.of_rows) in
     tells-rows before f (record r { rows = new }) (h.section ∙ ap word_of is) h.section (record {
       of_rows = subst (λ hs. RowsTell (f ∷ before.rows) hs new) (sym at.no_rights) rows;
-      of_columns = columns-unnamed _ _ _ _ (length r.rows.rows.items) before.columns before.bounds r.columns at.no_lines fit.both.columns closed
+      of_columns = columns-unnamed _ _ _ _ (length r.rows.rows.items) before.columns before.bounds r.columns at.no_columns fit.both.columns closed
           h.lines.of_columns;
-      of_section = subst (λ s. SectionTells s (f ∷ before.rows) before.columns before.right_sides before.bounds new r.columns) (sym is)
-          (record { no_lines = at.no_lines; no_rights = at.no_rights; no_bounds = at.no_bounds; low = low (length (names_of r.columns.names)) at.low });
+      of_section = subst (λ s. IsAt s (record (data_lines before) { rows = f ∷ before.rows }) new r.columns) (sym is)
+          (record { no_columns = at.no_columns; no_rights = at.no_rights; no_bounds = at.no_bounds; low = low (length (names_of r.columns.names)) at.low });
     })
 
 -- ---- a line of COLUMNS
 
 pub at-columns : (before : Sections) (r : Reading) → r.section ≡ sections.Columns → ReadingTells before r
-    → InColumns before.columns [] [] r.rows r.columns × ColumnsTell (option_now r.rows.objective) (declared_row_names r.rows.rows.items)
+    → InColumns (data_lines before) r.rows r.columns × ColumnsTell (option_now r.rows.objective) (declared_row_names r.rows.rows.items)
     before.columns [] r.columns
 at-columns before r is h =
-    let at : InColumns before.columns before.right_sides before.bounds r.rows r.columns =
-    subst (λ s. SectionTells s before.rows before.columns before.right_sides before.bounds r.rows r.columns) is h.lines.of_section in (
-      record { no_rights = refl; no_bounds = refl; low = at.low; current = at.current; stamps = at.stamps },
+    let at : InColumns (data_lines before) r.rows r.columns = subst (λ s. IsAt s (data_lines before) r.rows r.columns) is h.lines.of_section in (
+      at,
       subst (λ bs. ColumnsTell (option_now r.rows.objective) (declared_row_names r.rows.rows.items) before.columns bs r.columns) at.no_bounds
           h.lines.of_columns,
     )
@@ -112,8 +111,8 @@ at-columns before r is h =
 -- ---- a line of RHS
 
 pub at-right-sides : (before : Sections) (r : Reading) → r.section ≡ sections.RightSides → ReadingTells before r
-    → InRightSides before.right_sides before.bounds r.rows r.columns
-at-right-sides before r is h = subst (λ s. SectionTells s before.rows before.columns before.right_sides before.bounds r.rows r.columns) is h.lines.of_section
+    → InRightSides (data_lines before) r.rows r.columns
+at-right-sides before r is h = subst (λ s. IsAt s (data_lines before) r.rows r.columns) is h.lines.of_section
 
 pub right-step : (before : Sections) (f : LineFields) (r : Reading) (new : Rows) → r.section ≡ sections.RightSides
     → new.names ≡ r.rows.names → new.objective ≡ r.rows.objective → RowsTell before.rows (f ∷ before.right_sides) new
@@ -129,7 +128,7 @@ right-step before f r new is names objective parsed stamps h =
       of_rows = parsed;
       of_columns = subst (λ o. ColumnsTell (option_now o) (declared_row_names new.rows.items) before.columns before.bounds r.columns) (sym objective)
           (subst (λ ns. ColumnsTell (option_now r.rows.objective) ns before.columns before.bounds r.columns) (sym same) h.lines.of_columns);
-      of_section = subst (λ s. SectionTells s before.rows before.columns (f ∷ before.right_sides) before.bounds new r.columns) (sym is)
+      of_section = subst (λ s. IsAt s (record (data_lines before) { right_sides = f ∷ before.right_sides }) new r.columns) (sym is)
           (record {
             no_bounds = at.no_bounds;
             stamps =
@@ -146,7 +145,7 @@ pub bound-step : (before : Sections) (f : LineFields) (r : Reading) (columns : C
 bound-step before f r columns is parsed h = tells-bounds before f (record r { columns = columns }) (h.section ∙ ap word_of is) h.section (record {
   of_rows = h.lines.of_rows;
   of_columns = parsed;
-  of_section = subst (λ s. SectionTells s before.rows before.columns before.right_sides (f ∷ before.bounds) r.rows columns) (sym is) tt;
+  of_section = subst (λ s. IsAt s (record (data_lines before) { bounds = f ∷ before.bounds }) r.rows columns) (sym is) tt;
 })
 
 -- ---- the fault of a data line, as the code looks for it

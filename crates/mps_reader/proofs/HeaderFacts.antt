@@ -21,7 +21,7 @@ use Rattle.mps_reader.specs.inside.Columns.{ColumnsFit}
 use Rattle.mps_reader.specs.inside.Agreeing.{ReadingFits}
 use Rattle.mps_reader.specs.inside.Sections.{word_of}
 use Rattle.mps_reader.specs.inside.States.{is_binary_state, below_or_equal}
-use Rattle.mps_reader.specs.inside.Tracking.{ReadingTells, ColumnsTell, state_values, parsed_values, bit}
+use Rattle.mps_reader.specs.inside.Tracking.{data_lines, ReadingTells, ColumnsTell, state_values, parsed_values, bit}
 use Rattle.mps_reader.specs.declared.tables.ColumnState.{ColumnState}
 use Rattle.mps_reader.specs.declared.sections.Section.{Section}
 use Rattle.mps_reader.specs.declared.tables.ColumnTable.{ColumnTable}
@@ -98,7 +98,7 @@ header-tells before word more r s columns up is names none closed fit h = record
     of_rows = h.lines.of_rows;
     of_columns = closed (option_now r.rows.objective) (declared_row_names r.rows.rows.items) before.columns before.bounds
         (subst (λ n. ColumnsFit n r.columns) (sym (length-names r.rows.rows.items)) fit.both.columns) h.lines.of_columns;
-    of_section = section-opens r.section s before.rows before.columns before.right_sides before.bounds r.rows r.columns columns up names none
+    of_section = section-opens r.section s (data_lines before) r.rows r.columns columns up names none
         (fit.rows.stamps ∙ sym (length-bytes r.rows.names.keys)) h.lines.of_section;
   };
 }

@@ -21,7 +21,7 @@ use Rattle.program_rows.specs.declared.mps_fault_kind.MpsFaultKind.{MpsFaultKind
 use Rattle.program_rows.specs.declared.mps_fault_kind.MpsFaultKind.TheVariants.{ColumnSplit}
 use Rattle.mps_reader.specs.inside.Columns.{ColumnsFit, entries_at, nearest_column}
 use Rattle.mps_reader.specs.inside.Rows.{names_of, option_now, declared_row_names, StampsAre, RowsFit}
-use Rattle.mps_reader.specs.inside.Tracking.{number_at_place, HoldsNumbers, ColumnsTell, ColumnAdded, InColumns, AreStampsUpTo}
+use Rattle.mps_reader.specs.inside.Tracking.{DataLines, number_at_place, HoldsNumbers, ColumnsTell, ColumnAdded, InColumns, AreStampsUpTo}
 use Rattle.mps_reader.specs.inside.Tracking.{gathered_column, parsed_values, state_values, is_current}
 use Rattle.mps_reader.specs.declared.tables.ColumnTable.{ColumnTable}
 use Rattle.mps_reader.specs.declared.tables.OpenColumn.{OpenColumn}
@@ -188,23 +188,23 @@ now-is : (o : Option (Bor (List ℕ))) (name : List ℕ) (P : List ℕ → Type 
 now-is None name P e h = absurd cc
 now-is (Some x) name P e h = let same : x.now ≡ name = cc in subst P same h
 
-pub ready-same : (f : LineFields) (o : Option (List ℕ)) (rows : List (List ℕ)) (lines : List LineFields) (r : Rows) (c : ColumnTable)
+pub ready-same : (f : LineFields) (o : Option (List ℕ)) (rows : List (List ℕ)) (lines : DataLines) (r : Rows) (c : ColumnTable)
     → is_marker f ≡ false → option_now c.current ≡ Some (field 0 f) → ColumnsFit (length rows) c
-    → ColumnsTell o rows lines [] c → InColumns lines [] [] r c → IsReady f o rows lines r c
+    → ColumnsTell o rows lines.columns [] c → InColumns lines r c → IsReady f o rows lines.columns r c
 ready-same f o rows lines r c m current fit h at =
-    let own : list_any (bytes_eq (field 0 f)) (columns_named lines) ≡ true =
+    let own : list_any (bytes_eq (field 0 f)) (columns_named lines.columns) ≡ true =
     ap (list_any (bytes_eq (field 0 f))) (sym h.names ∙ fit.done ∙ ap (λ n. map (λ (k : TableColumn). k.name) c.done ++ option_to_list n) current)
     ∙ any-last (field 0 f) (map (λ (k : TableColumn). k.name) c.done) in
-    let same = names-known f lines m own in
+    let same = names-known f lines.columns m own in
     record {
-      tells = now-is c.current (field 0 f) (λ n. HoldsNumbers o rows (number_beside (column_pairs lines n)) c.current_column) current h.opened;
+      tells = now-is c.current (field 0 f) (λ n. HoldsNumbers o rows (number_beside (column_pairs lines.columns n)) c.current_column) current h.opened;
       stamps = now-is c.current (field 0 f) (λ n. StampsAre r.stamps.items (length (names_of c.names)) (names_of r.names)
-          (λ row. list_any (λ other. bytes_eq row other.0) (column_pairs lines n))) current at.stamps;
+          (λ row. list_any (λ other. bytes_eq row other.0) (column_pairs lines.columns n))) current at.stamps;
       low = at.low;
       all = h.names ∙ sym same;
       begun = h.begun;
-      states = h.states ∙ sym (values-same f lines (columns_named lines) (λ n k. nearest-stands f lines n m (sym at.current ∙ current)))
-          ∙ ap (map (parsed_values (f ∷ lines) [])) (sym same);
+      states = h.states ∙ sym (values-same f lines.columns (columns_named lines.columns) (λ n k. nearest-stands f lines.columns n m (sym at.current ∙ current)))
+          ∙ ap (map (parsed_values (f ∷ lines.columns) [])) (sym same);
       done = h.done;
     }
 
@@ -302,24 +302,25 @@ line-tells f o rows lines r c column m fit current h tells =
       closed = λ e. absurd (both_ways (is_some c.current) e (some-current c.current (field 0 f) current));
     }
 
-pub line-stays : (f : LineFields) (lines : List LineFields) (r new : Rows) (c : ColumnTable) (column : OpenColumn) → is_marker f ≡ false
+pub line-stays : (f : LineFields) (lines : DataLines) (r new : Rows) (c : ColumnTable) (column : OpenColumn) → is_marker f ≡ false
+    → lines.right_sides ≡ [] → lines.bounds ≡ []
     → option_now c.current ≡ Some (field 0 f) → new.names ≡ r.names
     → AreStampsUpTo (length (names_of c.names)) new
     → StampsAre new.stamps.items (length (names_of c.names)) (names_of r.names) (λ row. list_any (λ other. bytes_eq row other.0)
-    (pairs (drop 1 f) ++ column_pairs lines (field 0 f)))
-    → InColumns (f ∷ lines) [] [] new (record c { current_column = column })
-line-stays f lines r new c column m current kept low stamps =
+    (pairs (drop 1 f) ++ column_pairs lines.columns (field 0 f)))
+    → InColumns (record lines { columns = f ∷ lines.columns }) new (record c { current_column = column })
+line-stays f lines r new c column m no_rights no_bounds current kept low stamps =
     record {
-      no_rights = refl;
-      no_bounds = refl;
+      no_rights = no_rights;
+      no_bounds = no_bounds;
       low = low;
       current = current ∙ rw m refl;
       stamps = now-from (λ n. StampsAre new.stamps.items (length (names_of c.names)) (names_of new.names)
-          (λ row. list_any (λ other. bytes_eq row other.0) (column_pairs (f ∷ lines) n))) c.current (Some (field 0 f)) current
+          (λ row. list_any (λ other. bytes_eq row other.0) (column_pairs (f ∷ lines.columns) n))) c.current (Some (field 0 f)) current
           (subst (λ ps. StampsAre new.stamps.items (length (names_of c.names)) (names_of new.names)
-          (λ row. list_any (λ other. bytes_eq row other.0) ps)) (sym (pairs-own f lines m))
+          (λ row. list_any (λ other. bytes_eq row other.0) ps)) (sym (pairs-own f lines.columns m))
           (subst (λ ns. StampsAre new.stamps.items (length (names_of c.names)) (names_of ns)
-          (λ row. list_any (λ other. bytes_eq row other.0) (pairs (drop 1 f) ++ column_pairs lines (field 0 f)))) (sym kept) stamps));
+          (λ row. list_any (λ other. bytes_eq row other.0) (pairs (drop 1 f) ++ column_pairs lines.columns (field 0 f)))) (sym kept) stamps));
     }
 
 -- ---- faults
@@ -363,23 +364,24 @@ split-fault before f count m split = rw (count, m, split) refl
 
 -- ---- the column of a line
 
-pub ready-of : (f : LineFields) (o : Option (List ℕ)) (lines : List LineFields) (r : Rows) (old mid : ColumnTable) (name : List ℕ)
+pub ready-of : (f : LineFields) (o : Option (List ℕ)) (lines : DataLines) (r : Rows) (old mid : ColumnTable) (name : List ℕ)
     → is_marker f ≡ false → field 0 f ≡ name → RowsFit r
     → (is_current old.current name ≡ true → mid ≡ old)
     → (is_current old.current name ≡ false → (o : Option (List ℕ)) (rows : List (List ℕ)) (lines : List LineFields) → ColumnsFit (length rows) old
     → ColumnsTell o rows lines [] old → ColumnAdded o rows lines name mid)
-    → ColumnsFit (length r.rows.items) old → ColumnsTell o (declared_row_names r.rows.items) lines [] old → InColumns lines [] [] r old
-    → IsReady f o (declared_row_names r.rows.items) lines r mid
+    → ColumnsFit (length r.rows.items) old → ColumnsTell o (declared_row_names r.rows.items) lines.columns [] old → InColumns lines r old
+    → IsReady f o (declared_row_names r.rows.items) lines.columns r mid
 ready-of f o lines r old mid name m named rows_fit same added fit h at = by (is_current old.current name) refl
   where
     fits : ColumnsFit (length (declared_row_names r.rows.items)) old
     fits = subst (λ n. ColumnsFit n old) (sym (length-names r.rows.items)) fit
 
-    by : (b : Bool) → is_current old.current name ≡ b → IsReady f o (declared_row_names r.rows.items) lines r mid
-    by true e = subst (λ c. IsReady f o (declared_row_names r.rows.items) lines r c) (sym (same e))
+    by : (b : Bool) → is_current old.current name ≡ b → IsReady f o (declared_row_names r.rows.items) lines.columns r mid
+    by true e = subst (λ c. IsReady f o (declared_row_names r.rows.items) lines.columns r c) (sym (same e))
         (ready-same f o (declared_row_names r.rows.items) lines r old m (current-is old.current name e ∙ ap (λ n. Some n) (sym named)) fits h at)
-    by false e = ready-added f o (declared_row_names r.rows.items) lines r old mid m (rows_fit.stamps ∙ sym (length-bytes r.names.keys)) h.names at.low
-        (subst (λ n. ColumnAdded o (declared_row_names r.rows.items) lines n mid) (sym named) (added e o (declared_row_names r.rows.items) lines fits h))
+    by false e = ready-added f o (declared_row_names r.rows.items) lines.columns r old mid m (rows_fit.stamps ∙ sym (length-bytes r.names.keys)) h.names at.low
+        (subst (λ n. ColumnAdded o (declared_row_names r.rows.items) lines.columns n mid) (sym named)
+        (added e o (declared_row_names r.rows.items) lines.columns fits h))
 
 pub split-refused : (before : Sections) (f : LineFields) (c : ColumnTable) (name : List ℕ) (kind : MpsFaultKind)
     → ((length f == 3) || (length f == 5)) ≡ true → is_marker f ≡ false → field 0 f ≡ name

@@ -16,7 +16,7 @@ use Rattle.program_rows.specs.declared.mps_fault_kind.MpsFaultKind.TheVariants a
 use Rattle.mps_reader.specs.inside.Reading.{AreFirst, bit_fault}
 use Rattle.mps_reader.specs.inside.Rows.{names_of, option_now}
 use Rattle.mps_reader.specs.inside.Sections.{word_of}
-use Rattle.mps_reader.specs.inside.Tracking.{SectionTells, BeforeRows, InRows, AreStampsUpTo, LinesTell, ReadingTells}
+use Rattle.mps_reader.specs.inside.Tracking.{DataLines, data_lines, IsAt, BeforeRows, InRows, AreStampsUpTo, LinesTell, ReadingTells}
 use Rattle.mps_reader.specs.declared.sections.Section.{Section}
 use Rattle.mps_reader.specs.declared.sections.Section.TheVariants as sections
 use Rattle.mps_reader.specs.declared.tables.Rows.{Rows}
@@ -28,64 +28,60 @@ use Rattle.mps_reader.proofs.ColumnStepFacts.{none-from, no-column}
 
 -- ---- sections open in order
 
-from-last : (new : Section) (rows lines rights bounds : List LineFields) (r : Rows) (c : ColumnTable) → 5 < place_of (word_of new)
-    → SectionTells new rows lines rights bounds r c
-from-last sections.Bounds rows lines rights bounds r c up = tt
-from-last sections.End rows lines rights bounds r c up = tt
-from-last _ rows lines rights bounds r c up = absurd (omega arith)
+from-last : (new : Section) (lines : DataLines) (r : Rows) (c : ColumnTable) → 5 < place_of (word_of new) → IsAt new lines r c
+from-last sections.Bounds lines r c up = tt
+from-last sections.End lines r c up = tt
+from-last _ lines r c up = absurd (omega arith)
 
-from-columns : (new : Section) (rows lines rights bounds : List LineFields) (r : Rows) (c : ColumnTable) → 4 < place_of (word_of new)
-    → length r.stamps.items ≡ length (names_of r.names) → rights ≡ [] → bounds ≡ [] → AreStampsUpTo (length (names_of c.names)) r
-    → SectionTells new rows lines rights bounds r c
-from-columns sections.RightSides rows lines rights bounds r c up size h b low = record {
+from-columns : (new : Section) (lines : DataLines) (r : Rows) (c : ColumnTable) → 4 < place_of (word_of new)
+    → length r.stamps.items ≡ length (names_of r.names) → lines.right_sides ≡ [] → lines.bounds ≡ [] → AreStampsUpTo (length (names_of c.names)) r
+    → IsAt new lines r c
+from-columns sections.RightSides lines r c up size h b low = record {
   no_bounds = b;
   stamps = rw h (none-stamped r.stamps.items (names_of r.names) (length (names_of c.names)) (λ n. false) size low (λ n. refl));
 }
-from-columns new rows lines rights bounds r c up size h b low = from-last new rows lines rights bounds r c (omega arith)
+from-columns new lines r c up size h b low = from-last new lines r c (omega arith)
 
-from-rows : (new : Section) (rows lines rights bounds : List LineFields) (r : Rows) (c : ColumnTable) → 3 < place_of (word_of new)
-    → is_some c.current ≡ false → length r.stamps.items ≡ length (names_of r.names) → InRows lines rights bounds r c
-    → SectionTells new rows lines rights bounds r c
-from-rows sections.Columns rows lines rights bounds r c up none size h = record {
+from-rows : (new : Section) (lines : DataLines) (r : Rows) (c : ColumnTable) → 3 < place_of (word_of new)
+    → is_some c.current ≡ false → length r.stamps.items ≡ length (names_of r.names) → InRows lines r c → IsAt new lines r c
+from-rows sections.Columns lines r c up none size h = record {
   no_rights = h.no_rights;
   no_bounds = h.no_bounds;
   low = h.low;
-  current = ap option_now (none-from c.current none) ∙ rw (h.no_lines) refl;
+  current = ap option_now (none-from c.current none) ∙ rw (h.no_columns) refl;
   stamps = no-column _ c.current none;
 }
-from-rows new rows lines rights bounds r c up none size h = from-columns new rows lines rights bounds r c (omega arith) size h.no_rights h.no_bounds h.low
+from-rows new lines r c up none size h = from-columns new lines r c (omega arith) size h.no_rights h.no_bounds h.low
 
-from-before : (new : Section) (rows lines rights bounds : List LineFields) (r : Rows) (c : ColumnTable) → 0 < place_of (word_of new)
-    → is_some c.current ≡ false → length r.stamps.items ≡ length (names_of r.names) → BeforeRows rows lines rights bounds r c
-    → SectionTells new rows lines rights bounds r c
-from-before sections.Name rows lines rights bounds r c up none size h = h
-from-before sections.Sense rows lines rights bounds r c up none size h = h
-from-before sections.Rows rows lines rights bounds r c up none size h = h.after
-from-before new rows lines rights bounds r c up none size h = from-rows new rows lines rights bounds r c (omega arith) none size h.after
+from-before : (new : Section) (lines : DataLines) (r : Rows) (c : ColumnTable) → 0 < place_of (word_of new)
+    → is_some c.current ≡ false → length r.stamps.items ≡ length (names_of r.names) → BeforeRows lines r c → IsAt new lines r c
+from-before sections.Name lines r c up none size h = h
+from-before sections.Sense lines r c up none size h = h
+from-before sections.Rows lines r c up none size h = h.after
+from-before new lines r c up none size h = from-rows new lines r c (omega arith) none size h.after
 
-pub section-opens : (old new : Section) (rows lines rights bounds : List LineFields) (r : Rows) (before c : ColumnTable)
+pub section-opens : (old new : Section) (lines : DataLines) (r : Rows) (before c : ColumnTable)
     → place_of (word_of old) < place_of (word_of new) → c.names ≡ before.names → is_some c.current ≡ false
-    → length r.stamps.items ≡ length (names_of r.names)
-    → SectionTells old rows lines rights bounds r before → SectionTells new rows lines rights bounds r c
-section-opens sections.Rows new rows lines rights bounds r b c up same none size h =
-    from-rows new rows lines rights bounds r c up none size (record {
-      no_lines = h.no_lines;
+    → length r.stamps.items ≡ length (names_of r.names) → IsAt old lines r before → IsAt new lines r c
+section-opens sections.Rows new lines r b c up same none size h =
+    from-rows new lines r c up none size (record {
+      no_columns = h.no_columns;
       no_rights = h.no_rights;
       no_bounds = h.no_bounds;
       low =
           subst (λ ns. AreStampsUpTo (length (names_of ns)) r) (sym same) h.low;
     })
-section-opens sections.Columns new rows lines rights bounds r b c up same none size h =
-    from-columns new rows lines rights bounds r c up size h.no_rights h.no_bounds (subst (λ ns. AreStampsUpTo (length (names_of ns)) r) (sym same) h.low)
-section-opens sections.RightSides new rows lines rights bounds r b c up same none size h = from-last new rows lines rights bounds r c up
-section-opens sections.Bounds new rows lines rights bounds r b c up same none size h = from-last new rows lines rights bounds r c (omega arith)
-section-opens sections.End new rows lines rights bounds r b c up same none size h = from-last new rows lines rights bounds r c (omega arith)
-section-opens _ new rows lines rights bounds r b c up same none size h =
-    from-before new rows lines rights bounds r c (omega arith) none size (record {
+section-opens sections.Columns new lines r b c up same none size h =
+    from-columns new lines r c up size h.no_rights h.no_bounds (subst (λ ns. AreStampsUpTo (length (names_of ns)) r) (sym same) h.low)
+section-opens sections.RightSides new lines r b c up same none size h = from-last new lines r c up
+section-opens sections.Bounds new lines r b c up same none size h = from-last new lines r c (omega arith)
+section-opens sections.End new lines r b c up same none size h = from-last new lines r c (omega arith)
+section-opens _ new lines r b c up same none size h =
+    from-before new lines r c (omega arith) none size (record {
       no_rows = h.no_rows;
       after =
           record {
-            no_lines = h.after.no_lines;
+            no_columns = h.after.no_columns;
             no_rights = h.after.no_rights;
             no_bounds = h.after.no_bounds;
             low =
@@ -242,14 +238,14 @@ data-whole before shown all a none = by (few-or-many (length all))
 -- ---- a data line of each section
 
 pub tells-rows : (before : Sections) (f : LineFields) (r : Reading) → before.section ≡ codes "ROWS" → before.section ≡ word_of r.section
-    → LinesTell (f ∷ before.rows) before.columns before.right_sides before.bounds r → ReadingTells (with_line before (Data f)) r
+    → LinesTell (record (data_lines before) { rows = f ∷ before.rows }) r → ReadingTells (with_line before (Data f)) r
 tells-rows before f r s w h = record { section = w; lines = rw s h }
 
 pub tells-right-sides : (before : Sections) (f : LineFields) (r : Reading) → before.section ≡ codes "RHS"
-    → before.section ≡ word_of r.section → LinesTell before.rows before.columns (f ∷ before.right_sides) before.bounds r
+    → before.section ≡ word_of r.section → LinesTell (record (data_lines before) { right_sides = f ∷ before.right_sides }) r
     → ReadingTells (with_line before (Data f)) r
 tells-right-sides before f r s w h = record { section = w; lines = rw s h }
 
 pub tells-bounds : (before : Sections) (f : LineFields) (r : Reading) → before.section ≡ codes "BOUNDS" → before.section ≡ word_of r.section
-    → LinesTell before.rows before.columns before.right_sides (f ∷ before.bounds) r → ReadingTells (with_line before (Data f)) r
+    → LinesTell (record (data_lines before) { bounds = f ∷ before.bounds }) r → ReadingTells (with_line before (Data f)) r
 tells-bounds before f r s w h = record { section = w; lines = rw s h }

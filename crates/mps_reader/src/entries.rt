@@ -13,7 +13,7 @@ ghost use Rattle.program_rows.specs.Parts.{IsName};
 ghost use Rattle.auction_terms.specs.Lines.{bytes_of};
 ghost use Rattle.mps_reader.specs.inside.Reading.{AnswersFault};
 ghost use Rattle.mps_reader.specs.inside.Rows.{RowsFit, StampsAre, names_of, declared_row_names, option_now};
-ghost use Rattle.mps_reader.specs.inside.Tracking.{AreStampsUpTo, HoldsNumbers, ColumnsTell, InColumns};
+ghost use Rattle.mps_reader.specs.inside.Tracking.{AreStampsUpTo, HoldsNumbers, ColumnsTell, DataLines, data_lines, InColumns};
 ghost use Rattle.mps_reader.specs.declared.tables.Rows as row_table;
 ghost use Rattle.mps_reader.specs.inside.Columns.{ColumnsFit, put_entries, PairsFit, BothFit};
 ghost use Rattle.auction_terms.specs.Decimals.{number};
@@ -181,14 +181,15 @@ pub fn take_column_line<'t>(
         → is_declared before.rows name ≡ list_any (bytes_eq name) (names_of rows.old.names))
         → BothFit rows.old columns.old
         → ColumnsTell (option_now rows.old.objective) (declared_row_names rows.old.rows.items)
-        before.columns [] columns.old → InColumns before.columns [] [] rows.old columns.old
+        before.columns [] columns.old → InColumns (data_lines before) rows.old columns.old
         → AnswersFault result (column_fault before (bytes_of fields.now)) }
-    ensures tells { OnOk result ((lines : List LineFields) → BothFit rows.old columns.old
-        → ColumnsTell (option_now rows.old.objective) (declared_row_names rows.old.rows.items) lines
-        [] columns.old → InColumns lines [] [] rows.old columns.old
+    ensures tells { OnOk result ((lines : DataLines) → BothFit rows.old columns.old
         → ColumnsTell (option_now rows.old.objective) (declared_row_names rows.old.rows.items)
-        (bytes_of fields.now ∷ lines) [] columns.new
-        × InColumns (bytes_of fields.now ∷ lines) [] [] rows.new columns.new) }
+        lines.columns [] columns.old → InColumns lines rows.old columns.old
+        → ColumnsTell (option_now rows.old.objective) (declared_row_names rows.old.rows.items)
+        (bytes_of fields.now ∷ lines.columns) [] columns.new
+        × InColumns (record lines { columns = bytes_of fields.now ∷ lines.columns }) rows.new
+        columns.new) }
 {
     refuse!(!is_three_or_five(fields.len()), Fields);
     if names_marker(fields) {

@@ -99,51 +99,63 @@ pub record ColumnAdded (objective : Option (List ℕ)) (rows : List (List ℕ)) 
   pub cost : c.current_column.cost ≡ pos 0
   pub entries : c.current_column.entries.items ≡ []
 
--- the stamps of a line of COLUMNS are those of the rows that the current column has named
-pub record InColumns (lines rights bounds : List LineFields) (r : Rows) (c : ColumnTable) : Type 0 where
-  pub no_rights : rights ≡ []
-  pub no_bounds : bounds ≡ []
-  pub low : AreStampsUpTo (length (names_of c.names)) r
-  pub current : option_now c.current ≡ nearest_column lines
-  pub stamps : IfSome c.current (λ name. StampsAre r.stamps.items (length (names_of c.names)) (names_of r.names)
-      (λ row. list_any (λ other. bytes_eq row other.0) (column_pairs lines name.now)))
+-- the data lines of each section, the last one first
+pub record DataLines : Type 0 where
+  pub rows : List LineFields
+  pub columns : List LineFields
+  pub right_sides : List LineFields
+  pub bounds : List LineFields
+
+-- the gathered data lines, without the section that is open
+abbrev pub data_lines : Sections → DataLines
+data_lines s = record { rows = s.rows; columns = s.columns; right_sides = s.right_sides; bounds = s.bounds }
 
 -- in ROWS: no line of a later section has been read, and no stamp is above the number of columns
-pub record InRows (lines rights bounds : List LineFields) (r : Rows) (c : ColumnTable) : Type 0 where
-  pub no_lines : lines ≡ []
-  pub no_rights : rights ≡ []
-  pub no_bounds : bounds ≡ []
+pub record InRows (lines : DataLines) (r : Rows) (c : ColumnTable) : Type 0 where
+  pub no_columns : lines.columns ≡ []
+  pub no_rights : lines.right_sides ≡ []
+  pub no_bounds : lines.bounds ≡ []
   pub low : AreStampsUpTo (length (names_of c.names)) r
 
 -- before ROWS: no line of that section or a later one has been read, and no stamp is above the number of columns
-pub record BeforeRows (rows lines rights bounds : List LineFields) (r : Rows) (c : ColumnTable) : Type 0 where
-  pub no_rows : rows ≡ []
-  pub after : InRows lines rights bounds r c
+pub record BeforeRows (lines : DataLines) (r : Rows) (c : ColumnTable) : Type 0 where
+  pub no_rows : lines.rows ≡ []
+  pub after : InRows lines r c
+
+-- in COLUMNS: no line of a later section has been read, no stamp is above the number of columns, and the current column is that of the line
+-- before; the rows that have its stamp are those that its lines have named
+pub record InColumns (lines : DataLines) (r : Rows) (c : ColumnTable) : Type 0 where
+  pub no_rights : lines.right_sides ≡ []
+  pub no_bounds : lines.bounds ≡ []
+  pub low : AreStampsUpTo (length (names_of c.names)) r
+  pub current : option_now c.current ≡ nearest_column lines.columns
+  pub stamps : IfSome c.current (λ name. StampsAre r.stamps.items (length (names_of c.names)) (names_of r.names)
+      (λ row. list_any (λ other. bytes_eq row other.0) (column_pairs lines.columns name.now)))
 
 -- in RHS: no line of BOUNDS has been read, and the rows that have its stamp are those that a right side has named
-pub record InRightSides (rights bounds : List LineFields) (r : Rows) (c : ColumnTable) : Type 0 where
-  pub no_bounds : bounds ≡ []
+pub record InRightSides (lines : DataLines) (r : Rows) (c : ColumnTable) : Type 0 where
+  pub no_bounds : lines.bounds ≡ []
   pub stamps : StampsAre r.stamps.items (length (names_of c.names) + 1) (names_of r.names)
-      (λ row. list_any (λ other. bytes_eq row other.0) (flat_map line_right_sides rights))
+      (λ row. list_any (λ other. bytes_eq row other.0) (flat_map line_right_sides lines.right_sides))
 
--- what holds of the lines of all sections and of the rows and columns that are held, by the section that is open
-abbrev pub SectionTells : Section → List LineFields → List LineFields → List LineFields → List LineFields → Rows → ColumnTable → Type 0
-SectionTells sections.Start rows lines rights bounds r c = BeforeRows rows lines rights bounds r c
-SectionTells sections.Name rows lines rights bounds r c = BeforeRows rows lines rights bounds r c
-SectionTells sections.Sense rows lines rights bounds r c = BeforeRows rows lines rights bounds r c
-SectionTells sections.Rows rows lines rights bounds r c = InRows lines rights bounds r c
-SectionTells sections.Columns rows lines rights bounds r c = InColumns lines rights bounds r c
-SectionTells sections.RightSides rows lines rights bounds r c = InRightSides rights bounds r c
-SectionTells sections.Bounds rows lines rights bounds r c = Unit {0}
-SectionTells sections.End rows lines rights bounds r c = Unit {0}
+-- while a section is open: what holds of the lines of all sections and of the rows and columns that are held
+abbrev pub IsAt : Section → DataLines → Rows → ColumnTable → Type 0
+IsAt sections.Start lines r c = BeforeRows lines r c
+IsAt sections.Name lines r c = BeforeRows lines r c
+IsAt sections.Sense lines r c = BeforeRows lines r c
+IsAt sections.Rows lines r c = InRows lines r c
+IsAt sections.Columns lines r c = InColumns lines r c
+IsAt sections.RightSides lines r c = InRightSides lines r c
+IsAt sections.Bounds lines r c = Unit {0}
+IsAt sections.End lines r c = Unit {0}
 
--- what the data lines of each section say
-pub record LinesTell (rows lines rights bounds : List LineFields) (r : Reading) : Type 0 where
-  pub of_rows : RowsTell rows rights r.rows
-  pub of_columns : ColumnsTell (option_now r.rows.objective) (declared_row_names r.rows.rows.items) lines bounds r.columns
-  pub of_section : SectionTells r.section rows lines rights bounds r.rows r.columns
+-- a reading holds what the data lines of each section say
+pub record LinesTell (lines : DataLines) (r : Reading) : Type 0 where
+  pub of_rows : RowsTell lines.rows lines.right_sides r.rows
+  pub of_columns : ColumnsTell (option_now r.rows.objective) (declared_row_names r.rows.rows.items) lines.columns lines.bounds r.columns
+  pub of_section : IsAt r.section lines r.rows r.columns
 
 -- a reading has open the section that the lines before have opened, and holds what their data lines say
 pub record ReadingTells (before : Sections) (r : Reading) : Type 0 where
   pub section : before.section ≡ word_of r.section
-  pub lines : LinesTell before.rows before.columns before.right_sides before.bounds r
+  pub lines : LinesTell (data_lines before) r

@@ -5,7 +5,7 @@ use Rattle.auction_terms.specs.LineFields.{field}
 use Rattle.program_rows.specs.MpsProgram.{is_marker, column_pairs, pairs}
 use Rattle.auction_terms.specs.Lines.{bytes_of}
 use Rattle.mps_reader.specs.inside.Rows.{names_of, option_now, declared_row_names, StampsAre}
-use Rattle.mps_reader.specs.inside.Tracking.{AreStampsUpTo}
+use Rattle.mps_reader.specs.inside.Tracking.{AreStampsUpTo, data_lines}
 use Rattle.mps_reader.specs.inside.Columns.{ColumnsFit, IsApart, PairsFit}
 use Rattle.mps_reader.proofs.RowStepFacts.{no_name, field-at}
 use Rattle.mps_reader.proofs.PairStepFacts.{length-names}
@@ -43,7 +43,7 @@ returns-in_err-take_entries-clause-fault c = λ before d both h at.
     ∙ sym c.is_three_or_five.ensures.value ∙ c.if-not-is_three_or_five.false in
     let marker : is_marker fields ≡ false = sym c.names_marker.ensures ∙ c.if-names_marker.false in
     let named = field-at c.args.fields.now 0 (omega (arith, c.is_three_or_five.ensures.some c.if-not-is_three_or_five.false)) in
-    let ready = ready-of fields (option_now c.args.rows.now.objective) before.columns c.args.rows.now c.args.columns.now c.open_column.new.columns
+    let ready = ready-of fields (option_now c.args.rows.now.objective) (data_lines before) c.args.rows.now c.args.columns.now c.open_column.new.columns
     (get_or c.args.fields.now 0 no_name).now marker named c.requires.fit c.in_ok-open_column.ensures.same c.in_ok-open_column.ensures.added
     both.columns h at in
     let stamp : c.len.result ≡ length (names_of c.open_column.new.columns.names) =
@@ -60,7 +60,7 @@ returns-clause-fault c = λ before d both h at.
     ∙ sym c.is_three_or_five.ensures.value ∙ c.if-not-is_three_or_five.false in
     let marker : is_marker fields ≡ false = sym c.names_marker.ensures ∙ c.if-names_marker.false in
     let named = field-at c.args.fields.now 0 (omega (arith, c.is_three_or_five.ensures.some c.if-not-is_three_or_five.false)) in
-    let ready = ready-of fields (option_now c.args.rows.now.objective) before.columns c.args.rows.now c.args.columns.now c.open_column.new.columns
+    let ready = ready-of fields (option_now c.args.rows.now.objective) (data_lines before) c.args.rows.now c.args.columns.now c.open_column.new.columns
     (get_or c.args.fields.now 0 no_name).now marker named c.requires.fit c.in_ok-open_column.ensures.same c.in_ok-open_column.ensures.added
     both.columns h at in
     let stamp : c.len.result ≡ length (names_of c.open_column.new.columns.names) =
@@ -91,14 +91,15 @@ returns-clause-tells c = λ lines both h at.
     } in
     let current = c.in_ok-open_column.ensures.current ∙ ap (λ n. Some n) (sym named) in
     let kept = ap (λ q. q.names) c.in_ok-take_entries.ensures.frame in (
-      line-tells fields (option_now c.args.rows.now.objective) (declared_row_names c.args.rows.now.rows.items) lines c.args.rows.now
+      line-tells fields (option_now c.args.rows.now.objective) (declared_row_names c.args.rows.now.rows.items) lines.columns c.args.rows.now
           c.open_column.new.columns c.take_entries.new.column marker
           (subst (λ n. ColumnsFit n c.open_column.new.columns) (sym (length-names c.args.rows.now.rows.items)) fit) current ready
-          (c.in_ok-take_entries.ensures.tells paired (column_pairs lines (field 0 fields)) (rw stamp ready.stamps) ready.tells),
-      line-stays fields lines c.args.rows.now c.take_entries.new.rows c.open_column.new.columns c.take_entries.new.column marker current kept
+          (c.in_ok-take_entries.ensures.tells paired (column_pairs lines.columns (field 0 fields)) (rw stamp ready.stamps) ready.tells),
+      line-stays fields lines c.args.rows.now c.take_entries.new.rows c.open_column.new.columns c.take_entries.new.column marker at.no_rights at.no_bounds
+          current kept
           (subst (λ n. AreStampsUpTo n c.take_entries.new.rows) stamp (c.in_ok-take_entries.ensures.low
           (subst (λ n. AreStampsUpTo n c.args.rows.now) (sym stamp) ready.low)))
           (subst (λ n. StampsAre c.take_entries.new.rows.stamps.items n (names_of c.args.rows.now.names)
-          (λ row. list_any (λ other. bytes_eq row other.0) (pairs (drop 1 fields) ++ column_pairs lines (field 0 fields)))) stamp
-          (c.in_ok-take_entries.ensures.stamps (column_pairs lines (field 0 fields)) (rw stamp ready.stamps))),
+          (λ row. list_any (λ other. bytes_eq row other.0) (pairs (drop 1 fields) ++ column_pairs lines.columns (field 0 fields)))) stamp
+          (c.in_ok-take_entries.ensures.stamps (column_pairs lines.columns (field 0 fields)) (rw stamp ready.stamps))),
     )
