@@ -5,6 +5,7 @@ pub mod ByEntries
 pub mod Certificates
 pub mod Checking
 pub mod Holding
+pub mod Leaves
 pub mod LineMeaning
 pub mod Naming
 pub mod RowForms

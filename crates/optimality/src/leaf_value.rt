@@ -1,16 +1,16 @@
 //! What a leaf comes to.
 
-ghost use Rattle.std.specs.Prelude.{◌≡◌, ◌≤◌, ◌+◌, ◌*◌, ◌^◌, ◌-ℤ◌, ◌*ℤ◌, ◌+ℤ◌, ℕ, IfOk, IfSome, OnOk, int_lt, length, pos, unsigned_abs};
+ghost use Rattle.std.specs.Prelude.{◌≡◌, ◌≤◌, ◌*◌, ◌^◌, ◌-ℤ◌, ◌*ℤ◌, ◌+ℤ◌, ℕ, IfOk, IfSome, OnOk, int_lt, length, pos, unsigned_abs};
 ghost use Rattle.std.specs.List.{enumerate_from, zip};
 ghost use Rattle.optimality.specs.inside.Adding.{AreAlike, AreNoLarger, cuts_given, number_at, rows_given};
 ghost use Rattle.optimality.specs.inside.Checking.{AreRowsOf, IsPrepared};
 ghost use Rattle.optimality.specs.inside.Holding.{cuts_of};
+ghost use Rattle.optimality.specs.inside.Leaves.{reduced_size, value_of};
 ghost use Rattle.optimality.specs.Certificates.{sum_of};
 ghost use Rattle.optimality.specs.Reduced as reduced;
 ghost use Rattle.optimality.specs.inside.RowForms.{forms_held, row_forms as forms_of};
 ghost use Rattle.optimality.specs.inside.Stopping.{TooLargeOnly, given_size, right_size};
-ghost use Rattle.optimality.specs.Sizes.{costs_size, leaf_size};
-ghost use Rattle.optimality.specs.Shows as shows;
+ghost use Rattle.optimality.specs.Sizes.{leaf_size};
 
 use crate::arithmetic::{minus, plus, times};
 use crate::by_columns::least_by_columns;
@@ -59,14 +59,10 @@ fn least_by_forms(
     ensures value { IfOk result (λ n. n ≡ sum_of (λ e. reduced.least_part e.1.bounds
         (reduced.reduced leaf.now.scale leaf.now.multipliers.items (cuts_of splits.now) rows.now
         e.0 e.1)) (enumerate_from 0 checker.now.program.now.columns)) }
-    ensures size { IfOk result (λ n. unsigned_abs n ≤ leaf.now.scale
-        * costs_size checker.now.program.now.columns
-        + given_size checker.now.program.now.columns leaf.now.multipliers.items (cuts_of splits.now)
-        rows.now) }
-    ensures too_large { TooLargeOnly (2 ^ 126 ≤ leaf.now.scale
-        * costs_size checker.now.program.now.columns
-        + given_size checker.now.program.now.columns leaf.now.multipliers.items (cuts_of splits.now)
-        rows.now) result }
+    ensures size { IfOk result (λ n. unsigned_abs n ≤ reduced_size checker.now.program.now
+        splits.now leaf.now rows.now) }
+    ensures too_large { TooLargeOnly (2 ^ 126 ≤ reduced_size checker.now.program.now splits.now
+        leaf.now rows.now) result }
 {
     // The places of entries lie within the rows.
     checker.program.well_formed();
@@ -95,14 +91,10 @@ fn least_of(
     ensures value { IfOk result (λ n. n ≡ sum_of (λ e. reduced.least_part e.1.bounds
         (reduced.reduced leaf.now.scale leaf.now.multipliers.items (cuts_of splits.now) rows.now
         e.0 e.1)) (enumerate_from 0 checker.now.program.now.columns)) }
-    ensures size { IfOk result (λ n. unsigned_abs n ≤ leaf.now.scale
-        * costs_size checker.now.program.now.columns
-        + given_size checker.now.program.now.columns leaf.now.multipliers.items (cuts_of splits.now)
-        rows.now) }
-    ensures too_large { TooLargeOnly (2 ^ 126 ≤ leaf.now.scale
-        * costs_size checker.now.program.now.columns
-        + given_size checker.now.program.now.columns leaf.now.multipliers.items (cuts_of splits.now)
-        rows.now) result }
+    ensures size { IfOk result (λ n. unsigned_abs n ≤ reduced_size checker.now.program.now
+        splits.now leaf.now rows.now) }
+    ensures too_large { TooLargeOnly (2 ^ 126 ≤ reduced_size checker.now.program.now splits.now
+        leaf.now rows.now) result }
 {
     match &checker.row_forms {
         Some(all) => least_by_forms(checker, all, sums, splits, leaf, rows),
@@ -144,8 +136,7 @@ fn value_by_rows(
     requires count { length leaf.now.multipliers.items ≡ length splits.now }
     requires alike { AreAlike rows.now leaf.now.rows.items }
     requires size { AreNoLarger rows.now leaf.now.rows.items }
-    ensures value { IfOk result (λ n. n ≡ shows.leaf_value checker.now.program.now
-        (cuts_of splits.now) leaf.now.scale leaf.now.multipliers.items leaf.now.rows.items) }
+    ensures value { IfOk result (λ n. n ≡ value_of checker.now.program.now splits.now leaf.now) }
     ensures too_large { TooLargeOnly (2 ^ 126 ≤ leaf_size checker.now.program.now checker.now.least
         (cuts_of splits.now) leaf.now.scale leaf.now.multipliers.items leaf.now.rows.items)
         result }
@@ -165,8 +156,7 @@ fn value_by_columns(
     requires prepared { IsPrepared checker.now }
     requires count { length leaf.now.multipliers.items ≡ length splits.now }
     requires alike { AreAlike rows.now leaf.now.rows.items }
-    ensures { IfSome result (λ n. n ≡ shows.leaf_value checker.now.program.now
-        (cuts_of splits.now) leaf.now.scale leaf.now.multipliers.items leaf.now.rows.items) }
+    ensures { IfSome result (λ n. n ≡ value_of checker.now.program.now splits.now leaf.now) }
 {
     let bottom = least_by_columns(checker, splits, leaf, rows)?;
     let Ok(right) = right_of(checker.program, splits, leaf, rows) else {
@@ -222,8 +212,7 @@ fn leaf_value(
 ) -> Result<i128, Limit>
     requires prepared { IsPrepared checker.now }
     requires count { length leaf.now.multipliers.items ≡ length splits.now }
-    ensures value { IfOk result (λ n. n ≡ shows.leaf_value checker.now.program.now
-        (cuts_of splits.now) leaf.now.scale leaf.now.multipliers.items leaf.now.rows.items) }
+    ensures value { IfOk result (λ n. n ≡ value_of checker.now.program.now splits.now leaf.now) }
     ensures too_large { TooLargeOnly (2 ^ 126 ≤ leaf_size checker.now.program.now checker.now.least
         (cuts_of splits.now) leaf.now.scale leaf.now.multipliers.items leaf.now.rows.items)
         result }
@@ -260,8 +249,7 @@ pub fn is_above(
     requires count { length leaf.now.multipliers.items ≡ length splits.now }
     ensures value { IfOk result (λ above. above
         ≡ int_lt (pos leaf.now.scale *ℤ (checker.now.least -ℤ pos 1))
-        (shows.leaf_value checker.now.program.now (cuts_of splits.now) leaf.now.scale
-        leaf.now.multipliers.items leaf.now.rows.items)) }
+        (value_of checker.now.program.now splits.now leaf.now)) }
     ensures too_large { TooLargeOnly (2 ^ 126 ≤ leaf_size checker.now.program.now checker.now.least
         (cuts_of splits.now) leaf.now.scale leaf.now.multipliers.items leaf.now.rows.items)
         result }
