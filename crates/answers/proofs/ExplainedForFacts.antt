@@ -7,7 +7,6 @@ use Rattle.std.specs.Prelude.{⊤, if◌then◌else◌, nat_le, not, slice_index
 use Rattle.std.specs.List.{zip}
 use Rattle.std.specs.Option.{option_map, option_or}
 use Rattle.byte_sinks.specs.Sinks.{Outlet}
-use Rattle.byte_sinks.specs.declared.json.Format.{Format}
 use Rattle.answers.specs.Answer.{answer, output_of}
 use Rattle.answers.specs.Exact.{Writes}
 use Rattle.answers.specs.ExplainedFor.{ExplainsFor, IsNamed, IsOfParts, IsRefusedBy, IsTakenBy, RefusesSo}
@@ -63,6 +62,7 @@ use Rattle.program_rows.specs.declared.solution_fault.SolutionFault.TheVariants 
 use Rattle.program_rows.specs.declared.solution_fault.SolutionFault.{SolutionFault}
 use Rattle.program_rows.specs.Program.{Table}
 use Rattle.auction_input.specs.Requests.{target_of}
+use Rattle.auction_input.specs.declared.request.ExplainOptions.{ExplainOptions}
 use Rattle.auction_input.specs.declared.request.Request.TheVariants.{Check, Compile, Explain, Forms, Map, Report, Text, Verify}
 use Rattle.auction_input.specs.declared.request.Request.{Request}
 use Rattle.auction_input.specs.declared.request.Target.TheVariants as target
@@ -351,15 +351,20 @@ verify-so workers (Ok auction) r is =
     (first_failed (refused_unless (wants (Some target.Verify) (numbers_of auction)))) auction r is)
 
 -- the lines of bids, where they are asked for
-abbrev lines_of : Bool → Format → Auction → Result (List ℕ) Refusal
-lines_of bids format auction = Ok (if bids then left_out_lines format auction.rules auction.form_bidders (reasons_of auction.sale.lots auction.sale.book) else [])
+abbrev lines_of : ExplainOptions → Auction → Result (List ℕ) Refusal
+lines_of options auction =
+    Ok (if options.bids then left_out_lines options.format auction.rules auction.form_bidders (reasons_of auction.sale.lots auction.sale.book) else [])
 
-explain-so : (bids : Bool) (command : Option Target) (format : Format) (parsed : Result Auction Refusal) (r : Refusal) → with_wanted command parsed ≡ Err r
-    → and_then parsed (output_of (Explain bids command format)) ≡ Err r
-explain-so bids None format (Ok auction) r is = cc
-explain-so bids None format (Err f) r is = ap (λ (e : Refusal). Err e) (err-is f r is)
-explain-so bids (Some command) format (Err f) r is = ap (λ (e : Refusal). Err e) (err-is f r is)
-explain-so bids (Some command) format (Ok auction) r is = stopped (λ found. lines_of bids format auction) (wanted (Some command) auction) r is
+-- what `explain` writes of an auction that is parsed, if it has what a command wants
+abbrev told_of : ExplainOptions → Option Target → Result Auction Refusal → Result (List ℕ) Refusal
+told_of options command parsed = and_then parsed (λ auction. and_then (wanted command auction) (λ taken. lines_of options auction))
+
+explain-so : (options : ExplainOptions) (command : Option Target) (parsed : Result Auction Refusal) (r : Refusal) → with_wanted command parsed ≡ Err r
+    → told_of options command parsed ≡ Err r
+explain-so options None (Ok auction) r is = cc
+explain-so options None (Err f) r is = ap (λ (e : Refusal). Err e) (err-is f r is)
+explain-so options (Some command) (Err f) r is = ap (λ (e : Refusal). Err e) (err-is f r is)
+explain-so options (Some command) (Ok auction) r is = stopped (λ found. lines_of options auction) (wanted (Some command) auction) r is
 
 refuses-so : (asked : Request) (command : Target) (input : Input) (r : Refusal) → target_of asked ≡ Some command
     → parsed_taken asked input ≡ Err r → RefusesSo asked input r
@@ -372,8 +377,7 @@ refuses-so (Map group) command input r is parsed =
     stopped (output_of (Map group)) (parsed_auction (Map group) input) r (sym (onto-all (parsed_auction (Map group) input)) ∙ parsed)
 refuses-so (Report workers) command input r is parsed = report-so workers (parsed_auction (Report workers) input) r parsed
 refuses-so (Verify workers) command input r is parsed = verify-so workers (parsed_auction (Verify workers) input) r parsed
-refuses-so (Explain bids whose format) command input r is parsed =
-    explain-so bids whose format (parsed_auction (Explain bids whose format) input) r parsed
+refuses-so (Explain options) command input r is parsed = explain-so options options.target (parsed_auction (Explain options) input) r parsed
 
 -- ---- what is taken
 
@@ -418,6 +422,13 @@ verify-taken workers auction none =
     (subst (λ (o : Option Refusal). IsFree (unless o (priced_by auction won auction.prices auction.covers))) (sym priced)
     (free-priced-by auction won auction.prices auction.covers)) (λ pricing is. tt)))
 
+explain-taken : (options : ExplainOptions) (command : Option Target) (found auction : Auction) → with_wanted command (Ok found) ≡ Ok auction
+    → IsFree (told_of options command (Ok found))
+explain-taken options None found auction is = tt
+explain-taken options (Some command) found auction is =
+    subst (λ (o : Option Refusal). IsFree (and_then (unless o (Ok found)) (λ again. lines_of options found)))
+    (sym (met-so (first_failed (refused_unless (wants (Some command) (numbers_of found)))) found auction is)) tt
+
 taken-so : (asked : Request) (parsed : Result Auction Refusal) (auction : Auction) → with_wanted (target_of asked) parsed ≡ Ok auction
     → IsFree (and_then parsed (output_of asked))
 taken-so asked (Err r) auction is = absurd (by (target_of asked) is)
@@ -438,24 +449,25 @@ taken-so (Report workers) (Ok found) auction is = free-then (winners_of_groups f
     (report-taken found (met-so (first_failed (refused_unless (solution_wants (numbers_of found)))) found auction is)) (λ won is. tt)
 taken-so (Verify workers) (Ok found) auction is =
     verify-taken workers found (met-so (first_failed (refused_unless (wants (Some target.Verify) (numbers_of found)))) found auction is)
-taken-so (Explain bids None format) (Ok found) auction is = tt
-taken-so (Explain bids (Some command) format) (Ok found) auction is =
-    subst (λ (o : Option Refusal). IsFree (and_then (unless o (Ok found)) (λ again. lines_of bids format found)))
-    (sym (met-so (first_failed (refused_unless (wants (Some command) (numbers_of found)))) found auction is)) tt
+taken-so (Explain options) (Ok found) auction is = explain-taken options options.target found auction is
 
 -- ---- the law
 
+-- what `explain` takes of an input for a command
+abbrev taken_as : ExplainOptions → Input → Option Target → Result Auction Refusal
+taken_as options input whose = parsed_taken (Explain (record options { target = whose })) input
+
 -- what a request for a command takes is what `explain` takes for it
-parsed-for : (bids : Bool) (format : Format) (asked : Request) (command : Target) (input : Input) → target_of asked ≡ Some command
-    → parsed_taken asked input ≡ parsed_taken (Explain bids (Some command) format) input
-parsed-for bids format Check command input is = cc
-parsed-for bids format Forms command input is = cc
-parsed-for bids format Text command input is = ap (λ (o : Option Target). parsed_taken (Explain bids o format) input) is
-parsed-for bids format (Compile workers) command input is = ap (λ (o : Option Target). parsed_taken (Explain bids o format) input) is
-parsed-for bids format (Map group) command input is = ap (λ (o : Option Target). parsed_taken (Explain bids o format) input) is
-parsed-for bids format (Report workers) command input is = ap (λ (o : Option Target). parsed_taken (Explain bids o format) input) is
-parsed-for bids format (Verify workers) command input is = ap (λ (o : Option Target). parsed_taken (Explain bids o format) input) is
-parsed-for bids format (Explain others whose other) command input is = ap (λ (o : Option Target). parsed_taken (Explain bids o format) input) is
+parsed-for : (options : ExplainOptions) (asked : Request) (command : Target) (input : Input) → options.target ≡ Some command
+    → target_of asked ≡ Some command → parsed_taken asked input ≡ parsed_taken (Explain options) input
+parsed-for options Check command input for is = cc
+parsed-for options Forms command input for is = cc
+parsed-for options Text command input for is = ap (taken_as options input) (is ∙ sym for)
+parsed-for options (Compile workers) command input for is = ap (taken_as options input) (is ∙ sym for)
+parsed-for options (Map group) command input for is = ap (taken_as options input) (is ∙ sym for)
+parsed-for options (Report workers) command input for is = ap (taken_as options input) (is ∙ sym for)
+parsed-for options (Verify workers) command input for is = ap (taken_as options input) (is ∙ sym for)
+parsed-for options (Explain others) command input for is = ap (taken_as options input) (is ∙ sym for)
 
 free-answer : (asked : Request) (command : Target) (input : Input) (auction : Auction) → target_of asked ≡ Some command
     → parsed_taken asked input ≡ Ok auction → IsFree (answer asked input)
@@ -468,9 +480,9 @@ if-err-at parsed r free is = subst (λ (t : Result _ Refusal). IsFree t) is free
 
 pub explains-for : (command : Target) (input : Input) → ExplainsFor command input
 explains-for command input = record {
-  refused = λ bids format r parsed asked is. refuses-so asked command input r is (parsed-for bids format asked command input is ∙ parsed);
-  taken = λ bids format auction parsed asked is r answered. if-err-at (answer asked input) r
-      (free-answer asked command input auction is (parsed-for bids format asked command input is ∙ parsed)) answered;
+  refused = λ options r for parsed asked is. refuses-so asked command input r is (parsed-for options asked command input for is ∙ parsed);
+  taken = λ options auction for parsed asked is r answered. if-err-at (answer asked input) r
+      (free-answer asked command input auction is (parsed-for options asked command input for is ∙ parsed)) answered;
 }
 
 -- ---- what follows of an explanation
@@ -486,38 +498,44 @@ refused-so Text input r is = is-err _ r is
 refused-so (Compile workers) input r is = is-err _ r is
 refused-so (Map group) input r is = is-err _ r is
 refused-so (Report workers) input r is = is-err _ r is
-refused-so (Explain bids whose format) input r is = is-err _ r is
+refused-so (Explain options) input r is = is-err _ r is
 
 which-err : {A : Type 0} (parsed : Result A Refusal) → IsErr parsed → (r : Refusal) × (parsed ≡ Err r)
 which-err (Ok x) is = cc
 which-err (Err r) is = (r, refl)
 
+refused-for : (options : ExplainOptions) (command : Option Target) (input : Input) → options.target ≡ command
+    → IsErr (parsed_taken (Explain options) input) → IsRefusedBy command input
+refused-for options None input for wrong asked never = absurd never
+refused-for options (Some command) input for wrong asked is =
+    let (r, parsed) = which-err (parsed_taken (Explain options) input) wrong in
+    refused-so asked input r ((explains-for command input).refused options r for parsed asked is)
+
 -- an input of which faults are reported is refused by the command
-pub refused-by : (bids : Bool) (command : Option Target) (format : Format) (input : Input) → IsErr (parsed_taken (Explain bids command format) input)
-    → IsRefusedBy command input
-refused-by bids None format input wrong asked never = absurd never
-refused-by bids (Some command) format input wrong asked is =
-    let (r, parsed) = which-err (parsed_taken (Explain bids (Some command) format) input) wrong in
-    refused-so asked input r ((explains-for command input).refused bids format r parsed asked is)
+pub refused-by : (options : ExplainOptions) (input : Input) → IsErr (parsed_taken (Explain options) input) → IsRefusedBy options.target input
+refused-by options input wrong = refused-for options options.target input refl wrong
 
 -- where the answer is there, the auction has what is wanted
-has-taken : (bids : Bool) (command : Option Target) (format : Format) (parsed : Result Auction Refusal) (out : List ℕ)
-    → and_then parsed (output_of (Explain bids command format)) ≡ Ok out → (auction : Auction) × (with_wanted command parsed ≡ Ok auction)
-has-taken bids None format (Ok auction) out is = (auction, refl)
-has-taken bids (Some command) format (Ok auction) out is = by (first_failed (refused_unless (wants (Some command) (numbers_of auction)))) is
+has-taken : (options : ExplainOptions) (command : Option Target) (parsed : Result Auction Refusal) (out : List ℕ)
+    → told_of options command parsed ≡ Ok out → (auction : Auction) × (with_wanted command parsed ≡ Ok auction)
+has-taken options None (Ok auction) out is = (auction, refl)
+has-taken options (Some command) (Ok auction) out is = by (first_failed (refused_unless (wants (Some command) (numbers_of auction)))) is
   where
-    by : (o : Option Refusal) → and_then (unless o (Ok auction)) (λ taken. Ok
-        (if bids then left_out_lines format auction.rules auction.form_bidders (reasons_of auction.sale.lots auction.sale.book) else [])) ≡ Ok out
+    by : (o : Option Refusal) → and_then (unless o (Ok auction)) (λ taken. lines_of options auction) ≡ Ok out
         → (x : Auction) × (unless o (Ok auction) ≡ Ok x)
     by None e = (auction, refl)
     by (Some r) e = cc
-has-taken bids command format (Err r) out is = cc
+has-taken options command (Err r) out is = cc
+
+taken-by : (options : ExplainOptions) (command : Option Target) (input : Input) (auction : Auction) → options.target ≡ command
+    → parsed_taken (Explain options) input ≡ Ok auction → IsTakenBy command input
+taken-by options None input auction for has = λ asked never r answered of. never
+taken-by options (Some command) input auction for has = (explains-for command input).taken options auction for has
 
 pub taken-for : (asked : Request) (input : Input) (before after : Outlet) → Writes (answer asked input) before after → IsTakenFor asked input
-taken-for (Explain bids None format) input before after (out, parsed, sent) = λ asked never r answered of. never
-taken-for (Explain bids (Some command) format) input before after (out, parsed, sent) =
-    let (auction, has) = has-taken bids (Some command) format (parsed_auction (Explain bids (Some command) format) input) out parsed in
-    (explains-for command input).taken bids format auction has
+taken-for (Explain options) input before after (out, parsed, sent) =
+    let (auction, has) = has-taken options options.target (parsed_auction (Explain options) input) out parsed in
+    taken-by options options.target input auction refl has
 taken-for Check input before after writes = tt
 taken-for Forms input before after writes = tt
 taken-for Text input before after writes = tt

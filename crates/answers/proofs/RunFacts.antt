@@ -6,10 +6,10 @@ use Rattle.auction_input.specs.FileTexts.{Shelf, is_standard_output}
 use Rattle.auction_input.specs.Input.{Input}
 use Rattle.clap.specs.declared.error.kind.ErrorKind.TheVariants as kind
 use Rattle.clap.specs.declared.error.kind.ErrorKind.{ErrorKind}
+use Rattle.auction_input.specs.declared.request.ExplainOptions.{ExplainOptions}
 use Rattle.auction_input.specs.declared.request.Request.TheVariants as request
 use Rattle.auction_input.specs.Requests.{target_of}
 use Rattle.auction_input.specs.declared.request.Request.{Request}
-use Rattle.auction_input.specs.declared.request.Target.{Target}
 use Rattle.answers.specs.Answer.{answer}
 use Rattle.answers.specs.Exact.{Writes}
 use Rattle.answers.specs.ExplainedFor.{IsRefusedBy}
@@ -23,22 +23,20 @@ use Rattle.auction_input.specs.declared.files.FileRefusal.{FileRefusal}
 use Rattle.answers.specs.FileLines.{refusal_line}
 use Rattle.answers.specs.Outside.{Outside, outside_of}
 use Rattle.byte_sinks.specs.Sinks.{Outlet}
-use Rattle.byte_sinks.specs.declared.json.Format.{Format}
 use Rattle.answers.specs.Runs.{AsksAnswer, HasExplained, IsRefused, HasLooked, IsRun, IsShown, IsUndone, Reads, begun, by_lines}
 use Rattle.answers.specs.Runs.{by_look, by_memory, by_output, by_request, by_showing, by_text}
 use Rattle.answers.specs.inside.Runs.{HasExplainedInput, HasShown, IsLeftUnanswered, IsReported, IsReportedSo, IsUnprepared, IsUnreported}
 
 -- every request but `explain` asks for an answer
-pub asks-answer : (asked : Request) (input : Input)
-    → ((bids : Bool) (command : Option Target) (format : Format) → asked ≢ request.Explain bids command format) → AsksAnswer asked input
-asks-answer (request.Explain bids command format) input others = absurd (others bids command format refl)
+pub asks-answer : (asked : Request) (input : Input) → ((options : ExplainOptions) → asked ≢ request.Explain options) → AsksAnswer asked input
+asks-answer (request.Explain options) input others = absurd (others options refl)
 asks-answer asked input others = tt
 
 -- the command for which faults are reported refuses the input, too
-refused-as : (bids : Bool) (whose : Option Target) (format : Format) (asked : Request) (input : Input) → asked ≡ request.Explain bids whose format
-    → IsErr (parsed_taken asked input) → IsRefusedBy (target_of asked) input
-refused-as bids whose format asked input asks wrong =
-    subst (λ (a : Request). IsErr (parsed_taken a input) → IsRefusedBy (target_of a) input) (sym asks) (refused-by bids whose format input) wrong
+refused-as : (options : ExplainOptions) (asked : Request) (input : Input) → asked ≡ request.Explain options → IsErr (parsed_taken asked input)
+    → IsRefusedBy (target_of asked) input
+refused-as options asked input asks wrong =
+    subst (λ (a : Request). IsErr (parsed_taken a input) → IsRefusedBy (target_of a) input) (sym asks) (refused-by options input) wrong
 
 -- a sink that is sent to a file has the count of failures that it had
 begun-failures : (name : Option (List ℕ)) (sink : Outlet) → (begun name sink).failures ≡ sink.failures
@@ -91,23 +89,21 @@ module _ (shelf : Shelf) where
 
     refused-so : (parsed : List ℕ) → IsLeftUnanswered asked.request input start after.output parsed → IsRefused shelf asked before after parsed
     refused-so parsed (r, is, inl (asks, unwritten)) = subst (IsRefused shelf asked before after) (sym is) (by_text looked input read asks unwritten)
-    refused-so parsed (r, is, inr (bids, whose, format, asks, cut)) =
-        subst (IsRefused shelf asked before after) (sym is) (by_lines bids whose format asks looked input read cut)
+    refused-so parsed (r, is, inr (options, asks, cut)) =
+        subst (IsRefused shelf asked before after) (sym is) (by_lines options asks looked input read cut)
 
     explained-so : after.failed_reads ≡ before.failed_reads → HasExplainedInput asked.request input start after.output
         → after.faults ≡ before.faults → HasExplained shelf (for_answer asked) before after
-    explained-so reads (bids, whose, format, asks, wrong, sent) quiet = record {
+    explained-so reads (options, asks, wrong, sent) quiet = record {
       command = asked;
-      bids = bids;
-      whose = whose;
-      format = format;
+      options = options;
       input = input;
       asks = refl;
       explains = asks;
       looked = looked;
       read = read;
       faulty = wrong;
-      refused = refused-as bids whose format asked.request input asks wrong;
+      refused = refused-as options asked.request input asks wrong;
       written = sent;
       reads = reads;
       quiet = quiet;

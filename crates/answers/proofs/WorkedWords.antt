@@ -68,7 +68,7 @@ help_with_files = refl
 
 -- what a command wants is reported by its name
 explained_for_a_report : asked (codes "wdp" ∷ codes "explain" ∷ codes "a" ∷ codes "--for" ∷ codes "report" ∷ codes "--bids" ∷ []) ≡ for_answer (record {
-  request = request.Explain true (Some target.Report) format.Words;
+  request = request.Explain (record { bids = true; target = Some target.Report; format = format.Words });
   last_wins = false;
   files = codes "a" ∷ [];
   output = None;
@@ -78,7 +78,7 @@ explained_for_a_report = refl
 
 -- what is found is printed as JSON
 explained_as_json : asked (codes "wdp" ∷ codes "explain" ∷ codes "--json" ∷ codes "--bids" ∷ []) ≡ for_answer (record {
-  request = request.Explain true None format.Json;
+  request = request.Explain (record { bids = true; target = None; format = format.Json });
   last_wins = false;
   files = [];
   output = None;

@@ -46,8 +46,8 @@ output_of (Verify workers) auction =
     Ok (report_text auction.sale auction.groups won ++ (pricing_text auction.sale (slice_index_or won 0 []) pricing ++ others_text auction.sale others)))))
 -- nothing is wrong, and so nothing is written, unless it is asked which bids no program has, and why; an auction that hasn't got what the
 -- command that is named wants is refused
-output_of (Explain bids command format) auction =
-    and_then (wanted command auction) (λ taken. Ok (if bids then left_out_lines format auction.rules auction.form_bidders
+output_of (Explain options) auction =
+    and_then (wanted options.target auction) (λ taken. Ok (if options.bids then left_out_lines options.format auction.rules auction.form_bidders
     (reasons_of auction.sale.lots auction.sale.book) else []))
 -- the program with nobody left out
 output_of asked auction = Ok (text (program_for auction.sale []))

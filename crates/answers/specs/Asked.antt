@@ -6,6 +6,7 @@ use Rattle.std.specs.Str.{bytes_eq}
 use Rattle.std.specs.Str.Parse.{digits_value, without_leading_plus}
 use Rattle.std.specs.Vec.Iter.{into_iter_items}
 use Rattle.std.specs.declared.vec.IntoIter.{IntoIter}
+use Rattle.auction_input.specs.declared.request.ExplainOptions.{ExplainOptions}
 use Rattle.auction_input.specs.declared.request.Request.TheVariants as request
 use Rattle.auction_input.specs.declared.request.Request.{Request}
 use Rattle.auction_input.specs.declared.request.Target.TheVariants as target
@@ -109,6 +110,14 @@ option_target id rows = option_and_then target_named (first_of id rows)
 abbrev pub option_format : Text → List Row → Format
 option_format id rows = if option_flag id rows then format.Json else format.Words
 
+-- what `explain` is asked
+abbrev pub explain_options : List Row → ExplainOptions
+explain_options rows = record {
+  bids = option_flag (codes "bids") rows;
+  target = option_target (codes "for") rows;
+  format = option_format (codes "json") rows;
+}
+
 -- the texts of an argument, in order
 abbrev pub option_texts : Text → List Row → List Text
 option_texts id rows = unwrap_or (all_of id rows) []
@@ -122,8 +131,7 @@ request_named (Some (name, rows)) =
     else if bytes_eq name (codes "map") then request.Map (option_number (codes "group") MOST_GROUPS rows)
     else if bytes_eq name (codes "report") then request.Report (option_number (codes "workers") MOST_WORKERS rows)
     else if bytes_eq name (codes "verify") then request.Verify (option_number (codes "workers") MOST_WORKERS rows)
-    else if bytes_eq name (codes "explain") then
-    request.Explain (option_flag (codes "bids") rows) (option_target (codes "for") rows) (option_format (codes "json") rows)
+    else if bytes_eq name (codes "explain") then request.Explain (explain_options rows)
     else if bytes_eq name (codes "forms") then request.Forms
     else request.Text
 

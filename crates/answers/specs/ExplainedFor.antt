@@ -1,5 +1,5 @@
 -- What `explain` says for a command, and what that command does.
-use Rattle.std.specs.Prelude.{◌≡◌, ◌⊎◌, ⊤, Bool, Option, None, Some, Ok, Err, IsErr}
+use Rattle.std.specs.Prelude.{◌≡◌, ◌⊎◌, ⊤, Option, None, Some, Ok, Err, IsErr}
 use Rattle.answers.specs.Answer.{answer}
 use Rattle.auction_input.specs.Auction.{Auction}
 use Rattle.auction_input.specs.Input.{Input}
@@ -7,10 +7,10 @@ use Rattle.auction_input.specs.PartCounts.{parsed_taken}
 use Rattle.auction_input.specs.declared.refusal.Refusal.TheVariants as refusal
 use Rattle.auction_input.specs.declared.refusal.Refusal.{Refusal}
 use Rattle.auction_input.specs.Requests.{target_of}
+use Rattle.auction_input.specs.declared.request.ExplainOptions.{ExplainOptions}
 use Rattle.auction_input.specs.declared.request.Request.TheVariants.{Explain, Verify}
 use Rattle.auction_input.specs.declared.request.Request.{Request}
 use Rattle.auction_input.specs.declared.request.Target.{Target}
-use Rattle.byte_sinks.specs.declared.json.Format.{Format}
 
 -- an input is refused for its parts: for the name of one, for a number of them, or since the first group isn't empty
 abbrev pub IsOfParts : Refusal → Type 0
@@ -39,7 +39,7 @@ RefusesSo asked input r = answer asked input ≡ Err r
 
 -- what `explain` prints for a command is what the command does
 pub record ExplainsFor (command : Target) (input : Input) : Type 0 where
-  pub refused : (bids : Bool) (format : Format) (r : Refusal) → parsed_taken (Explain bids (Some command) format) input ≡ Err r → (asked : Request)
-      → target_of asked ≡ Some command → RefusesSo asked input r
-  pub taken : (bids : Bool) (format : Format) (auction : Auction) → parsed_taken (Explain bids (Some command) format) input ≡ Ok auction
+  pub refused : (options : ExplainOptions) (r : Refusal) → options.target ≡ Some command → parsed_taken (Explain options) input ≡ Err r
+      → (asked : Request) → target_of asked ≡ Some command → RefusesSo asked input r
+  pub taken : (options : ExplainOptions) (auction : Auction) → options.target ≡ Some command → parsed_taken (Explain options) input ≡ Ok auction
       → IsTakenBy (Some command) input

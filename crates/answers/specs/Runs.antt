@@ -1,8 +1,7 @@
 -- What a run leaves of its input and its output.
-use Rattle.std.specs.Prelude.{◌≡◌, ◌≢◌, ◌⊎◌, ◌<◌, ℕ, ⊤, Bool, List, Option, None, Some, IsErr, IsOk, IsSome, Ok, Err, codes, length, true}
+use Rattle.std.specs.Prelude.{◌≡◌, ◌≢◌, ◌⊎◌, ◌<◌, ℕ, ⊤, List, Option, None, Some, IsErr, IsOk, IsSome, Ok, Err, codes, length, true}
 use Rattle.auction_input.specs.Input.{Input}
 use Rattle.byte_sinks.specs.Sinks.{GoesWhole, Outlet}
-use Rattle.byte_sinks.specs.declared.json.Format.{Format}
 use Rattle.auction_input.specs.PartCounts.{parsed_taken}
 use Rattle.auction_input.specs.Line.{Puts, line}
 use Rattle.auction_input.specs.FileLooks.{FindsNothing, FindsAgainst}
@@ -15,8 +14,8 @@ use Rattle.answers.specs.FileLines.{refusal_line, unread_line}
 use Rattle.auction_input.specs.declared.refusal.Refusal.{Refusal}
 use Rattle.auction_input.specs.declared.refusal.Refusal.TheVariants as refusal
 use Rattle.auction_input.specs.Requests.{target_of}
+use Rattle.auction_input.specs.declared.request.ExplainOptions.{ExplainOptions}
 use Rattle.auction_input.specs.declared.request.Request.{Request}
-use Rattle.auction_input.specs.declared.request.Target.{Target}
 use Rattle.auction_input.specs.declared.request.Request.TheVariants.{Explain}
 use Rattle.input_faults.specs.Explained.{IsCutShort}
 use Rattle.input_faults.specs.FaultLines.{explanation}
@@ -33,7 +32,7 @@ Reads shelf asked left left' input = IsInputRead shelf.content asked.files left 
 
 -- where `explain` finds no fault, the command that it names doesn't refuse the input for its parts
 abbrev pub IsTakenFor : Request → Input → Type 0
-IsTakenFor (Explain bids whose format) input = IsTakenBy whose input
+IsTakenFor (Explain options) input = IsTakenBy options.target input
 IsTakenFor asked input = ⊤
 
 -- the sink of the output as an answer begins: sent to the file that is named, where one is
@@ -57,7 +56,7 @@ IsAnswered shelf asked before after =
 
 -- an answer, or the first refusal in its place, is what the request asks of the input; `explain` only of one without a fault, and where bids are asked for
 abbrev pub AsksAnswer : Request → Input → Type 0
-AsksAnswer (Explain bids command format) input = (bids ≡ true) × IsOk (parsed_taken (Explain bids command format) input)
+AsksAnswer (Explain options) input = (options.bids ≡ true) × IsOk (parsed_taken (Explain options) input)
 AsksAnswer asked input = ⊤
 
 -- why a command line isn't answered, by the line that says it
@@ -77,8 +76,8 @@ pub data IsRefused (shelf : Shelf) (asked : CommandLine) (before after : Outside
       → IsUnwritten asked.request input (begun asked.output before.output) after.output r
       → IsRefused shelf asked before after (placed_line input.texts r)
   -- or not all lines of its faults are
-  by_lines : {r : Refusal} → (bids : Bool) → (whose : Option Target) → (format : Format) → asked.request ≡ Explain bids whose format
-      → HasLooked shelf asked → (input : Input) → Reads shelf asked before.left after.left input
+  by_lines : {r : Refusal} → (options : ExplainOptions) → asked.request ≡ Explain options → HasLooked shelf asked → (input : Input)
+      → Reads shelf asked before.left after.left input
       → IsCutShort (explanation asked.request input) (begun asked.output before.output) after.output r
       → IsRefused shelf asked before after (placed_line input.texts r)
 
@@ -107,12 +106,10 @@ pub data IsUndone (shelf : Shelf) (asked : Asked) (before after : Outside) : Lis
 -- that command refuses it, too; the lines of its faults are written, no read and no put fails, and no line of a refusal is put
 pub record HasExplained (shelf : Shelf) (asked : Asked) (before after : Outside) : Type 0 where
   pub command : CommandLine
-  pub bids : Bool
-  pub whose : Option Target
-  pub format : Format
+  pub options : ExplainOptions
   pub input : Input
   pub asks : asked ≡ for_answer command
-  pub explains : command.request ≡ Explain bids whose format
+  pub explains : command.request ≡ Explain options
   pub looked : HasLooked shelf command
   pub read : Reads shelf command before.left after.left input
   pub faulty : IsErr (parsed_taken command.request input)

@@ -9,11 +9,11 @@ ghost use Rattle.clap.specs.Words.{FailsBy, HasKind, Row, fault_of, first_of, fo
 ghost use Rattle.clap.specs.declared.error.kind.ErrorKind.TheVariants as kind;
 ghost use Rattle.answers.specs.Asked as asked;
 ghost use Rattle.answers.specs.Asked.{by_fault, command_line_of, faults_of, for_answer, command_fault, named, option_flag};
-ghost use Rattle.answers.specs.Asked.{option_format, option_number, option_target, option_texts, request_named, target_fault, text_of, wdp};
+ghost use Rattle.answers.specs.Asked.{explain_options, option_format, option_number, option_target, option_texts, request_named, target_fault, text_of, wdp};
 ghost use Rattle.auction_input.specs.Requests.{IsRequestWithinLimits};
 
 use crate::parser::parser;
-use auction_input::{Request, Target};
+use auction_input::{ExplainOptions, Request, Target};
 use auction_terms::{MOST_GROUPS, MOST_WORKERS};
 use byte_sinks::Format;
 use clap::error::ErrorKind;
@@ -89,6 +89,17 @@ fn target_of(matches: &ArgMatches<'_>) -> Option<Target>
     }
 }
 
+// What `explain` is asked.
+fn options_of(matches: &ArgMatches<'_>) -> ExplainOptions
+    ensures { result ≡ explain_options (rows_of (found_of matches.now)) }
+{
+    ExplainOptions {
+        bids: has_flag(matches, "bids"),
+        target: target_of(matches),
+        format: format_of(matches),
+    }
+}
+
 // Copies of texts.
 fn copies_of(alloc: Global, texts: &[&str]) -> Result<Vec<String>, AllocError>
     ensures { IfOk result (λ copies. map text_of copies.items ≡ map (λ t. t.now) texts.now) }
@@ -123,22 +134,13 @@ fn output_of(alloc: Global, matches: &ArgMatches<'_>) -> Result<Option<String>, 
 }
 
 // The request of the command of this name, with what the options say.
-fn request_by(
-    name: &str,
-    workers: usize,
-    group: usize,
-    bids: bool,
-    target: Option<Target>,
-    format: Format,
-) -> Request
+fn request_by(name: &str, workers: usize, group: usize, options: ExplainOptions) -> Request
     requires workers { (1 ≤ workers) × (workers ≤ MOST_WORKERS) }
     requires group { (1 ≤ group) × (group ≤ MOST_GROUPS) }
     ensures request { (rows : List Row)
         → workers ≡ option_number (codes "workers") MOST_WORKERS rows
         → group ≡ option_number (codes "group") MOST_GROUPS rows
-        → bids ≡ option_flag (codes "bids") rows
-        → target ≡ option_target (codes "for") rows
-        → format ≡ option_format (codes "json") rows
+        → options ≡ explain_options rows
         → result ≡ request_named (Some (name.now, rows)) }
     ensures limits { IsRequestWithinLimits result }
 {
@@ -148,11 +150,7 @@ fn request_by(
         "map" => Request::Map { group },
         "report" => Request::Report { workers },
         "verify" => Request::Verify { workers },
-        "explain" => Request::Explain {
-            bids,
-            target,
-            format,
-        },
+        "explain" => Request::Explain(options),
         "forms" => Request::Forms,
         _ => Request::Text,
     }
@@ -165,9 +163,7 @@ fn request_of(name: &str, matches: &ArgMatches<'_>) -> Request
 {
     let workers = number_of(matches, "workers", MOST_WORKERS);
     let group = number_of(matches, "group", MOST_GROUPS as usize);
-    let bids = has_flag(matches, "bids");
-    let target = target_of(matches);
-    request_by(name, workers, group, bids, target, format_of(matches))
+    request_by(name, workers, group, options_of(matches))
 }
 
 // What the words of a command say.

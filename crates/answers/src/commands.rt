@@ -1,8 +1,7 @@
 //! The commands. The auction that the input describes is read here, for all of them, and handed to the command that is asked for.
 
-ghost use Rattle.std.specs.Prelude.{◌≡◌, ◌≢◌, ℕ, Bool, IfErr, OnOk, Option};
-ghost use Rattle.auction_input.specs.declared.request.Target.{Target};
-ghost use Rattle.byte_sinks.specs.declared.json.Format.{Format};
+ghost use Rattle.std.specs.Prelude.{◌≡◌, ◌≢◌, ℕ, IfErr, OnOk};
+ghost use Rattle.auction_input.specs.declared.request.ExplainOptions.{ExplainOptions};
 ghost use Rattle.answers.specs.Answer.{answer, output_of};
 ghost use Rattle.answers.specs.Exact.{IsUnwritten, Writes};
 ghost use Rattle.answers.specs.FaithfulAnswers.{WritesFaithfulTextOn, WritesFaithfulTextsOn};
@@ -47,7 +46,7 @@ pub fn answer<R: Threads + Wait + Sync + AllocGlobal, S: Sink>(
     out: &mut S,
 ) -> Result<(), Refusal>
     requires limits { IsRequestWithinLimits request }
-    requires answered { (bids : Bool) (command : Option Target) (format : Format) → request ≢ Request.Explain bids command format }
+    requires answered { (options : ExplainOptions) → request ≢ Request.Explain options }
     ensures written { OnOk result (Writes (answer request input.now) (S.state out.old)
         (S.state out.new)) }
     ensures sold { OnOk result (HasSold request input.now) }
@@ -120,11 +119,7 @@ fn write_output<R: Threads + Wait + Sync + AllocGlobal, S: Sink>(
         Request::Map { group } => write_winners(rt, auction, group, out),
         Request::Report { workers } => write_costs(rt, auction, workers, out),
         Request::Verify { workers } => write_verified(rt, auction, workers, out),
-        Request::Explain {
-            bids,
-            target,
-            format,
-        } => write_bids_of(rt, auction, bids, target, format, out),
+        Request::Explain(options) => write_bids_of(rt, auction, options, out),
         Request::Check | Request::Forms => unreachable!(),
     }
 }

@@ -23,10 +23,10 @@ use crate::messages::print_refusal;
 use crate::parser::VERSION;
 use crate::pieces::write_pieces;
 use auction_input::{
-    FilePlace, FileRefusal, Files, Input, Output, Refusal, Request, Source, Target, Unread,
+    ExplainOptions, FilePlace, FileRefusal, Files, Input, Output, Refusal, Request, Source, Unread,
     look_at_files, read_inputs,
 };
-use byte_sinks::{Format, Sink};
+use byte_sinks::Sink;
 use clap::Error;
 use clap::error::ErrorKind;
 use std::alloc::Global;
@@ -194,11 +194,7 @@ fn answer_input<R: Threads + Wait + Sync + AllocGlobal, S: Sink, F: Sink>(
         × (F.state faults.new ≡ F.state faults.old)) }
 {
     match request {
-        Request::Explain {
-            bids,
-            target,
-            format,
-        } => explain_request(rt, bids, target, format, input, out, faults),
+        Request::Explain(options) => explain_request(rt, options, input, out, faults),
         request => match answer(rt, request, input, out) {
             Ok(()) => 0,
             Err(refusal) => {
@@ -213,24 +209,22 @@ fn answer_input<R: Threads + Wait + Sync + AllocGlobal, S: Sink, F: Sink>(
 // with nothing to report.
 fn explain_request<R: Threads + Wait + Sync + AllocGlobal, S: Sink, F: Sink>(
     rt: &R,
-    bids: bool,
-    target: Option<Target>,
-    format: Format,
+    options: ExplainOptions,
     input: &Input,
     out: &mut S,
     faults: &mut F,
 ) -> u8
     ensures status { result ≤ 1 }
-    ensures written { result ≡ 0 → Writes (answer (Request.Explain bids target format) input.now)
+    ensures written { result ≡ 0 → Writes (answer (Request.Explain options) input.now)
         (S.state out.old) (S.state out.new) }
     ensures quiet { result ≡ 0 → F.state faults.new ≡ F.state faults.old }
-    ensures refused { result ≡ 1 → IsReportedSo (IsLeftUnanswered (Request.Explain bids target format) input.now
+    ensures refused { result ≡ 1 → IsReportedSo (IsLeftUnanswered (Request.Explain options) input.now
         (S.state out.old) (S.state out.new)) (F.state faults.old) (F.state faults.new)
-        ⊎ (HasExplainedInput (Request.Explain bids target format) input.now
+        ⊎ (HasExplainedInput (Request.Explain options) input.now
         (S.state out.old) (S.state out.new)
         × (F.state faults.new ≡ F.state faults.old)) }
 {
-    match explain_input(rt, bids, target, format, input, out) {
+    match explain_input(rt, options, input, out) {
         Ok(false) => 0,
         Ok(true) => 1,
         Err(refusal) => {

@@ -22,7 +22,7 @@ abbrev pub target_of : Request → Option Target
 target_of Text = Some target.Text
 target_of Check = None
 target_of (Compile workers) = Some target.Compile
-target_of (Explain bids command format) = command
+target_of (Explain options) = options.target
 target_of (Map group) = Some target.Map
 target_of (Report workers) = Some target.Report
 target_of (Verify workers) = Some target.Verify
@@ -33,7 +33,7 @@ abbrev pub format_of : Request → Format
 format_of Text = Words
 format_of Check = Words
 format_of (Compile workers) = Words
-format_of (Explain bids command format) = format
+format_of (Explain options) = options.format
 format_of (Map group) = Words
 format_of (Report workers) = Words
 format_of (Verify workers) = Words

@@ -31,6 +31,17 @@ impl Target {
     }
 }
 
+/// What `explain` is asked.
+#[derive(Clone, Copy)]
+pub struct ExplainOptions {
+    /// Whether it tells, of an input without a fault, which bids are in no program.
+    pub bids: bool,
+    /// The command as which the input is taken, if one is named.
+    pub target: Option<Target>,
+    /// How faults and bids are printed: as lines in words, or of JSON.
+    pub format: Format,
+}
+
 /// A command with its options.
 #[derive(Clone, Copy)]
 pub enum Request {
@@ -39,28 +50,15 @@ pub enum Request {
     /// The sizes of an MPS text.
     Check,
     /// The programs of all groups, by so many workers.
-    Compile {
-        workers: usize,
-    },
-    /// All faults of an input, as a command takes it if one is named; where there is none, and this is asked for, which bids are in
-    /// no program. Both are printed as lines in words, or of JSON.
-    Explain {
-        bids: bool,
-        target: Option<Target>,
-        format: Format,
-    },
+    Compile { workers: usize },
+    /// All faults of an input, or which of its bids are in no program.
+    Explain(ExplainOptions),
     /// What a solution wins without a group, which counts from 1.
-    Map {
-        group: usize,
-    },
+    Map { group: usize },
     /// What the solutions of all groups win, and the groups' opportunity costs, by so many workers.
-    Report {
-        workers: usize,
-    },
+    Report { workers: usize },
     /// The same, where certificates show that nobody wins more, by so many workers.
-    Verify {
-        workers: usize,
-    },
+    Verify { workers: usize },
     /// The digests of the texts of the rules and of each bidder's last form.
     Forms,
 }
@@ -75,11 +73,7 @@ impl Request {
             Request::Text => Some(Target::Text),
             Request::Check | Request::Forms => None,
             Request::Compile { workers: _ } => Some(Target::Compile),
-            Request::Explain {
-                bids: _,
-                target,
-                format: _,
-            } => target,
+            Request::Explain(options) => options.target,
             Request::Map { group: _ } => Some(Target::Map),
             Request::Report { workers: _ } => Some(Target::Report),
             Request::Verify { workers: _ } => Some(Target::Verify),
@@ -91,11 +85,7 @@ impl Request {
         ensures { result ≡ format_of self.now }
     {
         match *self {
-            Request::Explain {
-                bids: _,
-                target: _,
-                format,
-            } => format,
+            Request::Explain(options) => options.format,
             Request::Text
             | Request::Check
             | Request::Compile { workers: _ }

@@ -1,5 +1,5 @@
 -- What a run leaves of its output where its words ask for no answer, and how its refusal is reported.
-use Rattle.std.specs.Prelude.{◌≡◌, ◌⊎◌, ℕ, Bool, IsErr, List, Option, Result, Some, Ok, Err}
+use Rattle.std.specs.Prelude.{◌≡◌, ◌⊎◌, ℕ, IsErr, List, Option, Result, Some, Ok, Err}
 use Rattle.auction_input.specs.FileLooks.{FindsAgainst}
 use Rattle.auction_input.specs.FileTexts.{IsFound, Shelf}
 use Rattle.auction_input.specs.declared.files.FileFault.{FileFault}
@@ -14,12 +14,11 @@ use Rattle.input_faults.specs.Explained.{IsCutShort}
 use Rattle.input_faults.specs.FaultLines.{explanation}
 use Rattle.input_faults.specs.PlacedText.{placed_line}
 use Rattle.answers.specs.Asked.{Asked, CommandLine}
+use Rattle.auction_input.specs.declared.request.ExplainOptions.{ExplainOptions}
 use Rattle.auction_input.specs.declared.request.Request.{Request}
-use Rattle.auction_input.specs.declared.request.Target.{Target}
 use Rattle.auction_input.specs.declared.request.Request.TheVariants.{Explain}
 use Rattle.answers.specs.Exact.{Ends, IsUnwritten}
 use Rattle.byte_sinks.specs.Sinks.{GoesWhole, Outlet}
-use Rattle.byte_sinks.specs.declared.json.Format.{Format}
 use Rattle.answers.specs.Runs.{AsksAnswer, HasLooked, IsShown, NamesFiles}
 
 -- why the files of a command line aren't there to be read or to be written, by what sending the output to a file finds
@@ -51,10 +50,9 @@ abbrev pub IsLeftUnanswered : Request → Input → Outlet → Outlet → List �
 IsLeftUnanswered asked input before after parsed =
     (r : Refusal) × (parsed ≡ placed_line input.texts r)
     × ((AsksAnswer asked input × IsUnwritten asked input before after r) ⊎
-    ((bids : Bool) × (whose : Option Target) × (format : Format) × (asked ≡ Explain bids whose format) × IsCutShort (explanation asked input) before after r))
+    ((options : ExplainOptions) × (asked ≡ Explain options) × IsCutShort (explanation asked input) before after r))
 
 -- `explain` is asked for, an input with faults is explained, and no put fails
 abbrev pub HasExplainedInput : Request → Input → Outlet → Outlet → Type 0
 HasExplainedInput asked input before after =
-    (bids : Bool) × (whose : Option Target) × (format : Format) × (asked ≡ Explain bids whose format) × IsErr (parsed_taken asked input)
-    × GoesWhole before after (explanation asked input)
+    (options : ExplainOptions) × (asked ≡ Explain options) × IsErr (parsed_taken asked input) × GoesWhole before after (explanation asked input)

@@ -11,7 +11,7 @@ ghost use Rattle.input_faults.specs.Explained.{IsCutShort};
 ghost use Rattle.input_faults.specs.FaultLines.{explanation};
 
 use crate::commands::answer_auction;
-use auction_input::{Auction, Input, Refusal, Request, Target, check_wanted};
+use auction_input::{Auction, ExplainOptions, Input, Refusal, Request, check_wanted};
 use byte_sinks::{Format, Sink};
 use input_faults::explain;
 use presolve::{Reasons, write_left_out};
@@ -22,33 +22,27 @@ use std::thread::Threads;
 /// for each bid that is in no program. Tells whether there is a fault.
 pub fn explain_input<R: Threads + Wait + Sync + AllocGlobal, S: Sink>(
     rt: &R,
-    bids: bool,
-    target: Option<Target>,
-    format: Format,
+    options: ExplainOptions,
     input: &Input,
     out: &mut S,
 ) -> Result<bool, Refusal>
     ensures explained { IfOk result (λ faulty. MatchBool faulty
-        (IsErr (parsed_taken (Request.Explain bids target format) input.now) × GoesWhole (S.state out.old) (S.state out.new) (explanation (Request.Explain bids target format) input.now))
-        (Writes (answer (Request.Explain bids target format) input.now) (S.state out.old) (S.state out.new))) }
+        (IsErr (parsed_taken (Request.Explain options) input.now) × GoesWhole (S.state out.old) (S.state out.new) (explanation (Request.Explain options) input.now))
+        (Writes (answer (Request.Explain options) input.now) (S.state out.old) (S.state out.new))) }
     ensures refused { IfErr result (λ r. IsCutShort
-        (explanation (Request.Explain bids target format) input.now)
+        (explanation (Request.Explain options) input.now)
         (S.state out.old) (S.state out.new) r
-        ⊎ (AsksAnswer (Request.Explain bids target format) input.now
-        × IsUnwritten (Request.Explain bids target format) input.now
+        ⊎ (AsksAnswer (Request.Explain options) input.now
+        × IsUnwritten (Request.Explain options) input.now
         (S.state out.old) (S.state out.new) r)) }
 {
-    let request = Request::Explain {
-        bids,
-        target,
-        format,
-    };
+    let request = Request::Explain(options);
     let faulty = explain(rt.alloc(), &request, input, out)?;
     if faulty {
         return Ok(true);
     }
     // The auction is read for its bids alone: without them nothing is written of it.
-    if !bids {
+    if !options.bids {
         return Ok(false);
     }
     answer_auction(rt, &request, input, out)?;
@@ -62,9 +56,9 @@ fn write_left_out_of<R: Threads + Sync + AllocGlobal, S: Sink>(
     format: Format,
     out: &mut S,
 ) -> Result<(), Refusal>
-    ensures written { OnOk result (Writes (output_of (Request.Explain true None format) (held auction.now))
+    ensures written { OnOk result (Writes (output_of (Request.Explain (record { bids = true; target = None; format = format })) (held auction.now))
         (S.state out.old) (S.state out.new)) }
-    ensures refused { IfErr result (Ends (output_of (Request.Explain true None format) (held auction.now))
+    ensures refused { IfErr result (Ends (output_of (Request.Explain (record { bids = true; target = None; format = format })) (held auction.now))
         (S.state out.old) (S.state out.new)) }
 {
     let reasons = Reasons::new(rt, rt.alloc(), &auction.book)?;
@@ -83,19 +77,17 @@ fn write_left_out_of<R: Threads + Sync + AllocGlobal, S: Sink>(
 pub fn write_bids_of<R: Threads + Sync + AllocGlobal, S: Sink>(
     rt: &R,
     auction: &Auction<'_>,
-    bids: bool,
-    target: Option<Target>,
-    format: Format,
+    options: ExplainOptions,
     out: &mut S,
 ) -> Result<(), Refusal>
-    ensures written { OnOk result (Writes (output_of (Request.Explain bids target format) (held auction.now))
+    ensures written { OnOk result (Writes (output_of (Request.Explain options) (held auction.now))
         (S.state out.old) (S.state out.new)) }
-    ensures refused { IfErr result (Ends (output_of (Request.Explain bids target format) (held auction.now))
+    ensures refused { IfErr result (Ends (output_of (Request.Explain options) (held auction.now))
         (S.state out.old) (S.state out.new)) }
 {
-    check_wanted(target, auction)?;
-    if bids {
-        return write_left_out_of(rt, auction, format, out);
+    check_wanted(options.target, auction)?;
+    if options.bids {
+        return write_left_out_of(rt, auction, options.format, out);
     }
     Ok(())
 }

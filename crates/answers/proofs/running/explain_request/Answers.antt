@@ -7,6 +7,6 @@ returns-in-Err-clause-refused g c = λ one.
     let r = c.in-Err.refusal in
     let is = ap (λ texts. placed_line texts r) c.texts.ensures in
     elim (c.in-Err.ensures.refused) [
-      | inl cut ↦ inl (placed_line c.texts.result.now r, (r, is, inr (c.args.bids, c.args.target, c.args.format, refl, cut)), c.print_refusal.ensures)
+      | inl cut ↦ inl (placed_line c.texts.result.now r, (r, is, inr (c.args.options, refl, cut)), c.print_refusal.ensures)
       | inr unwritten ↦ inl (placed_line c.texts.result.now r, (r, is, inl unwritten), c.print_refusal.ensures)
     ]

@@ -16,7 +16,7 @@ use Rattle.answers.proofs.commands.explain.write_left_out_of.Goals as goal
 pub returns-in_err-reasons-clause-refused : goal.returns-in_err-reasons-clause-refused
 returns-in_err-reasons-clause-refused g c =
     let before = g.S.Sink.state c.args.out.now in
-    if-err-of (Ends (output_of (request.Explain true None c.args.format) (held c.args.auction.now)) before before) c.from_residual.result
+    if-err-of (Ends (output_of (request.Explain (record { bids = true; target = None; format = c.args.format })) (held c.args.auction.now)) before before) c.from_residual.result
     refusal.OutOfMemory c.from_residual.ensures.1 (by_refusal (inr refl) refl)
 
 pub returns-clause-written : goal.returns-clause-written
@@ -44,7 +44,7 @@ returns-in_err-write_left_out-clause-refused g c =
     let same : left_out_lines c.args.format c.rules.result.now c.as_slice.result.now c.in_ok-reasons.reasons ≡ text =
     ap₂ (λ t reasons. left_out_lines c.args.format t c.as_slice.result.now reasons) c.rules.ensures.rules c.in_ok-reasons.ensures
     ∙ ap (λ (bs : List ℕ). left_out_lines c.args.format book.rules bs (reasons_of (lots_in book.rules) (book_of book))) c.as_slice.ensures.value in
-    if-err-of (Ends (output_of (request.Explain true None c.args.format) (held c.args.auction.now)) before after)
+    if-err-of (Ends (output_of (request.Explain (record { bids = true; target = None; format = c.args.format })) (held c.args.auction.now)) before after)
     c.from_residual-in_err-write_left_out.result (refusal.Write f) c.from_residual-in_err-write_left_out.ensures.1
     (cut-short _ text before after f refl (subst (λ (bytes : List ℕ). GoesInPart before after bytes (written_of f)) same
     c.in_err-write_left_out.ensures))
