@@ -1,7 +1,7 @@
 -- What certificates come to, one after the other.
 use Rattle.std.proofs.Common.{◌≡◌, ◌≢◌, ◌<◌, ◌≤◌, ◌+◌, ◌∷◌, ◌∙◌, [], ⊎_elim, ℕ, zero, suc, true, false, List, Option, Some}
 use Rattle.std.proofs.Common.{Result, Ok, Err, ap, arith, length, map, refl, replicate, slice_index_or, subst, sym, take}
-use Rattle.std.proofs.Common.{inl, inr, ◌==◌, ◌⊎◌, IfErr, OnOk, slice_get, ℤ, option_map}
+use Rattle.std.proofs.Common.{inl, inr, ◌==◌, ◌⊎◌, IfErr, OnOk, slice_get, option_map}
 use Rattle.std.specs.List.{AllZip}
 use Rattle.std.proofs.lemmas.Bool.{cases_lt, eq-eqb, ne_eqb}
 use Rattle.std.proofs.lemmas.List.{get_or_default, length-map}
@@ -11,11 +11,10 @@ use Rattle.group_compiler.specs.Compiled.{Compiling, compiling, program_without}
 use Rattle.optimality.specs.Answers.{IsLimit}
 use Rattle.optimality.specs.Sizes.{IsLargeAt}
 use Rattle.optimality.specs.Verdict.{certificate_fault}
-use Rattle.program_rows.specs.Program.{Table}
 use Rattle.program_rows.specs.declared.certificate_fault.CertificateFault.{CertificateFault}
 use Rattle.program_rows.specs.declared.certificate_fault.CertificateFaultKind.{CertificateFaultKind}
 use Rattle.program_rows.specs.declared.certificate_fault.CertificateFaultKind.TheVariants as kind
-use Rattle.answers.specs.Certified.{IsTooWide, bounds_of, certified, shown}
+use Rattle.answers.specs.Certified.{Bound, IsTooWide, bounds_of, certified, shown}
 use Rattle.auction_input.specs.Refused.{Refuses}
 use Rattle.auction_input.specs.declared.refusal.Refusal.{Refusal}
 use Rattle.auction_input.specs.Settled.{held}
@@ -28,9 +27,6 @@ use Rattle.auction_input.specs.declared.part_kind.PartKind.TheVariants as part
 use Rattle.auction_input.specs.declared.refusal.Refusal.TheVariants as refusal
 use Rattle.auction_input.proofs.InputTextFacts.{Text}
 use Rattle.auction_input.proofs.StageFacts.{stop}
-
-abbrev Bound : Type 0
-Bound = Table × ℤ × List ℕ
 
 abbrev Verdict : Type 0
 Verdict = Result (Unit {0}) CertificateFault
@@ -58,7 +54,7 @@ all-shown book n (b ∷ bounds) fine =
 -- how a list of bounds ends at the first fault, which has number m
 data Stops (n : ℕ) (bounds : List Bound) (before : ℕ) (f : CertificateFault) : Type 0 where
   by_memory : f.kind ≡ kind.OutOfMemory → Stops n bounds before f
-  by_width : f.kind ≡ kind.TooLarge → (bound : Bound) → slice_get bounds before ≡ Some bound → IsLargeAt bound.0 bound.1 bound.2 f.line
+  by_width : f.kind ≡ kind.TooLarge → (bound : Bound) → slice_get bounds before ≡ Some bound → IsLargeAt bound.program bound.least bound.certificate f.line
       → each_in_turn shown n (take before bounds) ≡ Ok (replicate before tt) → Stops n bounds before f
   by_fault : each_in_turn shown n bounds ≡ Err (refusal.Certificate (n + before) f) → Stops n bounds before f
 

@@ -1,6 +1,6 @@
 -- What certificates show of what groups win.
 use Rattle.std.proofs.Common.{◌≡◌, ◌≤◌, ◌+◌, ◌++◌, ◌==◌, ◌∷◌, ◌∙◌, [], ℕ, true, false, List, Option, None, Some, Result, Ok}
-use Rattle.std.proofs.Common.{Err, IfSome, ◌≢◌, ap, ap₂, arith, eqb-true, length, map, refl, subst, sym, OnOk, ℤ, codes}
+use Rattle.std.proofs.Common.{Err, IfSome, ◌≢◌, ap, ap₂, arith, eqb-true, length, map, refl, subst, sym, OnOk, codes}
 use Rattle.std.proofs.Common.{slice_index_or, option_map}
 use Rattle.auction_input.specs.Input.{Input}
 use Rattle.std.specs.List.{AllZip, zip}
@@ -30,7 +30,7 @@ use Rattle.program_rows.specs.Program.{Table}
 use Rattle.auction_input.specs.Auction.{Auction, parsed_auction}
 use Rattle.byte_sinks.specs.Sinks.{Outlet}
 use Rattle.answers.specs.Programs.{program_for}
-use Rattle.answers.specs.Certified.{bound_of, bounds_of, certified, shown}
+use Rattle.answers.specs.Certified.{Bound, bound_of, bounds_of, certified, shown}
 use Rattle.answers.specs.Answer.{answer, output_of}
 use Rattle.auction_terms.specs.Stages.{and_then, each_in_turn, refused_as}
 use Rattle.answers.specs.Exact.{Writes}
@@ -57,13 +57,14 @@ use Rattle.answers.proofs.OthersFacts.{all-of, claims-hold, no-fault, only-of, s
 -- ---- one group
 
 -- a bound that is shown is one
-shown-bound : (number : ℕ) (bound : Table × ℤ × List ℕ) (u : Unit {0}) → shown number bound ≡ Ok u → IsBound bound.0 bound.1
+shown-bound : (number : ℕ) (bound : Bound) (u : Unit {0}) → shown number bound ≡ Ok u → IsBound bound.program bound.least
 shown-bound number bound u parsed =
     let refuse = λ (f : ℕ × CertificateFaultKind). refusal.Certificate number (record { line = f.0; kind = f.1 }) in
-    let none = (unless-ok (option_map refuse (certificate_fault bound.0 bound.1 bound.2)) tt u parsed).0 in
-    let faultless : certificate_fault bound.0 bound.1 bound.2 ≡ None = no-fault refuse (certificate_fault bound.0 bound.1 bound.2) none in
-    let (certificate, tells, shows) = (verdict bound.0 bound.1 bound.2).0 faultless in
-    shown-is-bound bound.0 bound.1 certificate shows
+    let none = (unless-ok (option_map refuse (certificate_fault bound.program bound.least bound.certificate)) tt u parsed).0 in
+    let faultless : certificate_fault bound.program bound.least bound.certificate ≡ None =
+    no-fault refuse (certificate_fault bound.program bound.least bound.certificate) none in
+    let (certificate, tells, shows) = (verdict bound.program bound.least bound.certificate).0 faultless in
+    shown-is-bound bound.program bound.least certificate shows
 
 -- what is won without a group, of which a bound is shown, is of greatest total
 greatest-of : (sale : Sale) (number : ℕ) (group text certificate : List ℕ) (a : List Choice) (u : Unit {0}) → IsBook sale.lots sale.book

@@ -18,19 +18,32 @@ use Rattle.program_rows.specs.declared.certificate_fault.CertificateFaultKind.{C
 use Rattle.bid_desk.specs.Sale.{Sale}
 use Rattle.program_rows.specs.Program.{Table}
 
--- what the certificate of a group is to show of what is won without the group: a program, the objective below which it has no point, and the certificate
-abbrev pub bound_of : Sale → (List ℕ × List Choice) × List ℕ → Table × ℤ × List ℕ
-bound_of sale item = (program_for sale item.0.0, neg_ℤ (pos (total sale.lots sale.book item.0.1)), item.1)
+-- what the certificate of a group is to show: that no point of a program has an objective below the least one
+pub record Bound : Type 0 where
+  -- the program of all bidders but those of the group
+  pub program : Table
+  -- minus the total of what is won without the group: no point is to have an objective below it
+  pub least : ℤ
+  -- the text that is to show it
+  pub certificate : List ℕ
+
+-- what the certificate of a group is to show of what is won without the group
+abbrev pub bound_of : Sale → (List ℕ × List Choice) × List ℕ → Bound
+bound_of sale item = record {
+  program = program_for sale item.0.0;
+  least = neg_ℤ (pos (total sale.lots sale.book item.0.1));
+  certificate = item.1;
+}
 
 -- what the certificates of all groups are to show of what is won without each group, group by group
-abbrev pub bounds_of : Auction → List (List Choice) → List (Table × ℤ × List ℕ)
+abbrev pub bounds_of : Auction → List (List Choice) → List Bound
 bounds_of auction won = map (bound_of auction.sale) (zip (zip auction.groups won) auction.certificates)
 
 -- the certificate of this number shows what it is to, or has a first fault
-abbrev pub shown : ℕ → Table × ℤ × List ℕ → Result (Unit {0}) Refusal
+abbrev pub shown : ℕ → Bound → Result (Unit {0}) Refusal
 shown number bound =
     let refused : ℕ × CertificateFaultKind → Refusal = λ f. refusal.Certificate number (record { line = f.0; kind = f.1 }) in
-    unless (option_map refused (certificate_fault bound.0 bound.1 bound.2)) (Ok tt)
+    unless (option_map refused (certificate_fault bound.program bound.least bound.certificate)) (Ok tt)
 
 -- what the groups win, where there is a certificate for each, and each shows what it is to
 abbrev pub certified : Auction → List (List Choice) → Result (List (List Choice)) Refusal
@@ -39,8 +52,9 @@ certified auction won =
     else Err (refusal.PartCount part.Certificate)
 
 -- after some certificates that show what they are to comes one that isn't judged, since the leaf at this line has a size of 2^126 or more
-abbrev pub IsTooWide : List (Table × ℤ × List ℕ) → Refusal → Type 0
+abbrev pub IsTooWide : List Bound → Refusal → Type 0
 IsTooWide bounds r =
-    (before : ℕ) × (line : ℕ) × (bound : Table × ℤ × List ℕ) × (slice_get bounds before ≡ Some bound)
+    (before : ℕ) × (line : ℕ) × (bound : Bound) × (slice_get bounds before ≡ Some bound)
     × ((all : List (Unit {0})) × (each_in_turn shown 1 (take before bounds) ≡ Ok all))
-    × IsLargeAt bound.0 bound.1 bound.2 line × (r ≡ refusal.Certificate (before + 1) (record { line = line; kind = certificate.TooLarge }))
+    × IsLargeAt bound.program bound.least bound.certificate line
+    × (r ≡ refusal.Certificate (before + 1) (record { line = line; kind = certificate.TooLarge }))

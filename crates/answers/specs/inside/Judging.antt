@@ -1,5 +1,5 @@
 -- What the code holds of certificates while it judges them.
-use Rattle.std.specs.Prelude.{◌≡◌, ◌+◌, ◌<◌, ℕ, ℤ, List, Option, Result, Ok, Err, IfErr, IfSome, length, map, slice_index_or}
+use Rattle.std.specs.Prelude.{◌≡◌, ◌+◌, ◌<◌, ℕ, List, Option, Result, Ok, Err, IfErr, IfSome, length, map, slice_index_or}
 use Rattle.std.specs.List.{zip}
 use Rattle.auction_input.specs.declared.refusal.Refusal.{Refusal}
 use Rattle.auction_terms.specs.Stages.{each_in_turn}
@@ -9,20 +9,19 @@ use Rattle.bid_desk.specs.Closing.{Closing}
 use Rattle.bid_desk.specs.Sale.{sale_of}
 use Rattle.group_compiler.specs.Compiled.{program_without}
 use Rattle.optimality.specs.Answers.{IsVerdict}
-use Rattle.program_rows.specs.Program.{Table}
 use Rattle.optimality.specs.Sizes.{IsLargeAt}
 use Rattle.optimality.specs.Verdict.{certificate_fault}
 use Rattle.program_rows.specs.declared.certificate_fault.CertificateFault.{CertificateFault}
 use Rattle.program_rows.specs.declared.certificate_fault.CertificateFaultKind.TheVariants.{TooLarge}
-use Rattle.answers.specs.Certified.{bound_of, shown}
+use Rattle.answers.specs.Certified.{Bound, bound_of, shown}
 use Rattle.answers.specs.declared.certified.ClaimedBound as declared
 
 -- the value of a bound that the code holds
-abbrev pub bound_held : Closing → declared.ClaimedBound → Table × ℤ × List ℕ
-bound_held book b = (program_without book b.group.now, b.least, b.certificate.now)
+abbrev pub bound_held : Closing → declared.ClaimedBound → Bound
+bound_held book b = record { program = program_without book b.group.now; least = b.least; certificate = b.certificate.now }
 
 -- what the certificates of groups are to show of allocations
-abbrev pub bounds_by : Closing → List (List ℕ) → List (List Choice) → List (List ℕ) → List (Table × ℤ × List ℕ)
+abbrev pub bounds_by : Closing → List (List ℕ) → List (List Choice) → List (List ℕ) → List Bound
 bounds_by book groups won certificates = map (bound_of (sale_of book)) (zip (zip groups won) certificates)
 
 -- this is what a certificate comes to, or a limit stands in its place: want of memory, or the line of a leaf of size 2^126 or more
@@ -31,7 +30,7 @@ pub record IsJudged (book : Closing) (b : declared.ClaimedBound) (verdict : Resu
   pub large : IfErr verdict (λ fault. fault.kind ≡ TooLarge → IsLargeAt (program_without book b.group.now) b.least b.certificate.now fault.line)
 
 -- each certificate shows what it is to
-abbrev pub AllShown : List (Table × ℤ × List ℕ) → Type 0
+abbrev pub AllShown : List Bound → Type 0
 AllShown bounds = (all : List (Unit {0})) × (each_in_turn shown 1 bounds ≡ Ok all)
 
 -- this is what a certificate comes to, where it was judged
