@@ -38,14 +38,15 @@ output_of (Map k) auction =
 -- what the solutions win, group by group, and what each group costs the others
 output_of (Report workers) auction =
     and_then (winners_of_groups auction) (λ won. Ok (report_text auction.sale auction.groups won))
--- the same where certificates show that no allocation has a higher total, and after it what the winners pay and what is known of other awards
+-- where certificates show that no allocation has a higher total, what the solutions win and what each group costs the others, then what the
+-- winners pay and what is known of other awards
 output_of (Verify workers) auction =
     and_then (and_then (winners_of_groups auction) (certified auction)) (λ won.
     and_then (parsed_claims auction (slice_index_or won 0 [])) (λ others.
     and_then (parsed_pricing auction won) (λ pricing.
     Ok (report_text auction.sale auction.groups won ++ (pricing_text auction.sale (slice_index_or won 0 []) pricing ++ others_text auction.sale others)))))
--- nothing is wrong, and so nothing is written, unless it is asked which bids no program has, and why; an auction that hasn't got what the
--- command that is named wants is refused
+-- where nothing is wrong `explain` writes nothing, unless it is asked which bids no program has, and why; it refuses an auction that hasn't
+-- got what the command that is named wants
 output_of (Explain options) auction =
     and_then (wanted options.target auction) (λ taken. Ok (if options.bids then left_out_lines options.format auction.rules auction.form_bidders
     (reasons_of auction.sale.lots auction.sale.book) else []))

@@ -57,7 +57,8 @@ pub enum Request {
     Map { group: usize },
     /// What the solutions of all groups win, and the groups' opportunity costs, by so many workers.
     Report { workers: usize },
-    /// The same, where certificates show that nobody wins more, by so many workers.
+    /// What the solutions of all groups win, and the groups' opportunity costs, where certificates show that nobody wins more, by so
+    /// many workers.
     Verify { workers: usize },
     /// The digests of the texts of the rules and of each bidder's last form.
     Forms,
