@@ -11,6 +11,7 @@ use Rattle.auction_input.specs.Auction.{Auction, parsed_auction}
 use Rattle.auction_input.specs.Settled.{RefusesAuction}
 use Rattle.auction_input.specs.Sold.{IsSold}
 use Rattle.auction_input.specs.declared.refusal.Refusal.{Refusal}
+use Rattle.auction_input.proofs.DescribedFacts.{described-auction}
 use Rattle.auction_input.proofs.StageFacts.{refuses-as, stop}
 use Rattle.auction_terms.specs.Stages.{and_then}
 use Rattle.auction_input.specs.declared.request.Request.{Request}
@@ -25,14 +26,14 @@ by-auction asked input some settled = refl
 
 meets-limit : (asked : Request) (input : Input) (auction : Auction) (r : Refusal) → parsed_auction asked input ≡ Ok auction
     → IsBeyondLimit asked auction r → MeetsLimit asked input r
-meets-limit (request.Verify workers) input auction r parsed beyond = (auction, parsed, beyond)
+meets-limit (request.Verify workers) input auction r parsed beyond = (auction, (described-auction (request.Verify workers) input auction).0 parsed, beyond)
 meets-limit asked input auction r parsed beyond = absurd beyond
 
 -- the auction that was read, with texts that are faithful to it
 pub has-sold : (asked : Request) (input : Input) (auction : Auction) → IsSold asked input auction → HasSold asked input
 has-sold request.Check input auction sold = tt
 has-sold request.Forms input auction sold = tt
-has-sold asked input auction sold = (auction, sold, faithful-without asked input auction sold.parsed)
+has-sold asked input auction sold = (auction, sold, faithful-without asked input auction ((described-auction asked input auction).1 sold.described))
 
 module _ (asked : Request) (input : Input) (some : asked ≢ request.Check) (settled : asked ≢ request.Forms) where
   -- the auction isn't there

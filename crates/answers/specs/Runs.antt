@@ -68,14 +68,14 @@ pub data IsRefused (shelf : Shelf) (asked : CommandLine) (before after : Outside
   by_output : (name : List ℕ) → (fault : FileFault) → asked.output ≡ Some name → IsFound (before.sendable name) (Err fault) → HasLooked shelf asked
       → after.left ≡ before.left → after.output ≡ before.output
       → IsRefused shelf asked before after (refusal_line asked (record { file = place.Written; fault = fault }))
-  -- not all is read, and nothing is written
+  -- not all of the input is read, and nothing is written
   by_input : (f : Unread) → HasLooked shelf asked → IsUnread shelf asked.files f before.left after.left before.failed_reads after.failed_reads
       → after.output ≡ begun asked.output before.output → IsRefused shelf asked before after (unread_line asked f)
   -- the answer that is asked of what was read isn't written
   by_text : {r : Refusal} → HasLooked shelf asked → (input : Input) → Reads shelf asked before.left after.left input → AsksAnswer asked.request input
       → IsUnwritten asked.request input (begun asked.output before.output) after.output r
       → IsRefused shelf asked before after (placed_line input.texts r)
-  -- or not all lines of its faults are
+  -- not all lines of the faults of what was read are written
   by_lines : {r : Refusal} → (options : ExplainOptions) → asked.request ≡ Explain options → HasLooked shelf asked → (input : Input)
       → Reads shelf asked before.left after.left input
       → IsCutShort (explanation asked.request input) (begun asked.output before.output) after.output r

@@ -15,7 +15,6 @@ use Rattle.auction_input.specs.Input.{Input}
 use Rattle.auction_terms.specs.FirstFault.{first_fault}
 use Rattle.auction_input.specs.Refused.{Refuses}
 use Rattle.auction_input.specs.declared.refusal.Refusal.{Refusal}
-use Rattle.auction_input.specs.Settled.{RefusesAuction}
 use Rattle.auction_terms.specs.Lines.{bytes_of}
 use Rattle.auction_input.specs.Parts.{Part, TellsParts, parts_held, parts_named, input_parts, text_numbers}
 use Rattle.auction_input.specs.ParsedParts.{only_text, parsed_parts}
@@ -165,18 +164,6 @@ module _ (asked : Request) (input : Input) (last_wins : Bool) (same : input.last
   pub parsed-is : (t : Terms) (forms : List Offers) (groups : List (List ℕ)) (parsed : Tell last_wins parts t forms groups)
       → parsed_auction asked input ≡ Ok (auction_of t forms groups (rest_in parts))
   parsed-is t forms groups parsed = auction-is t parsed.rules forms parsed.each parsed.alone groups parsed.known parsed.accepted
-
-  -- a round that leaves no book leaves no auction
-  pub run-refused : asked ≢ request.Check → (r : Refusal) → RefusesRun last_wins parts r → RefusesAuction asked input r
-  run-refused reads r (inl refused) = inl (refused asked input same cut)
-  run-refused reads r (inr unanswered) =
-      inr (
-        reads,
-        auction_of unanswered.t unanswered.forms unanswered.groups (rest_in
-            parts),
-        parsed-is unanswered.t unanswered.forms unanswered.groups unanswered.parsed,
-        unanswered.is,
-      )
 
 -- what the round leaves is a matter of the desk, or of memory
 pub round-refused : (last_wins : Bool) (parts : List Part) (t : Terms) (forms : List Offers) (groups : List (List ℕ))

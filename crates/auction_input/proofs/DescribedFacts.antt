@@ -5,7 +5,7 @@ use Rattle.std.proofs.lemmas.Bool.{cases_Bool, eq-eqb, eqb-true, ltb-false, ltb-
 use Rattle.std.proofs.lemmas.Bool.Decides.{leb_tells}
 use Rattle.std.proofs.lemmas.List.Elements.{All-cons, All-head, All-nil, All-tail, filter-append}
 use Rattle.std.proofs.lemmas.List.Kept.{AllPairs-cons}
-use Rattle.std.specs.Prelude.{◌↔◌, ◌||◌, All, AllPairs, if◌then◌else◌, not}
+use Rattle.std.specs.Prelude.{◌↔◌, ◌≢◌, ◌||◌, All, AllPairs, if◌then◌else◌, not}
 use Rattle.std.specs.List.{AllZip, list_any, zip}
 use Rattle.std.specs.Option.{option_or}
 use Rattle.std.specs.Str.{bytes_eq}
@@ -27,13 +27,14 @@ use Rattle.bid_forms.specs.declared.form_text.FormFault.TheVariants as form_faul
 use Rattle.auction_input.specs.Auction.{Auction, parsed_auction}
 use Rattle.auction_input.specs.BookLeft.{sale_left}
 use Rattle.auction_input.specs.CallLimit.{one_too_many}
-use Rattle.auction_input.specs.Described.{AreInOneText, Describes, HasKnownName, HasPartsFor, IsInParts, IsTextOfForm, IsTextOfGroups, IsTextOfRules, texts_named}
+use Rattle.auction_input.specs.Described.{AreInOneText, Describes, HasForms, HasKnownName, HasPartsFor, IsInParts, IsTextOfForm, IsTextOfGroups, IsTextOfRules, texts_named}
 use Rattle.auction_input.specs.FormTexts.{another, another_form, elsewhere, first_text, form_elsewhere, in_one_text}
 use Rattle.auction_input.specs.Input.{NamedText, Input}
 use Rattle.auction_input.specs.ParsedParts.{only_text, parsed_parts}
 use Rattle.auction_input.specs.ParsedTexts.{form_in, parsed_form, parsed_groups, parsed_terms}
 use Rattle.auction_input.specs.Parts.{Part, bytes_before, cut_lines, has_bytes_before, input_fault, input_parts, part_fault, part_names, parts_named, text_numbers, unknown_part}
 use Rattle.auction_input.specs.Plan.{miscounted, taken_by}
+use Rattle.auction_input.specs.Settled.{RefusesAuction}
 use Rattle.auction_input.specs.Submissions.{forms_of}
 use Rattle.auction_input.specs.declared.part_kind.PartKind.TheVariants as kind
 use Rattle.auction_input.specs.declared.parts.PartFault.{PartFault}
@@ -41,9 +42,10 @@ use Rattle.auction_input.specs.declared.parts.PartFault.TheVariants as fault
 use Rattle.auction_input.specs.declared.refusal.Refusal.{Refusal}
 use Rattle.auction_input.specs.declared.refusal.Refusal.TheVariants as refusal
 use Rattle.auction_input.specs.declared.request.Request.{Request}
-use Rattle.auction_input.specs.inside.Auctions.{bidders_of}
+use Rattle.auction_input.specs.declared.request.Request.TheVariants as request
+use Rattle.auction_input.specs.inside.Auctions.{RefusesRun, Tell, bidders_of}
 use Rattle.auction_input.proofs.AnswerFacts.{ok-after, ok-is, ok-refused_as, unless-ok}
-use Rattle.auction_input.proofs.AuctionFacts.{auction-is}
+use Rattle.auction_input.proofs.AuctionFacts.{auction-is, parsed-is}
 use Rattle.auction_input.proofs.CallFacts.{call-left}
 use Rattle.auction_input.proofs.RecordFacts.{neither}
 use Rattle.auction_input.proofs.FormTextFacts.{first-text-known, first-text-more, first-text-own}
@@ -392,13 +394,12 @@ read-after asked input auction has read_after =
     let (groups, groups_are, more_calls) = ok-after (parsed_groups t groups_text) _ auction more_groups in
     let whole : Auction = auction_with parts t forms groups in
     let (few, is) = unless-ok (first_fault one_too_many [] forms) whole auction (ok-refused_as refusal.CallLimit _ auction more_calls) in
-    let each : AllZip (IsTextOfForm t) form_texts read = read-forms t 1 form_texts read read_are in
     let described : Describes asked input whole = record {
       parts = has;
       rules = read-rules rules_text t t_is;
       forms = forms;
       forms_are = record {
-        each = subst (λ (fs : List Offers). AllZip (IsTextOfForm t) form_texts fs) same each;
+        each = subst (λ (fs : List Offers). AllZip (IsTextOfForm t) form_texts fs) same (read-forms t 1 form_texts read read_are);
         together = together;
         few = none-few [] forms few (λ b. omega arith);
       };
@@ -435,3 +436,28 @@ described-read asked input auction it =
 
 pub described-auction : (asked : Request) (input : Input) (auction : Auction) → parsed_auction asked input ≡ Ok auction ↔ Describes asked input auction
 described-auction asked input auction = (read-described asked input auction, described-read asked input auction)
+
+-- ---------- a round ----------
+
+module _ (asked : Request) (input : Input) (last_wins : Bool) (same : input.last_wins ≡ last_wins) (parts : List Part)
+    (cut : parsed_parts asked input ≡ Ok parts) where
+  -- the forms that parts describe are those of the input
+  pub has-forms : (t : Terms) (forms : List Offers) (groups : List (List ℕ)) → Tell last_wins parts t forms groups → HasForms t input forms
+  has-forms t forms groups told =
+      let numbers : List ℕ = text_numbers (codes "%form") parts in
+      let alone = read-together t last_wins numbers forms forms (rw told.alone refl) in
+      let (is, _) = read-parts asked input parts cut in
+      let each = read-forms t 1 (parts_named (codes "%form") parts) forms told.each in
+      record {
+        each = rw is each;
+        together = λ one. rw is (alone.1 (sym same ∙ one));
+        few = none-few [] forms told.accepted (λ b. omega arith);
+      }
+
+  -- a round that leaves no book leaves no auction
+  pub run-refused : asked ≢ request.Check → (r : Refusal) → RefusesRun last_wins parts r → RefusesAuction asked input r
+  run-refused reads r (inl refused) = inl (refused asked input same cut)
+  run-refused reads r (inr unanswered) =
+      let auction = auction_with parts unanswered.t unanswered.forms unanswered.groups in
+      let parsed = parsed-is asked input last_wins same parts cut unanswered.t unanswered.forms unanswered.groups unanswered.parsed in
+      inr (reads, auction, read-described asked input auction parsed, unanswered.is)

@@ -1,20 +1,17 @@
 -- What an input leaves: an auction that is settled, or the first refusal.
-use Rattle.std.specs.Prelude.{◌≡◌, ◌≢◌, ◌⊎◌, ℕ, List, Ok, codes}
+use Rattle.std.specs.Prelude.{◌≡◌, ◌≢◌, ◌⊎◌, List}
 use Rattle.auction_input.specs.Auction.{Auction, parsed_auction}
 use Rattle.auction_terms.specs.Lines.{bytes_of}
+use Rattle.auction_input.specs.Described.{Describes, HasForms}
 use Rattle.auction_input.specs.Input.{Input}
-use Rattle.auction_input.specs.Parts.{Part, parts_named}
-use Rattle.auction_input.specs.ParsedParts.{only_text, parsed_parts}
 use Rattle.auction_input.specs.Refused.{Refuses}
 use Rattle.auction_input.specs.Submissions.{AreSubmitted}
-use Rattle.auction_input.specs.ParsedTexts.{parsed_form, parsed_terms}
 use Rattle.auction_input.specs.declared.auction.Auction as declared
 use Rattle.auction_input.specs.declared.refusal.Refusal.TheVariants as refusal
 use Rattle.auction_input.specs.declared.refusal.Refusal.{Refusal}
 use Rattle.auction_input.specs.declared.request.Request.TheVariants as request
 use Rattle.auction_input.specs.declared.request.Request.{Request}
 use Rattle.auction_input.specs.declared.round.RoundFault.TheVariants as round
-use Rattle.auction_terms.specs.Stages.{each_in_turn}
 use Rattle.bid_desk.specs.Closing.{Closing}
 use Rattle.bid_forms.specs.Offers.{Offers}
 use Rattle.bid_desk.specs.Sale.{sale_of}
@@ -38,20 +35,17 @@ held auction = record {
   rule_texts = bytes_of auction.rule_texts.items;
 }
 
--- the auction, which the request reads, is accepted, and yet a wrong answer of the desk is reported: that it gave one isn't said, since
+-- the input describes an auction, which the request reads, and yet a wrong answer of the desk is reported: that it gave one isn't said, since
 -- nothing is known of what a lock gives
 abbrev pub IsUnsettled : Request → Input → Refusal → Type 0
-IsUnsettled asked input r = (asked ≢ request.Check) × (auction : Auction) × (parsed_auction asked input ≡ Ok auction) × (r ≡ refusal.Round round.WrongAnswer)
+IsUnsettled asked input r = (asked ≢ request.Check) × (auction : Auction) × Describes asked input auction × (r ≡ refusal.Round round.WrongAnswer)
 
 -- why an input leaves no settled auction
 abbrev pub RefusesAuction : Request → Input → Refusal → Type 0
 RefusesAuction asked input r = Refuses (parsed_auction asked input) r ⊎ IsUnsettled asked input r
 
--- a book holds the forms that the input describes, which were submitted in their order under the rules that it describes
-pub record HoldsForms (asked : Request) (input : Input) (book : Closing) : Type 0 where
-  pub parts : List Part
+-- a book holds the forms of an input, which were submitted in their order under its rules
+pub record HoldsForms (input : Input) (book : Closing) : Type 0 where
   pub forms : List Offers
-  pub parts_are : parsed_parts asked input ≡ Ok parts
-  pub rules_are : parsed_terms (only_text (parts_named (codes "%rules") parts)) ≡ Ok book.rules
-  pub forms_are : each_in_turn (parsed_form book.rules) 1 (parts_named (codes "%form") parts) ≡ Ok forms
+  pub forms_are : HasForms book.rules input forms
   pub submitted : AreSubmitted forms book

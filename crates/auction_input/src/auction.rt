@@ -202,7 +202,7 @@ pub fn read_auction<'t, R: Threads + Wait + Sync + AllocGlobal>(
 ) -> Result<Auction<'t>, Refusal>
     requires { request.now ≢ Request.Check }
     ensures parsed { IfOk result (λ auction. parsed_auction request.now input.now ≡ Ok (held auction)) }
-    ensures submitted { IfOk result (λ auction. HoldsForms request.now input.now auction.book) }
+    ensures submitted { IfOk result (λ auction. HoldsForms input.now auction.book) }
     ensures sold { IfOk result (λ auction. IsSold request.now input.now (held auction)) }
     ensures refuses { IfErr result (RefusesAuction request.now input.now) }
 {

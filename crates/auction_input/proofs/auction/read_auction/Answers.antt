@@ -5,7 +5,8 @@ use Rattle.auction_input.specs.Settled.{RefusesAuction}
 use Rattle.auction_input.specs.declared.parts.Part as declared
 use Rattle.auction_input.specs.declared.refusal.Refusal.TheVariants as refusal
 use Rattle.auction_input.specs.inside.Auctions.{HasRun, HoldTexts, RefusesRun}
-use Rattle.auction_input.proofs.AuctionFacts.{auction-held, rest-same, rest_in, run-refused, sold, parsed-is}
+use Rattle.auction_input.proofs.AuctionFacts.{auction-held, rest-same, rest_in, sold, parsed-is}
+use Rattle.auction_input.proofs.DescribedFacts.{described-auction, has-forms, run-refused}
 use Rattle.auction_input.proofs.StageFacts.{stop}
 use Rattle.bid_desk.specs.Sale.{sale_of}
 use Rattle.auction_input.proofs.StepFacts.{if-err-of}
@@ -55,11 +56,9 @@ returns-clause-submitted g c =
     let groups = c.in_ok-book.field-0.groups in
     let run = subst (λ (xs : Parts). HasRun c.last_wins.result (parts_held xs) book bidders groups) c.as_slice-2.ensures.value c.in_ok-book.ensures.parsed in
     record {
-      parts = parts_held c.in_ok-parts.parts.items;
       forms = run.forms;
-      parts_are = c.in_ok-parts.ensures.parsed;
-      rules_are = run.parsed.rules;
-      forms_are = run.parsed.each;
+      forms_are = has-forms c.args.request.now c.args.input.now _ (sym c.last_wins.ensures) (parts_held c.in_ok-parts.parts.items)
+          c.in_ok-parts.ensures.parsed book.rules run.forms groups run.parsed;
       submitted = run.submitted;
     }
 
@@ -67,9 +66,10 @@ pub returns-clause-sold : goal.returns-clause-sold
 returns-clause-sold g c =
     let book = c.in_ok-book.field-0.book in
     record {
-      parsed = returns-clause-parsed g c;
+      described = (described-auction c.args.request.now c.args.input.now _).0 (returns-clause-parsed g c);
       book = book;
       closed = c.well_formed-2.ensures.closing;
       holds = returns-clause-submitted g c;
+      rules_are = refl;
       sale_is = refl;
     }
