@@ -110,8 +110,8 @@ own-costs : (sale : Sale) (first : List Choice) → IsGreatest sale.lots sale.bo
     → (groups : List (List ℕ)) (won : List (List Choice)) → AllZip (IsGreatestWithout sale) groups won
     → AllZip (IsOwnCost sale first) groups won
 own-costs sale first best = AllZip-weaken (IsGreatestWithout sale) (IsOwnCost sale first) (λ group a greatest. record {
-  own = λ of_all without by_all by_others. costs_are_own sale.lots sale.book group first a of_all without by_all by_others best greatest;
-  law = costs_are_bounded sale.lots sale.book group first a best greatest;
+  is_opportunity_cost = λ of_all without by_all by_others. costs_are_own sale.lots sale.book group first a of_all without by_all by_others best greatest;
+  is_within_amounts = costs_are_bounded sale.lots sale.book group first a best greatest;
 })
 
 pub first-greatest : (sale : Sale) (groups : List (List ℕ)) (won : List (List Choice)) → starts_empty groups ≡ true → AllZip (IsGreatestWithout sale) groups won

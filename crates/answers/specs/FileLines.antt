@@ -19,30 +19,30 @@ abbrev pub name_at : CommandLine → FilePlace → List ℕ
 name_at command (place.Read n) = slice_index_or command.files n []
 name_at command place.Written = option_map_or (λ name. name) command.output []
 
--- the file that one is already, where it is read twice
+-- for a file that is named twice, its first name; else no name
 abbrev pub other_file : CommandLine → FileFault → List ℕ
 other_file command (fault.ReadAlready n) = slice_index_or command.files n []
 other_file command f = []
 
--- the words on a file, and after them the other one
+-- why a file isn't read or written, with the first name of one that is named twice
 abbrev pub words_with : FileFault → List ℕ → List ℕ
 words_with (fault.ReadAlready n) other = fault_words (fault.ReadAlready n) ++ shown_name other
 words_with f other = fault_words f
 
--- what is reported of a file; where memory was short, just that
+-- the words of a refusal of the file that has this name; where memory was short, that alone
 abbrev pub file_text : List ℕ → FileFault → List ℕ → List ℕ
 file_text name fault.OutOfMemory other = codes "out of memory"
 file_text name f other = shown_name name ++ (codes ": " ++ words_with f other)
 
--- the line that reports a file's fault
+-- the whole line of such a refusal
 abbrev pub file_line : List ℕ → FileFault → List ℕ → List ℕ
 file_line name f other = codes "wdp: " ++ (file_text name f other ++ 10 ∷ [])
 
--- the line of a file of a command line
+-- the line that refuses a file of a command line
 abbrev pub refusal_line : CommandLine → FileRefusal → List ℕ
 refusal_line command r = file_line (name_at command r.file) r.fault (other_file command r.fault)
 
--- the line that reports why the input wasn't read: the input itself is refused, or a file that the command line names
+-- the line that says why the input wasn't read: the input itself is refused, or a file that the command line names
 abbrev pub unread_line : CommandLine → Unread → List ℕ
 unread_line command (unread.Input f) = line (refusal.Input f)
 unread_line command (unread.File r) = refusal_line command r

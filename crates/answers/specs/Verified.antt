@@ -28,11 +28,12 @@ use Rattle.program_rows.specs.Faithful.{IsGreatest}
 abbrev pub IsGreatestWithout : Sale → List ℕ → List Choice → Type 0
 IsGreatestWithout sale group a = IsGreatest sale.lots sale.book (has group) a
 
--- the cost that is written for a group is its opportunity cost by the greatest totals of the auction, and keeps the law on costs
+-- the cost that is written for a group is its opportunity cost by the greatest totals of the auction. It is at least 0 and at
+-- most the amounts of the group, and the total without the group is no greater
 pub record IsOwnCost (sale : Sale) (first : List Choice) (group : List ℕ) (a : List Choice) : Type 0 where
-  pub own : (of_all without : ℕ) → IsGreatestTotal sale.lots sale.book (λ b. false) of_all → IsGreatestTotal sale.lots sale.book (has group) without
+  pub is_opportunity_cost : (of_all without : ℕ) → IsGreatestTotal sale.lots sale.book (λ b. false) of_all → IsGreatestTotal sale.lots sale.book (has group) without
       → cost sale.lots sale.book first group a ≡ opportunity_cost of_all without (amounts_of_group sale.book group first)
-  pub law : IsCost sale.lots sale.book first group a
+  pub is_within_amounts : IsCost sale.lots sale.book first group a
 
 -- prices in these parts of a pound are the prices of the rule: of all that cover every group and meet the reserves those of least sum, and
 -- among several of least sum the ones nearest to what each winner costs alone

@@ -1,7 +1,7 @@
 -- What stands of a bidder whose first session submitted its forms, where no other session made a call.
 use Rattle.std.proofs.Common.{◌≡◌, ◌≢◌, ◌≤◌, ◌-◌, ◌==◌, ◌&&◌, ◌∷◌, ◌∙◌, [], ℕ, Bool, true, false, List, ap, ap₂, arith}
 use Rattle.std.proofs.Common.{cond, length, map, refl, subst, suc, sym, All, Err, IfOk, None, Ok, Result, Option, Some}
-use Rattle.std.proofs.Common.{count_by, filter, option_and_then, option_map, Global, Vec, inl, inr}
+use Rattle.std.proofs.Common.{count_by, filter, option_and_then, option_map, inl, inr}
 use Rattle.std.specs.List.{last_or}
 use Rattle.std.proofs.lemmas.Bool.{and_from, and_parts, cases_Bool, eq-eqb, eqb-false, eqb-true, false≢true}
 use Rattle.std.proofs.lemmas.List.{length-map}
@@ -24,8 +24,7 @@ use Rattle.bid_desk.specs.Holding.{ChairOwn, IsCallerOf, SessionOwn}
 use Rattle.bid_desk.specs.Sessions.{IsSessionOf}
 use Rattle.bid_desk.specs.Settlement.{IsSettled, OwnIs, is_named}
 use Rattle.auction_input.specs.Submissions.{AreAccepted, AreSubmitted, forms_of}
-use Rattle.std.specs.declared.sync.Arc.{Arc}
-use Rattle.auction_input.specs.inside.Submissions.{HasSubmitted, HaveSubmitted, HoldsLists}
+use Rattle.auction_input.specs.inside.Submissions.{FormLists, HasSubmitted, HaveSubmitted, HoldsLists}
 
 abbrev History : Type 0
 History = List (Entry Offers)
@@ -149,7 +148,7 @@ settled-submitted book chair sessions forms terms settled submitted =
     }
 
 pub round-submitted : {E : Type 0} (result : Result Closing E) (t : Terms) (chair : ChairOwn) (sessions : List SessionOwn)
-    (lists : List (Vec (Arc Offers Global) Global)) → AreTerms t → IfOk result (λ book. book.rules ≡ t)
+    (lists : FormLists) → AreTerms t → IfOk result (λ book. book.rules ≡ t)
     → IfOk result (λ book. IsSettled t book.history chair sessions) → HaveSubmitted lists sessions → IfOk result (HoldsLists lists)
 round-submitted (Ok book) t chair sessions lists terms rules settled submitted =
     λ forms by. settled-submitted book chair sessions forms (subst AreTerms (sym rules) terms)

@@ -29,16 +29,20 @@ AreFormsOf t bidder forms = All (IsFormOf t bidder) forms
 abbrev pub form_values : List (Arc Offers Global) → List Offers
 form_values forms = map (λ (form : Arc Offers Global). arc_value form) forms
 
+-- the forms of each bidder, as they are submitted
+abbrev pub FormLists : Type 0
+FormLists = List (Vec (Arc Offers Global) Global)
+
 -- the forms in list b of these, out of their shares; where there is no list, none
-abbrev pub forms_in : List (Vec (Arc Offers Global) Global) → ℕ → List Offers
+abbrev pub forms_in : FormLists → ℕ → List Offers
 forms_in lists b = slice_index_or (map (λ (list : Vec (Arc Offers Global) Global). form_values list.items) lists) b []
 
 -- list b has the forms of bidder b among these, in order
-abbrev pub AreByBidder : List Offers → List (Vec (Arc Offers Global) Global) → Type 0
+abbrev pub AreByBidder : List Offers → FormLists → Type 0
 AreByBidder forms lists = (b : ℕ) → forms_in lists b ≡ forms_of b forms
 
 -- each list has grown by this form, if it is of its bidder
-abbrev pub HaveOneMore : Offers → List (Vec (Arc Offers Global) Global) → List (Vec (Arc Offers Global) Global) → Type 0
+abbrev pub HaveOneMore : Offers → FormLists → FormLists → Type 0
 HaveOneMore form lists lists' = (b : ℕ) → forms_in lists' b ≡ forms_in lists b ++ forms_of b (form ∷ [])
 
 -- a session, and the forms that it is to submit
@@ -47,7 +51,7 @@ pub record JobOwn : Type 0 where
   pub forms : List Offers
 
 -- a first session, with the forms in the list of its bidder
-pub record IsFirstJob (lists : List (Vec (Arc Offers Global) Global)) (job : JobOwn) : Type 0 where
+pub record IsFirstJob (lists : FormLists) (job : JobOwn) : Type 0 where
   pub first : job.session.session ≡ 1
   pub forms : job.forms ≡ forms_in lists job.session.bidder
 
@@ -60,7 +64,7 @@ pub record ComesTo (job : JobOwn) (session : SessionOwn) (ended : Result (Unit {
   pub wrong : ended ≡ Err WrongAnswer → ¬ (AreAccepted job.forms session.pairs)
 
 -- a session that made no call; if it is a first one, the list of its bidder is empty
-pub record IsIdle (lists : List (Vec (Arc Offers Global) Global)) (session : SessionOwn) : Type 0 where
+pub record IsIdle (lists : FormLists) (session : SessionOwn) : Type 0 where
   pub fresh : session.pairs ≡ []
   pub none : session.session ≡ 1 → forms_in lists session.bidder ≡ []
 
@@ -70,11 +74,11 @@ pub record HasSubmitted (forms : List Offers) (session : SessionOwn) : Type 0 wh
   pub other : session.session ≢ 1 → session.pairs ≡ []
 
 -- sessions have submitted the forms that these lists have by bidder
-abbrev pub HaveSubmitted : List (Vec (Arc Offers Global) Global) → List SessionOwn → Type 0
+abbrev pub HaveSubmitted : FormLists → List SessionOwn → Type 0
 HaveSubmitted lists sessions = (forms : List Offers) → AreByBidder forms lists → All (HasSubmitted forms) sessions
 
 -- the forms that these lists have by bidder are submitted in a closed book
-abbrev pub HoldsLists : List (Vec (Arc Offers Global) Global) → Closing → Type 0
+abbrev pub HoldsLists : FormLists → Closing → Type 0
 HoldsLists lists book = (forms : List Offers) → AreByBidder forms lists → AreSubmitted forms book
 
 -- the chair has closed a round that was open
