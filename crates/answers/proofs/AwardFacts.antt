@@ -1,12 +1,11 @@
 -- The award follows from the rules and the last forms alone.
-use Rattle.std.proofs.Common.{◌≡◌, ◌≤◌, ◌++◌, ◌∷◌, ◌∙◌, ◌⊎◌, [], inl, inr, ℕ, Bool, true, false, List, Option, None, Some, Ok, ap, ap₂, append_assoc, arith}
-use Rattle.std.proofs.Common.{IfSome, IsPermutation, codes, eqb-true, length, pos, refl, slice_index_or, subst, sym, zip, ◌-ℤ◌, ◌==◌, ◌&&◌}
-use Rattle.std.specs.Prelude.{All, Any}
+use Rattle.std.proofs.Common.{◌≡◌, ◌++◌, ◌∷◌, ◌∙◌, [], inl, inr, ℕ, true, false, List, Option, ap, ap₂, append_assoc, arith}
+use Rattle.std.proofs.Common.{IfSome, IsPermutation, codes, eqb-true, pos, refl, slice_index_or, subst, sym, ◌-ℤ◌, ◌==◌, ◌&&◌}
+use Rattle.std.specs.Prelude.{Any}
 use Rattle.std.specs.List.{AllByRecursion, AllZip}
 use Rattle.std.proofs.lemmas.Bool.{and_parts, true_from_ne_false}
 use Rattle.std.proofs.lemmas.List.{append_cancel_right}
 use Rattle.auction_terms.specs.Allocations.{total}
-use Rattle.auction_terms.specs.Groups.{has}
 use Rattle.auction_terms.specs.Only.{IsOnly}
 use Rattle.auction_terms.specs.Terms.{Terms}
 use Rattle.auction_terms.specs.declared.bids.Choice.{Choice}
@@ -25,7 +24,7 @@ use Rattle.prices.specs.Alone.{AreCostsAlone}
 use Rattle.prices.specs.Parts.{AreThePrices}
 use Rattle.prices.specs.Prices.{reserves_in}
 use Rattle.program_rows.specs.Faithful.{IsGreatest}
-use Rattle.answers.specs.Verified.{AreAmong, AreSameAward, AreTruePrices, ArePricesOfRule, AwardFollows, AwardsFollow, IsAward, IsGreatestWithout, IsListedFor}
+use Rattle.answers.specs.Verified.{AreAmong, AreSameAward, AreTruePrices, AwardFollows, AwardsFollow, IsAward, IsGreatestWithout, IsListedFor}
 use Rattle.answers.specs.Verified.{IsTrueReport, award_lines, winners_of}
 use Rattle.answers.proofs.EndFacts.{report-ends, says-by-rule, says-unique}
 use Rattle.answers.proofs.OthersFacts.{only-of}

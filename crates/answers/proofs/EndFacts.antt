@@ -6,7 +6,7 @@ use Rattle.std.proofs.lemmas.Bool.{cases_Bool}
 use Rattle.std.specs.Fmt.{digit_glyph, digits, digits_onto, signed_decimal}
 use Rattle.auction_terms.specs.declared.bids.Choice.{Choice}
 use Rattle.auction_terms.specs.Fractions.{fraction_text, gcd}
-use Rattle.outcome.specs.Pricing.{Priced, amount_text, exact_text, in_pounds, paid, price_in, price_line, pricing_text, rule_line, sum_line}
+use Rattle.outcome.specs.Pricing.{Priced, amount_text, in_pounds, paid, price_in, price_line, pricing_text, rule_line, sum_line}
 use Rattle.outcome.specs.Others.{Others, others_text, tie_text}
 use Rattle.outcome.specs.declared.others.Further.TheVariants as further
 use Rattle.outcome.specs.declared.others.Further.{Further}

@@ -1,15 +1,13 @@
 -- What commands refuse, and what `explain` prints for them.
-use Rattle.std.proofs.Common.{◌≡◌, ◌≤◌, ◌+◌, ◌-◌, ◌*◌, ◌&&◌, ◌∷◌, ◌++◌, ◌∙◌, ℕ, Bool, true, false, List, [], Option, None, Some}
-use Rattle.std.proofs.Common.{Result, Ok, Err, ap, arith, inl, inr, length, map, refl, subst, sym, IfErr, IsErr, ◌⊎◌}
-use Rattle.std.proofs.Common.{true≢false}
-use Rattle.std.proofs.lemmas.Bool.{leb-true}
-use Rattle.std.specs.Prelude.{⊤, if◌then◌else◌, nat_le, not, slice_index_or}
+use Rattle.std.proofs.Common.{◌≡◌, ◌+◌, ◌-◌, ◌*◌, ◌∷◌, ◌++◌, ◌∙◌, ℕ, Bool, true, false, List, [], Option, None, Some}
+use Rattle.std.proofs.Common.{Result, Ok, Err, ap, inl, inr, length, refl, subst, sym, IfErr, IsErr, ◌⊎◌}
+use Rattle.std.specs.Prelude.{⊤, if◌then◌else◌, nat_le, slice_index_or}
 use Rattle.std.specs.List.{zip}
 use Rattle.std.specs.Option.{option_map, option_or}
 use Rattle.byte_sinks.specs.Sinks.{Outlet}
 use Rattle.answers.specs.Answer.{answer, output_of}
 use Rattle.answers.specs.Exact.{Writes}
-use Rattle.answers.specs.ExplainedFor.{ExplainsFor, IsNamed, IsOfParts, IsRefusedBy, IsTakenBy, RefusesSo}
+use Rattle.answers.specs.ExplainedFor.{ExplainsFor, IsOfParts, IsRefusedBy, IsTakenBy, RefusesSo}
 use Rattle.answers.specs.Runs.{IsTakenFor}
 use Rattle.auction_input.proofs.PartCountFacts.{failed-after}
 use Rattle.auction_input.specs.Auction.{Auction, parsed_auction}
@@ -19,8 +17,6 @@ use Rattle.auction_input.specs.PartCounts.{refused_unless, solution_wants, with_
 use Rattle.auction_input.specs.declared.part_kind.PartKind.TheVariants as part
 use Rattle.auction_input.specs.declared.refusal.Refusal.TheVariants as refusal
 use Rattle.auction_input.specs.declared.refusal.Refusal.{Refusal}
-use Rattle.auction_input.specs.declared.part_counts.Numbers.{Numbers}
-use Rattle.auction_input.specs.declared.part_counts.Unmet.{Unmet}
 use Rattle.auction_terms.specs.FirstFault.{first_failed}
 use Rattle.auction_terms.specs.Stages.{and_then, each_in_turn, refused_as, unless}
 use Rattle.auction_terms.specs.Terms.{Terms}
@@ -29,7 +25,7 @@ use Rattle.auction_terms.specs.declared.bids.Choice.{Choice}
 use Rattle.answers.specs.Certified.{bounds_of, certified, shown}
 use Rattle.answers.specs.Claimed.{award_fault, claim_counts, first_program, known_others, parsed_claims, parsed_tie, parsed_ties, tie_fault, tie_number, unique_refused}
 use Rattle.answers.specs.Pricing.{InParts, alone_refused, covered, in_parts_of, known_alone, known_by, parsed_by_rule, parsed_prices, parsed_rule}
-use Rattle.answers.specs.Pricing.{price_fault, priced, priced_by, pricing_counts, parsed_pricing, rule_of, unshown_refused}
+use Rattle.answers.specs.Pricing.{price_fault, priced, priced_by, parsed_pricing, rule_of, unshown_refused}
 use Rattle.answers.specs.Pricing.{winner_fault, winners_fault}
 use Rattle.auction_terms.specs.Fractions.{in_parts}
 use Rattle.auction_input.specs.PriceTexts.{parsed_price_text, parsed_rule_lines, common_parts, price_given}
@@ -53,7 +49,7 @@ use Rattle.outcome.specs.Solution.{solution}
 use Rattle.outcome.specs.Others.{Others, others_text}
 use Rattle.outcome.specs.PointAllocation.{allocation_of}
 use Rattle.auction_input.specs.ParsedParts.{only_text}
-use Rattle.auction_terms.specs.Allocations.{amount_of, total, weighed_choice}
+use Rattle.auction_terms.specs.Allocations.{amount_of, weighed_choice}
 use Rattle.presolve.specs.Lines.{left_out_lines}
 use Rattle.auction_input.specs.declared.price_fault.PriceFault.TheVariants as price
 use Rattle.prices.specs.Prices.{reserves_in}

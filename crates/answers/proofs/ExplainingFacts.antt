@@ -1,7 +1,7 @@
 -- What `explain` leaves.
 use Rattle.std.specs.Prelude.{if◌then◌else◌}
-use Rattle.std.proofs.Common.{◌≡◌, ◌⊎◌, ◌∙◌, ℕ, Bool, true, false, List, [], Option, None, Some, Result, Ok, Err, ap, inl}
-use Rattle.std.proofs.Common.{inr, refl, subst, sym, ◌↔◌, IsErr, IsOk, IsTrue, true≢false}
+use Rattle.std.proofs.Common.{◌≡◌, ◌⊎◌, ◌∙◌, ℕ, Bool, true, false, List, [], Option, None, Some, Result, Ok, Err, ap}
+use Rattle.std.proofs.Common.{refl, subst, sym, ◌↔◌, IsErr, IsOk, IsTrue, true≢false}
 use Rattle.auction_input.specs.Input.{Input}
 use Rattle.answers.specs.Exact.{IsUnwritten, Writes}
 use Rattle.answers.specs.Answer.{answer, output_of}

@@ -1,9 +1,9 @@
 -- The lines of `forms` by what is held of the last forms are those of the input.
-use Rattle.std.proofs.Common.{◌≡◌, ◌≤◌, ◌<◌, ◌+◌, ◌++◌, ◌∷◌, ◌∙◌, [], ℕ, List, Option, None, Some, Result, Ok, ap, ap₂, arith, length, refl, slice_index_or, subst, sym}
+use Rattle.std.proofs.Common.{◌≡◌, ◌≤◌, ◌+◌, ◌++◌, ◌∷◌, ◌∙◌, [], ℕ, List, Option, None, Some, Result, Ok, ap, ap₂, arith, length, refl, slice_index_or, subst, sym}
 use Rattle.std.specs.Prelude.{codes, decimal, option_map}
 use Rattle.answers.specs.Answer.{answer}
 use Rattle.answers.specs.Forms.{digest, form_line, forms_text, rules_line}
-use Rattle.answers.specs.inside.Forms.{held_line, lines_held, held_text}
+use Rattle.answers.specs.inside.Forms.{held_line, held_text}
 use Rattle.auction_input.specs.Input.{Input}
 use Rattle.auction_input.specs.LastForms as read
 use Rattle.auction_input.specs.LastForms.{HoldsLast, HoldsParts, counted, counted_held, last_form, parsed_forms}

@@ -1,13 +1,13 @@
 -- What is said of other awards is true.
-use Rattle.std.proofs.Common.{◌≡◌, ◌<◌, ◌≤◌, ◌+◌, ◌∷◌, ◌++◌, ◌∙◌, [], ℕ, zero, suc, Bool, true, false, cond, List, Option, None, Some, Result, Ok, refl, subst, sym, ap, arith, leb-true}
+use Rattle.std.proofs.Common.{◌≡◌, ◌<◌, ◌≤◌, ◌+◌, ◌∷◌, ◌++◌, [], ℕ, zero, suc, Bool, true, false, cond, List, Option, None, Some, Ok, refl, subst, sym, ap, arith, leb-true}
 use Rattle.std.proofs.Common.{IsPermutation, nat_le, slice_index_or, map, length}
-use Rattle.std.specs.Prelude.{All, Any, Contains, if◌then◌else◌}
+use Rattle.std.specs.Prelude.{All, Any, if◌then◌else◌}
 use Rattle.std.specs.List.{AllByRecursion, AllZip}
 use Rattle.std.specs.Option.{option_map}
 use Rattle.std.proofs.lemmas.List.Elements.{All-from_recursion, recursion_from_All}
 use Rattle.std.proofs.lemmas.List.Sorted.{All-permutation, IsPermutation-sym, IsPermutation-trans}
 use Rattle.rayon.proofs.ListFacts.{AllZip-weaken}
-use Rattle.auction_terms.specs.Allocations.{IsFeasible, IsSized, total}
+use Rattle.auction_terms.specs.Allocations.{IsFeasible, total}
 use Rattle.auction_terms.specs.FirstFault.{first_failed}
 use Rattle.auction_terms.specs.Groups.{has}
 use Rattle.auction_terms.specs.Keeping.{is_kept_choice}
@@ -28,9 +28,8 @@ use Rattle.optimality.specs.OnlyPoints.{only_fault}
 use Rattle.outcome.proofs.BackFacts.{back_bidders, points_come_back, same_sum, solutions_come_back}
 use Rattle.outcome.proofs.OtherFacts.{others_are_true}
 use Rattle.outcome.proofs.PointFacts.{solutions_are_points}
-use Rattle.outcome.proofs.TieFacts.{only_first_settles_costs, others_differ, others_tie}
-use Rattle.outcome.specs.Coming.{ComesBack}
-use Rattle.outcome.specs.Following.{AreAllGreatest, AreAllKept, AreApart, EachPair}
+use Rattle.outcome.proofs.TieFacts.{only_first_settles_costs, others_differ}
+use Rattle.outcome.specs.Following.{AreAllGreatest, AreAllKept, EachPair}
 use Rattle.outcome.specs.Others.{AreTrueOthers, Others, others_of}
 use Rattle.outcome.specs.PointAllocation.{HasRisingBidders, allocation_of}
 use Rattle.outcome.specs.Solution.{solution}

@@ -1,11 +1,11 @@
 -- What prices that a text gives keep to.
 use Rattle.std.proofs.Common.{◌≡◌, ◌⊎◌, ◌≤◌, ◌<◌, ◌+◌, ◌*◌, ◌∷◌, ◌∙◌, [], inl, inr, ap, drop, drop-cons, refl, sym, Result, Ok}
-use Rattle.std.proofs.Common.{Err, ℕ, zero, suc, Bool, true, false, List, Option, None, Some, arith, eqb-true, leb-true}
+use Rattle.std.proofs.Common.{ℕ, zero, suc, Bool, true, false, List, Option, None, Some, arith, eqb-true, leb-true}
 use Rattle.std.proofs.Common.{nat_le, subst, length, slice_index_or}
 use Rattle.std.specs.List.{AllByRecursion, AllZip}
 use Rattle.std.specs.Option.{option_map, option_map_or, option_or}
 use Rattle.std.proofs.lemmas.List.Elements.{All-from_recursion, recursion_from_All}
-use Rattle.std.proofs.lemmas.List.FromFn.{get_or-map-range_with_len, length-map-range_with_len}
+use Rattle.std.proofs.lemmas.List.FromFn.{get_or-map-range_with_len}
 use Rattle.auction_terms.specs.Allocations.{Book, amount_of, bid_at, bid_of, form_of, is_eligible, weighed_choice, IsFeasible}
 use Rattle.auction_terms.specs.declared.bids.Bid.{Bid}
 use Rattle.auction_terms.specs.Groups.{has, starts_empty}
@@ -23,8 +23,6 @@ use Rattle.auction_input.proofs.PriceTextFacts.{parts-some}
 use Rattle.auction_input.proofs.StageFacts.{after-ok, next, refuses-as, stop}
 use Rattle.auction_terms.specs.Stages.{and_then, refused_as, unless}
 use Rattle.optimality.specs.Answers.{IsLimit}
-use Rattle.optimality.specs.Sizes.{IsLargeAt}
-use Rattle.optimality.specs.Verdict.{certificate_fault}
 use Rattle.program_rows.specs.declared.certificate_fault.CertificateFault.{CertificateFault}
 use Rattle.program_rows.specs.declared.certificate_fault.CertificateFaultKind.{CertificateFaultKind}
 use Rattle.program_rows.specs.declared.certificate_fault.CertificateFaultKind.TheVariants as kind

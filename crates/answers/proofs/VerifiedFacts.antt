@@ -1,6 +1,6 @@
 -- What certificates show of what groups win.
-use Rattle.std.proofs.Common.{◌≡◌, ◌≤◌, ◌+◌, ◌++◌, ◌==◌, ◌∷◌, ◌∙◌, [], ℕ, true, false, List, Option, None, Some, Result, Ok}
-use Rattle.std.proofs.Common.{Err, IfSome, ◌≢◌, ap, ap₂, arith, eqb-true, length, map, refl, subst, sym, OnOk, codes}
+use Rattle.std.proofs.Common.{◌≡◌, ◌≤◌, ◌+◌, ◌++◌, ◌==◌, ◌∷◌, ◌∙◌, [], ℕ, true, false, List, Option, None, Result, Ok}
+use Rattle.std.proofs.Common.{Err, IfSome, ap, ap₂, arith, eqb-true, length, map, refl, subst, sym, OnOk, codes}
 use Rattle.std.proofs.Common.{slice_index_or, option_map}
 use Rattle.auction_input.specs.Input.{Input}
 use Rattle.std.specs.List.{AllZip, zip}
@@ -36,7 +36,7 @@ use Rattle.auction_terms.specs.Stages.{and_then, each_in_turn, refused_as}
 use Rattle.answers.specs.Exact.{Writes}
 use Rattle.answers.specs.Claimed.{parsed_claims}
 use Rattle.answers.specs.Pricing.{parsed_pricing}
-use Rattle.answers.specs.Verified.{AreTruePrices, IsGreatestWithout, IsOnlyOutcome, IsOwnCost, IsWholeOutcome}
+use Rattle.answers.specs.Verified.{AreTruePrices, IsGreatestWithout, IsOwnCost}
 use Rattle.answers.specs.Verified.{IsTrueReport, NoOtherIsSo, UniqueIsOnly}
 use Rattle.answers.specs.VerifiedInputs.{VerifiedIsTrue, WritesTrueReportOn}
 use Rattle.answers.specs.SolutionWinners.{solution_refused, winners_by, winners_of_groups}

@@ -1,6 +1,6 @@
 -- What is claimed of other awards after the solutions and certificates of the groups: ties, and that there is no other award.
 use Rattle.std.specs.Prelude.{◌≡◌, ◌+◌, ◌∷◌, ◌++◌, ℕ, Bool, List, [], Option, None, Some, Result, Ok, if◌then◌else◌, length, map, nat_le, slice_get, slice_index_or}
-use Rattle.std.specs.Option.{option_map, option_map_or, option_or}
+use Rattle.std.specs.Option.{option_map, option_map_or}
 use Rattle.auction_input.specs.Auction.{Auction}
 use Rattle.auction_input.specs.PartCounts.{claim_wants, numbers_of, refused_unless}
 use Rattle.auction_input.specs.declared.refusal.Refusal.TheVariants as refusal

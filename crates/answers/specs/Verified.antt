@@ -1,6 +1,6 @@
 -- What `verify` writes of an auction if it ends well: allocations of greatest total, and so the groups' own opportunity costs; prices that
 -- cover every group; and what it says of other awards. Nothing here is about the texts of an input.
-use Rattle.std.specs.Prelude.{◌≡◌, ◌≢◌, ◌⊎◌, ◌++◌, ◌∷◌, All, Any, IsPermutation, ℕ, false, true, List, [], Option, None, Some, IfSome, Ok, codes, flat_map, slice_index_or}
+use Rattle.std.specs.Prelude.{◌≡◌, ◌⊎◌, ◌++◌, ◌∷◌, All, Any, IsPermutation, ℕ, false, true, List, [], Option, None, Some, IfSome, codes, flat_map, slice_index_or}
 use Rattle.std.specs.Io.KnownBytes.{Appends}
 use Rattle.std.specs.List.{AllByRecursion, AllZip}
 use Rattle.auction_input.specs.Auction.{Auction}

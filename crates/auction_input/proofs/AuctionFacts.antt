@@ -1,6 +1,6 @@
 -- What the stages of an auction give.
 use Rattle.std.proofs.Common.{◌≡◌, ◌≤◌, ◌<◌, ◌+◌, ◌∷◌, ◌∙◌, [], ℕ, Bool, zero, suc, List, Option, None, Some, Result, Ok}
-use Rattle.std.proofs.Common.{Err, ap, ap₂, arith, length, map, refl, sym, inl, inr, ◌≢◌, Vec, codes, Global}
+use Rattle.std.proofs.Common.{Err, ap, ap₂, arith, length, map, refl, sym, inl, inr, Vec, codes, Global}
 use Rattle.std.specs.List.{last_or, range_with_len}
 use Rattle.auction_terms.specs.Allocations.{Book}
 use Rattle.auction_terms.specs.Terms.{Terms, lots_in}
@@ -30,7 +30,6 @@ use Rattle.auction_input.specs.declared.form_texts.AnotherForm.{AnotherForm}
 use Rattle.auction_input.specs.declared.part_kind.PartKind.{PartKind}
 use Rattle.auction_input.specs.declared.parts.Part as declared
 use Rattle.auction_input.specs.declared.refusal.Refusal.TheVariants as refusal
-use Rattle.auction_input.specs.declared.request.Request.TheVariants as request
 use Rattle.auction_input.specs.declared.request.Request.{Request}
 use Rattle.auction_input.specs.declared.round.RoundFault.{RoundFault}
 use Rattle.auction_input.specs.declared.round.RoundFault.TheVariants as round

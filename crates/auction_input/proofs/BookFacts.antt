@@ -1,13 +1,13 @@
 -- The last form that is read of each bidder is the one that the book has; and rules and forms are refused as `text` refuses them.
-use Rattle.std.proofs.Common.{◌≡◌, ◌≤◌, ◌<◌, ◌+◌, ◌-◌, ◌++◌, ◌==◌, ◌∷◌, ◌∙◌, ◌↔◌, [], ℕ, Bool, Option, true, false, List, None, Some, Result, Ok, Err, IfSome, ap}
-use Rattle.std.proofs.Common.{arith, codes, cond, if◌then◌else◌, inl, inr, length, map, refl, slice_index_or, subst, sym, drop}
+use Rattle.std.proofs.Common.{◌≡◌, ◌+◌, ◌-◌, ◌++◌, ◌==◌, ◌∷◌, ◌∙◌, ◌↔◌, [], ℕ, Bool, Option, true, false, List, None, Some, Result, Ok, Err, ap}
+use Rattle.std.proofs.Common.{arith, codes, if◌then◌else◌, inl, inr, length, refl, slice_index_or, subst, sym, drop}
 use Rattle.std.proofs.lemmas.Bool.{cases_Bool, eqb-true}
 use Rattle.std.proofs.lemmas.Bool.Decides.{Decides-eqb}
 use Rattle.std.proofs.lemmas.List.{nil_from_length}
 use Rattle.std.proofs.lemmas.List.FromFn.{get_or-map-range_with_len}
 use Rattle.std.specs.List.{last_or, list_any, zip}
 use Rattle.std.specs.Option.{option_map_or, option_or}
-use Rattle.std.specs.Prelude.{◌||◌, ⊤, filter, option_map}
+use Rattle.std.specs.Prelude.{◌||◌, ⊤, filter}
 use Rattle.std.specs.Str.{bytes_eq}
 use Rattle.auction_input.specs.Auction.{Auction, parsed_auction}
 use Rattle.auction_input.specs.BookLeft.{sale_left}
@@ -41,7 +41,6 @@ use Rattle.auction_terms.specs.Stages.{and_then, each_in_turn, refused_as, unles
 use Rattle.auction_terms.specs.Terms.{Terms}
 use Rattle.auction_terms.specs.declared.bids.Bid.{Bid}
 use Rattle.bid_forms.specs.Offers.{Offers}
-use Rattle.bid_forms.specs.declared.form_text.FormFault.{FormFault}
 
 -- ---- the parts that another request takes are there for `forms`, too
 

@@ -23,7 +23,7 @@ use Rattle.auction_input.specs.declared.refusal.Refusal.{Refusal}
 use Rattle.auction_input.specs.declared.request.Request.TheVariants.{Forms}
 use Rattle.auction_input.proofs.StageFacts.{after-ok, next, stop}
 use Rattle.auction_terms.specs.FirstFault.{first_fault}
-use Rattle.auction_terms.specs.Stages.{and_then, each_in_turn, refused_as, unless}
+use Rattle.auction_terms.specs.Stages.{each_in_turn, refused_as, unless}
 use Rattle.auction_terms.specs.Terms.{Terms}
 use Rattle.bid_forms.specs.Offers.{Offers}
 

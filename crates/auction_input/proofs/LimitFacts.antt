@@ -3,14 +3,13 @@ use Rattle.std.proofs.Common.{◌≡◌, ◌≤◌, ◌<◌, ◌+◌, ◌==◌, 
 use Rattle.std.proofs.Common.{None, Some, Result, Ok, Err, ap, append_assoc, arith, eqb-true, leb-true}
 use Rattle.std.proofs.Common.{length, length-append, map, refl, subst, sym, cond, filter, nat_le, inl, inr}
 use Rattle.std.specs.List.{AllByRecursion, last_or, list_all, range_with_len}
-use Rattle.std.proofs.lemmas.Bool.{and_parts, cases_Bool, ltb-true}
+use Rattle.std.proofs.lemmas.Bool.{and_parts, cases_Bool}
 use Rattle.std.proofs.lemmas.List.{append-nil, length-map}
 use Rattle.std.proofs.lemmas.List.FromFn.{length-map-range_with_len}
 use Rattle.auction_terms.specs.AcceptedGroups.{Each}
 use Rattle.auction_terms.specs.Entries.{terms_of}
 use Rattle.auction_terms.proofs.AcceptedRulesFacts.{kind-holds}
 use Rattle.auction_terms.specs.AllFaults.{all_faults}
-use Rattle.auction_terms.specs.FirstFault.{first_failed, first_fault}
 use Rattle.auction_terms.specs.Limits.{IsBid, IsBook}
 use Rattle.auction_terms.specs.Packages.{Lots}
 use Rattle.auction_terms.specs.Records.{Record}
@@ -33,8 +32,8 @@ use Rattle.auction_input.specs.BookLeft.{sale_left}
 use Rattle.auction_terms.specs.Stages.{each_in_turn}
 use Rattle.auction_input.specs.Submissions.{forms_of}
 use Rattle.auction_input.specs.ParsedTexts.{parsed_form, parsed_terms}
-use Rattle.auction_input.proofs.AnswerFacts.{ok-after, ok-is, ok-refused_as, unless-ok}
-use Rattle.auction_input.proofs.RecordFacts.{few-of-kind, neither, none-failed, rules-parsed}
+use Rattle.auction_input.proofs.AnswerFacts.{ok-after, ok-is, ok-refused_as}
+use Rattle.auction_input.proofs.RecordFacts.{few-of-kind, rules-parsed}
 
 -- ---- rules
 

@@ -1,6 +1,6 @@
 -- Where texts count so much each: the text with a number of all, and how much is counted.
-use Rattle.std.proofs.Common.{◌≡◌, ◌≤◌, ◌<◌, ◌+◌, ◌-◌, ◌∷◌, ◌∙◌, Bool, true, false, ℕ, List, [], Option, None, Some, ap}
-use Rattle.std.proofs.Common.{arith, drop, inl, inr, length, map, refl, slice_index_or, sym}
+use Rattle.std.proofs.Common.{◌≡◌, ◌≤◌, ◌<◌, ◌+◌, ◌-◌, ◌∷◌, ℕ, List, Option, None, Some, ap}
+use Rattle.std.proofs.Common.{arith, inl, inr, refl}
 use Rattle.std.proofs.lemmas.Bool.{cases_Bool}
 use Rattle.std.proofs.lemmas.Bool.Decides.{leb_tells}
 use Rattle.std.specs.Prelude.{if◌then◌else◌, option_map}

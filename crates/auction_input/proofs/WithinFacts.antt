@@ -1,5 +1,5 @@
 -- The auction that an input describes is within the limits.
-use Rattle.std.proofs.Common.{◌≡◌, ℕ, List, Ok, subst, codes}
+use Rattle.std.proofs.Common.{◌≡◌, List, Ok, subst, codes}
 use Rattle.auction_terms.specs.Limits.{IsBook, IsLots}
 use Rattle.auction_input.specs.Auction.{Auction, parsed_auction}
 use Rattle.auction_input.specs.BookLeft.{sale_left}

@@ -1,6 +1,6 @@
 -- Texts of prices, and of the rule. A line of prices gives a winner a price. The first line of the rule gives two scales and a push, and each
 -- other one gives a group, by its number, or a winner two weights. Blank lines and lines that begin with # give nothing.
-use Rattle.std.specs.Prelude.{◌+◌, ◌*◌, ◌≤◌, ◌==◌, ◌&&◌, ◌++◌, Bool, true, false, not, ℕ, List, [], ◌∷◌, Option, None, Some, Result}
+use Rattle.std.specs.Prelude.{◌+◌, ◌*◌, ◌≤◌, ◌==◌, ◌++◌, Bool, false, ℕ, List, [], ◌∷◌, Option, None, Some, Result}
 use Rattle.std.specs.Prelude.{Ok, Err, find, fold, map, nat_le, position, slice_index, if◌then◌else◌}
 use Rattle.std.specs.Option.{option_map, option_map_or}
 use Rattle.std.specs.List.{list_any, range_with_len}
@@ -22,7 +22,6 @@ use Rattle.auction_input.specs.declared.rule_weights.Aim.TheVariants as aim
 use Rattle.auction_input.specs.declared.rule_weights.GivenWeights.{GivenWeights}
 use Rattle.auction_input.specs.declared.rule_weights.RuleLine.{RuleLine}
 use Rattle.auction_input.specs.declared.rule_weights.RuleLine.TheVariants as rule
-use Rattle.auction_input.specs.declared.rule_weights.Scales.{Scales}
 use Rattle.auction_input.specs.declared.rule_weights.Subject.{Subject}
 use Rattle.auction_input.specs.declared.rule_weights.Subject.TheVariants as subject
 use Rattle.auction_input.specs.declared.price_fault.PriceFault.{PriceFault}

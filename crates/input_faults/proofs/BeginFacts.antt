@@ -1,11 +1,9 @@
 -- All faults begin with the first one, stage by stage.
-use Rattle.std.proofs.Common.{◌≡◌, ◌+◌, ◌++◌, ◌∷◌, ◌∙◌, ℕ, List, [], Option, None, Some, Result, Ok, Err, ap, length, refl}
+use Rattle.std.proofs.Common.{◌≡◌, ◌+◌, ◌++◌, ◌∷◌, ◌∙◌, ℕ, List, [], Option, None, Some, Result, Ok, Err, ap, refl}
 use Rattle.std.proofs.lemmas.List.{map-append}
-use Rattle.std.specs.Prelude.{Bool, true, false, if◌then◌else◌, nat_lt}
 use Rattle.auction_terms.specs.AllFaults.{accepted_with, all_faults}
 use Rattle.auction_terms.specs.Judged.{Fault, reported_as}
 use Rattle.auction_terms.specs.Stages.{and_then, each_in_turn, refused_as, unless}
-use Rattle.auction_terms.specs.declared.limits.TheConstants.{TEXT_LIMIT}
 use Rattle.input_faults.specs.FaultsAs.{BeginWith, fault_as, judged_as}
 
 -- where a value is parsed there is no fault

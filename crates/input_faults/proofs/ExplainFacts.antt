@@ -1,8 +1,7 @@
 -- What is reported of all faults.
 use Rattle.std.proofs.Common.{◌≡◌, ◌∷◌, ◌∙◌, ◌++◌, ℕ, arith, map, Bool, true, false, List, [], Result, Ok, Err, ap, length, refl, subst, sym}
 use Rattle.std.proofs.lemmas.List.{length-map}
-use Rattle.std.specs.Io.KnownBytes.{Appends}
-use Rattle.std.specs.Prelude.{flat_map, ◌↔◌, IsErr, IsTrue, Option, not}
+use Rattle.std.specs.Prelude.{flat_map, ◌↔◌, IsErr, IsTrue, not}
 use Rattle.auction_input.specs.Auction.{Auction}
 use Rattle.auction_input.specs.Input.{NamedText, Input}
 use Rattle.auction_input.specs.Requests.{format_of}

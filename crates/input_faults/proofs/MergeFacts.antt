@@ -1,6 +1,6 @@
 -- Faults of a text that are added to those of an input.
 use Rattle.std.proofs.Common.{◌≡◌, ◌≤◌, ◌+◌, ◌-◌, ◌++◌, ◌∷◌, ◌∙◌, ℕ, zero, suc, List, [], ap, append_assoc, append-nil, arith, length, length-append}
-use Rattle.std.proofs.Common.{length-take, refl, sym, take, take_all}
+use Rattle.std.proofs.Common.{length-take, refl, sym, take}
 use Rattle.std.proofs.Common.{map}
 use Rattle.std.proofs.lemmas.List.{length-map, map-append, take-map, take-take}
 use Rattle.std.specs.Prelude.{◌^◌, min}

@@ -1,5 +1,5 @@
 -- What is reported of a fault after its refusal: at which field or name it is, what is there, and what is wrong with it.
-use Rattle.std.specs.Prelude.{◌++◌, ◌==◌, ℕ, List, [], Option, None, Some, codes, decimal, if◌then◌else◌}
+use Rattle.std.specs.Prelude.{◌++◌, ◌==◌, ℕ, List, [], codes, decimal, if◌then◌else◌}
 use Rattle.std.specs.Option.{option_map_or}
 use Rattle.auction_input.specs.declared.parts.PartFault.{PartFault}
 use Rattle.auction_input.specs.declared.parts.PartFault.TheVariants as parts

@@ -1,6 +1,6 @@
 -- What is printed of other awards is true.
-use Rattle.std.proofs.Common.{◌≡◌, ◌<◌, ◌≤◌, ℕ, zero, suc, Bool, true, false, List, [], ◌∷◌, ◌++◌, ◌∙◌, ap, arith, length, leb-true, refl, subst, sym, take}
-use Rattle.std.specs.Prelude.{Any, IsPermutation, flat_map, if◌then◌else◌, nat_le}
+use Rattle.std.proofs.Common.{◌≡◌, ◌<◌, ℕ, zero, suc, Bool, true, false, List, [], ◌∷◌, ◌∙◌, ap, arith, length, leb-true, refl, subst, sym, take}
+use Rattle.std.specs.Prelude.{Any, IsPermutation, if◌then◌else◌, nat_le}
 use Rattle.std.specs.List.{AllByRecursion}
 use Rattle.std.proofs.lemmas.Bool.{leb-false}
 use Rattle.std.proofs.Math.Dec.{leb-suc-suc, leb-suc-zero}
@@ -9,8 +9,8 @@ use Rattle.auction_terms.specs.Allocations.{Book, IsSized}
 use Rattle.auction_terms.specs.Packages.{Lots}
 use Rattle.auction_terms.specs.declared.bids.Choice.{Choice}
 use Rattle.auction_terms.specs.declared.limits.TheConstants.{MOST_TIES}
-use Rattle.outcome.specs.Following.{AreAllGreatest, AreAllKept, EachPair, following, with_following}
-use Rattle.outcome.specs.Others.{AreTrueOthers, IsAnother, OthersAreTrue}
+use Rattle.outcome.specs.Following.{AreAllGreatest, AreAllKept, EachPair, with_following}
+use Rattle.outcome.specs.Others.{IsAnother, OthersAreTrue}
 use Rattle.outcome.specs.declared.others.Further.{Further}
 use Rattle.outcome.specs.declared.others.Further.TheVariants.{More, NoOther}
 use Rattle.program_rows.specs.Faithful.{IsGreatest}

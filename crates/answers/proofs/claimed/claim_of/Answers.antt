@@ -1,4 +1,4 @@
-use Rattle.std.proofs.Common.{◌≡◌, List, subst, sym, ◌⊎◌, IfErr}
+use Rattle.std.proofs.Common.{List, subst, sym, ◌⊎◌, IfErr}
 use Rattle.auction_terms.specs.declared.bids.Choice.{Choice}
 use Rattle.auction_input.specs.Refused.{Refuses}
 use Rattle.auction_input.specs.Settled.{held}

@@ -1,4 +1,4 @@
-use Rattle.std.proofs.Common.{◌≡◌, ◌∙◌, ◌∷◌, [], ◌⊎◌, ℕ, Bool, List, false, inl, inr, length, map, refl, rules, slice_index_or, subst, sym, true}
+use Rattle.std.proofs.Common.{◌≡◌, ◌∙◌, ◌∷◌, [], ◌⊎◌, Bool, List, false, inl, inr, length, map, refl, rules, slice_index_or, subst, sym, true}
 use Rattle.std.specs.Prelude.{All}
 use Rattle.auction_terms.specs.Allocations.{IsFeasible}
 use Rattle.auction_terms.specs.Keeping.{is_kept_choice}

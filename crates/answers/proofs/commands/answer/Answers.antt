@@ -1,4 +1,3 @@
-use Rattle.std.proofs.Common.{◌≡◌}
 use Rattle.answers.proofs.WrittenOnFacts.{compiled-on, mapped-on, reported-on, text-on, verified-on}
 use Rattle.answers.proofs.commands.answer.Goals as goal
 

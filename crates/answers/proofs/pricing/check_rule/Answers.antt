@@ -1,4 +1,4 @@
-use Rattle.std.proofs.Common.{◌∙◌, ap, sym}
+use Rattle.std.proofs.Common.{ap}
 use Rattle.std.specs.Option.{option_map}
 use Rattle.answers.specs.Pricing.{unshown_refused}
 use Rattle.answers.proofs.pricing.check_rule.Goals as goal

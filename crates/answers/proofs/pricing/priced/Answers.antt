@@ -1,4 +1,4 @@
-use Rattle.std.proofs.Common.{◌≡◌, ◌⊎◌, ◌∙◌, [], List, ℕ, Ok, ap, inl, length, slice_index_or, subst, sym}
+use Rattle.std.proofs.Common.{◌≡◌, ◌⊎◌, ◌∙◌, [], List, ℕ, Ok, ap, inl, slice_index_or, subst, sym}
 use Rattle.auction_input.proofs.InputTextFacts.{Text}
 use Rattle.auction_input.specs.Refused.{Refuses}
 use Rattle.auction_input.specs.Settled.{held}

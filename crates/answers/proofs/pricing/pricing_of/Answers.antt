@@ -1,4 +1,4 @@
-use Rattle.std.proofs.Common.{◌≡◌, ◌⊎◌, ◌<◌, ◌≤◌, ◌∙◌, [], List, None, ℕ, arith, false, inl, inr, length, rules, slice_index_or, subst, sym}
+use Rattle.std.proofs.Common.{◌≡◌, ◌⊎◌, ◌<◌, [], List, None, arith, false, inl, inr, length, rules, slice_index_or, subst, sym}
 use Rattle.std.proofs.lemmas.List.{length-map}
 use Rattle.auction_input.proofs.InputTextFacts.{Text}
 use Rattle.auction_input.specs.Auction.{Auction}

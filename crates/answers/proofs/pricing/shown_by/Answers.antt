@@ -1,4 +1,4 @@
-use Rattle.std.proofs.Common.{◌≡◌, ◌∷◌, [], List, None, Option, Some, ℕ, subst}
+use Rattle.std.proofs.Common.{◌≡◌, ◌∷◌, [], List, None, Some, ℕ, subst}
 use Rattle.auction_input.proofs.StepFacts.{if-err-of}
 use Rattle.auction_input.specs.Refused.{Refuses}
 use Rattle.auction_input.specs.Settled.{held}

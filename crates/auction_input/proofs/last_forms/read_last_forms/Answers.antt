@@ -3,15 +3,13 @@ use Rattle.std.proofs.lemmas.List.{length-map}
 use Rattle.std.specs.List.{zip}
 use Rattle.std.specs.Prelude.{codes}
 use Rattle.auction_input.specs.CallLimit.{one_too_many}
-use Rattle.auction_input.specs.FormTexts.{form_elsewhere, in_one_text}
 use Rattle.auction_input.specs.LastForms.{HoldsLast, parsed_forms}
 use Rattle.auction_input.specs.ParsedParts.{only_text}
 use Rattle.auction_input.specs.ParsedTexts.{parsed_form, parsed_terms}
-use Rattle.auction_input.specs.Parts.{parts_held, parts_named, text_numbers}
+use Rattle.auction_input.specs.Parts.{parts_held, parts_named}
 use Rattle.auction_input.specs.Refused.{Refuses}
 use Rattle.auction_input.specs.declared.parts.Part.{Part}
 use Rattle.auction_input.specs.declared.refusal.Refusal.TheVariants as refusal
-use Rattle.auction_input.specs.declared.request.Request.TheVariants.{Forms}
 use Rattle.auction_input.proofs.LastFormFacts.{each-refused, elsewhere-refused, forms-are, limit-refused, read_so, rules-refused}
 use Rattle.auction_input.proofs.StageFacts.{each-count, stop}
 use Rattle.auction_input.proofs.StepFacts.{if-err-of}

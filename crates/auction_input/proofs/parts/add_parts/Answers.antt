@@ -1,4 +1,4 @@
-use Rattle.std.proofs.Common.{rules, ◌≡◌, ◌∷◌, [], ◌++◌, ◌+◌, ◌∙◌, List, ap, sym, arith, refl, subst, length, None, Some}
+use Rattle.std.proofs.Common.{rules, ◌≡◌, ◌∷◌, [], ◌++◌, ◌+◌, ◌∙◌, List, sym, refl, subst, length, None, Some}
 use Rattle.std.proofs.lemmas.List.{length-map}
 use Rattle.auction_input.specs.inside.Parts.{kind_named, part_name, part}
 use Rattle.auction_input.specs.Parts.{Part, cut_lines, parts_held, parts_in, unknown_part}

@@ -1,8 +1,7 @@
-use Rattle.std.proofs.Common.{◌≡◌, ◌+◌, ◌∙◌, ap, arith, sym}
+use Rattle.std.proofs.Common.{◌∙◌, ap, arith}
 use Rattle.auction_input.specs.Parts.{cut_lines, parts_in}
 use Rattle.auction_input.specs.Places.{parts_counted}
 use Rattle.auction_input.specs.inside.Parts.{part}
-use Rattle.auction_input.proofs.PartFacts.{none-left}
 use Rattle.auction_input.proofs.PlaceFacts.{counted-more}
 use Rattle.auction_input.proofs.places.count_parts.Goals as goal
 

@@ -1,4 +1,4 @@
-use Rattle.std.proofs.Common.{◌≡◌, ◌∙◌, ◌∷◌, ◌+◌, ℕ, Bool, suc, List, ap, ap₂, drop, length, nat_le, refl, sym, take}
+use Rattle.std.proofs.Common.{◌≡◌, ◌∙◌, ◌∷◌, Bool, suc, List, ap, ap₂, drop, length, nat_le, take}
 use Rattle.std.specs.Prelude.{if◌then◌else◌}
 use Rattle.auction_terms.specs.Terms.{lots_in}
 use Rattle.auction_terms.specs.declared.bids.Choice.{Choice}

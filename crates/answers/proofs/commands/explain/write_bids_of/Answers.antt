@@ -1,4 +1,4 @@
-use Rattle.std.proofs.Common.{◌≡◌, ◌∙◌, Bool, IfErr, List, OnOk, Result, ap, false, inl, refl, rules, subst, sym, true, ℕ, []}
+use Rattle.std.proofs.Common.{◌≡◌, IfErr, List, OnOk, Result, false, inl, refl, rules, subst, sym, true, ℕ, []}
 use Rattle.answers.specs.Answer.{output_of}
 use Rattle.answers.specs.Exact.{Ends, Writes, by_refusal}
 use Rattle.answers.proofs.ExplainingFacts.{as-unasked, bids-as, bids-refused}

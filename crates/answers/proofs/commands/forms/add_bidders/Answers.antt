@@ -1,4 +1,4 @@
-use Rattle.std.proofs.Common.{◌+◌, ◌<◌, ◌≤◌, ℕ, List, None, ap, arith, length, slice_index_or}
+use Rattle.std.proofs.Common.{◌+◌, ◌<◌, ◌≤◌, ℕ, List, None, ap, length, slice_index_or}
 use Rattle.answers.specs.inside.Forms.{held_line}
 use Rattle.auction_input.specs.declared.last_forms.LastForms.{LastForms}
 use Rattle.auction_terms.specs.declared.rules.Bidder.{Bidder}

@@ -1,4 +1,4 @@
-use Rattle.std.proofs.Common.{◌≡◌, ◌<◌, ◌∙◌, arith, ap, ℕ, List, length}
+use Rattle.std.proofs.Common.{◌≡◌, ◌<◌, ◌∙◌, arith, ap, List, length}
 use Rattle.auction_input.proofs.LastFormFacts.{one-more-held}
 use Rattle.auction_input.specs.declared.last_forms.TheConstants.{FORMS_LEN}
 use Rattle.auction_terms.specs.declared.bids.Bid.{Bid}
