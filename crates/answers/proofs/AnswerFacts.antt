@@ -26,7 +26,7 @@ by-auction asked input some settled = refl
 
 meets-limit : (asked : Request) (input : Input) (auction : Auction) (r : Refusal) → parsed_auction asked input ≡ Ok auction
     → IsBeyondLimit asked auction r → MeetsLimit asked input r
-meets-limit (request.Verify workers) input auction r parsed beyond = (auction, (described-auction (request.Verify workers) input auction).0 parsed, beyond)
+meets-limit (request.Verify workers) input auction r parsed beyond = (auction, parsed, beyond)
 meets-limit asked input auction r parsed beyond = absurd beyond
 
 -- the auction that was read, with texts that are faithful to it

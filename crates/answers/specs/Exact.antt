@@ -1,8 +1,7 @@
 -- What a command leaves, by what is reported: the whole output, or the first refusal.
 use Rattle.std.specs.Prelude.{◌≡◌, ◌⊎◌, ℕ, List, [], Result, Ok, length, slice_index_or}
 use Rattle.auction_input.specs.Input.{Input}
-use Rattle.auction_input.specs.Auction.{Auction}
-use Rattle.auction_input.specs.Described.{Describes}
+use Rattle.auction_input.specs.Auction.{Auction, parsed_auction}
 use Rattle.auction_input.specs.Refused.{Refuses}
 use Rattle.auction_input.specs.declared.refusal.Refusal.{Refusal}
 use Rattle.auction_input.specs.Settled.{IsUnsettled}
@@ -40,7 +39,7 @@ IsBeyondSums auction r =
 
 -- `verify` alone adds up in 128 bits
 abbrev pub MeetsLimit : Request → Input → Refusal → Type 0
-MeetsLimit (request.Verify workers) input r = (auction : Auction) × Describes (request.Verify workers) input auction × IsBeyondSums auction r
+MeetsLimit (request.Verify workers) input r = (auction : Auction) × (parsed_auction (request.Verify workers) input ≡ Ok auction) × IsBeyondSums auction r
 MeetsLimit asked input r = ⊥
 
 -- why a request is refused, or its output cut short; what the input doesn't settle is a wrong answer of the desk, and the limit of sums

@@ -1,6 +1,6 @@
 -- What the stages of an auction give.
 use Rattle.std.proofs.Common.{◌≡◌, ◌≤◌, ◌<◌, ◌+◌, ◌∷◌, ◌∙◌, [], ℕ, Bool, zero, suc, List, Option, None, Some, Result, Ok}
-use Rattle.std.proofs.Common.{Err, ap, ap₂, arith, length, map, refl, sym, inl, inr, Vec, codes, Global}
+use Rattle.std.proofs.Common.{Err, ap, ap₂, arith, length, map, refl, sym, inl, inr, ◌≢◌, Vec, codes, Global}
 use Rattle.std.specs.List.{last_or, range_with_len}
 use Rattle.auction_terms.specs.Allocations.{Book}
 use Rattle.auction_terms.specs.Terms.{Terms, lots_in}
@@ -15,6 +15,7 @@ use Rattle.auction_input.specs.Input.{Input}
 use Rattle.auction_terms.specs.FirstFault.{first_fault}
 use Rattle.auction_input.specs.Refused.{Refuses}
 use Rattle.auction_input.specs.declared.refusal.Refusal.{Refusal}
+use Rattle.auction_input.specs.Settled.{RefusesAuction}
 use Rattle.auction_terms.specs.Lines.{bytes_of}
 use Rattle.auction_input.specs.Parts.{Part, TellsParts, parts_held, parts_named, input_parts, text_numbers}
 use Rattle.auction_input.specs.ParsedParts.{only_text, parsed_parts}
@@ -30,6 +31,7 @@ use Rattle.auction_input.specs.declared.form_texts.AnotherForm.{AnotherForm}
 use Rattle.auction_input.specs.declared.part_kind.PartKind.{PartKind}
 use Rattle.auction_input.specs.declared.parts.Part as declared
 use Rattle.auction_input.specs.declared.refusal.Refusal.TheVariants as refusal
+use Rattle.auction_input.specs.declared.request.Request.TheVariants as request
 use Rattle.auction_input.specs.declared.request.Request.{Request}
 use Rattle.auction_input.specs.declared.round.RoundFault.{RoundFault}
 use Rattle.auction_input.specs.declared.round.RoundFault.TheVariants as round
@@ -163,6 +165,18 @@ module _ (asked : Request) (input : Input) (last_wins : Bool) (same : input.last
   pub parsed-is : (t : Terms) (forms : List Offers) (groups : List (List ℕ)) (parsed : Tell last_wins parts t forms groups)
       → parsed_auction asked input ≡ Ok (auction_of t forms groups (rest_in parts))
   parsed-is t forms groups parsed = auction-is t parsed.rules forms parsed.each parsed.alone groups parsed.known parsed.accepted
+
+  -- a round that leaves no book leaves no auction
+  pub run-refused : asked ≢ request.Check → (r : Refusal) → RefusesRun last_wins parts r → RefusesAuction asked input r
+  run-refused reads r (inl refused) = inl (refused asked input same cut)
+  run-refused reads r (inr unanswered) =
+      inr (
+        reads,
+        auction_of unanswered.t unanswered.forms unanswered.groups (rest_in
+            parts),
+        parsed-is unanswered.t unanswered.forms unanswered.groups unanswered.parsed,
+        unanswered.is,
+      )
 
 -- what the round leaves is a matter of the desk, or of memory
 pub round-refused : (last_wins : Bool) (parts : List Part) (t : Terms) (forms : List Offers) (groups : List (List ℕ))

@@ -5,7 +5,7 @@ use Rattle.std.proofs.lemmas.Bool.{cases_Bool, eq-eqb, eqb-true, ltb-false, ltb-
 use Rattle.std.proofs.lemmas.Bool.Decides.{leb_tells}
 use Rattle.std.proofs.lemmas.List.Elements.{All-cons, All-head, All-nil, All-tail, filter-append}
 use Rattle.std.proofs.lemmas.List.Kept.{AllPairs-cons}
-use Rattle.std.specs.Prelude.{◌↔◌, ◌≢◌, ◌||◌, All, AllPairs, if◌then◌else◌, not}
+use Rattle.std.specs.Prelude.{◌↔◌, ◌||◌, All, AllPairs, if◌then◌else◌, not}
 use Rattle.std.specs.List.{AllZip, list_any, zip}
 use Rattle.std.specs.Option.{option_or}
 use Rattle.std.specs.Str.{bytes_eq}
@@ -34,7 +34,6 @@ use Rattle.auction_input.specs.ParsedParts.{only_text, parsed_parts}
 use Rattle.auction_input.specs.ParsedTexts.{form_in, parsed_form, parsed_groups, parsed_terms}
 use Rattle.auction_input.specs.Parts.{Part, bytes_before, cut_lines, has_bytes_before, input_fault, input_parts, part_fault, part_names, parts_named, text_numbers, unknown_part}
 use Rattle.auction_input.specs.Plan.{miscounted, taken_by}
-use Rattle.auction_input.specs.Settled.{RefusesAuction}
 use Rattle.auction_input.specs.Submissions.{forms_of}
 use Rattle.auction_input.specs.declared.part_kind.PartKind.TheVariants as kind
 use Rattle.auction_input.specs.declared.parts.PartFault.{PartFault}
@@ -42,10 +41,9 @@ use Rattle.auction_input.specs.declared.parts.PartFault.TheVariants as fault
 use Rattle.auction_input.specs.declared.refusal.Refusal.{Refusal}
 use Rattle.auction_input.specs.declared.refusal.Refusal.TheVariants as refusal
 use Rattle.auction_input.specs.declared.request.Request.{Request}
-use Rattle.auction_input.specs.declared.request.Request.TheVariants as request
-use Rattle.auction_input.specs.inside.Auctions.{RefusesRun, Tell, bidders_of}
+use Rattle.auction_input.specs.inside.Auctions.{Tell, bidders_of}
 use Rattle.auction_input.proofs.AnswerFacts.{ok-after, ok-is, ok-refused_as, unless-ok}
-use Rattle.auction_input.proofs.AuctionFacts.{auction-is, parsed-is}
+use Rattle.auction_input.proofs.AuctionFacts.{auction-is}
 use Rattle.auction_input.proofs.CallFacts.{call-left}
 use Rattle.auction_input.proofs.RecordFacts.{neither}
 use Rattle.auction_input.proofs.FormTextFacts.{first-text-known, first-text-more, first-text-own}
@@ -453,11 +451,3 @@ module _ (asked : Request) (input : Input) (last_wins : Bool) (same : input.last
         together = λ one. rw is (alone.1 (sym same ∙ one));
         few = none-few [] forms told.accepted (λ b. omega arith);
       }
-
-  -- a round that leaves no book leaves no auction
-  pub run-refused : asked ≢ request.Check → (r : Refusal) → RefusesRun last_wins parts r → RefusesAuction asked input r
-  run-refused reads r (inl refused) = inl (refused asked input same cut)
-  run-refused reads r (inr unanswered) =
-      let auction = auction_with parts unanswered.t unanswered.forms unanswered.groups in
-      let parsed = parsed-is asked input last_wins same parts cut unanswered.t unanswered.forms unanswered.groups unanswered.parsed in
-      inr (reads, auction, read-described asked input auction parsed, unanswered.is)

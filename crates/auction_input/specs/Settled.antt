@@ -1,8 +1,8 @@
 -- What an input leaves: an auction that is settled, or the first refusal.
-use Rattle.std.specs.Prelude.{◌≡◌, ◌≢◌, ◌⊎◌, List}
+use Rattle.std.specs.Prelude.{◌≡◌, ◌≢◌, ◌⊎◌, List, Ok}
 use Rattle.auction_input.specs.Auction.{Auction, parsed_auction}
 use Rattle.auction_terms.specs.Lines.{bytes_of}
-use Rattle.auction_input.specs.Described.{Describes, HasForms}
+use Rattle.auction_input.specs.Described.{HasForms}
 use Rattle.auction_input.specs.Input.{Input}
 use Rattle.auction_input.specs.Refused.{Refuses}
 use Rattle.auction_input.specs.Submissions.{AreSubmitted}
@@ -35,10 +35,10 @@ held auction = record {
   rule_texts = bytes_of auction.rule_texts.items;
 }
 
--- the input describes an auction, which the request reads, and yet a wrong answer of the desk is reported: that it gave one isn't said, since
+-- the auction, which the request reads, is accepted, and yet a wrong answer of the desk is reported: that it gave one isn't said, since
 -- nothing is known of what a lock gives
 abbrev pub IsUnsettled : Request → Input → Refusal → Type 0
-IsUnsettled asked input r = (asked ≢ request.Check) × (auction : Auction) × Describes asked input auction × (r ≡ refusal.Round round.WrongAnswer)
+IsUnsettled asked input r = (asked ≢ request.Check) × (auction : Auction) × (parsed_auction asked input ≡ Ok auction) × (r ≡ refusal.Round round.WrongAnswer)
 
 -- why an input leaves no settled auction
 abbrev pub RefusesAuction : Request → Input → Refusal → Type 0

@@ -5,8 +5,8 @@ use Rattle.auction_input.specs.Settled.{RefusesAuction}
 use Rattle.auction_input.specs.declared.parts.Part as declared
 use Rattle.auction_input.specs.declared.refusal.Refusal.TheVariants as refusal
 use Rattle.auction_input.specs.inside.Auctions.{HasRun, HoldTexts, RefusesRun}
-use Rattle.auction_input.proofs.AuctionFacts.{auction-held, rest-same, rest_in, sold, parsed-is}
-use Rattle.auction_input.proofs.DescribedFacts.{described-auction, has-forms, run-refused}
+use Rattle.auction_input.proofs.AuctionFacts.{auction-held, rest-same, rest_in, run-refused, sold, parsed-is}
+use Rattle.auction_input.proofs.DescribedFacts.{described-auction, has-forms}
 use Rattle.auction_input.proofs.StageFacts.{stop}
 use Rattle.bid_desk.specs.Sale.{sale_of}
 use Rattle.auction_input.proofs.StepFacts.{if-err-of}
