@@ -70,7 +70,7 @@ MEASURING = {
 SHOWN = {
     "certificates": "(?s).*that nobody wins more: made in .*prices: made in .*that nobody else wins as much: made in",
     "outcomes": r"(?s).*before: [\d.]+ s, \d+ MB, status 0, verified\n  now: [\d.]+ s, \d+ MB, status 0, verified\n"
-    r"  of 4 groups 4 have the same total and cost, 4 the same winners; the prices come to 30 before and to 30 now\n"
+    r"  of 4 groups 4 have the same total, 4 the same cost, 4 the same winners; the prices come to 30 before and to 30 now\n"
     r"  cbc alone, 1 groups",
     "peers": r"(?s).*\| explain",
     "hostile": r"(?s).*\| submitted .*\n\n[01] within bounds, [01] beyond\n$",
