@@ -9,15 +9,14 @@ taken away. No file that it writes gets more than BYTES. The status is the progr
 can't be started.
 """
 import ctypes
+import gc
 import os
 import resource
 import signal
 import sys
 import time
-import traceback
 from collections.abc import Callable, Collection, Iterator, Mapping
 from contextlib import AbstractContextManager, contextmanager, suppress
-from pathlib import Path
 
 _PR_SET_PDEATHSIG = 1
 _PR_SET_CHILD_SUBREAPER = 36
@@ -81,6 +80,8 @@ def hold_signals() -> Iterator[None]:
 def _fork(step: Step) -> int:
     """Does a step in a process of its own, which ends whatever goes wrong; its number."""
     parent = os.getpid()
+    # (a collection in the child would write to all that it shares with this process)
+    gc.freeze()
     process = os.fork()
     if not process:
         status = 1
@@ -88,6 +89,7 @@ def _fork(step: Step) -> int:
             status = _run_alone(step, parent)
         finally:
             os._exit(status)
+    gc.unfreeze()
     return process
 
 
@@ -105,6 +107,8 @@ def _run_alone(step: Step, parent: int) -> int:
         return INTERRUPTED
     except BaseException:
         if sys.stderr is not None:
+            import traceback  # (here, since each solver would wait until it is read)
+
             traceback.print_exc()
             sys.stderr.flush()
         return 1
@@ -183,11 +187,16 @@ def _reap() -> dict[int, int]:
     return statuses
 
 
+def _list_children() -> list[str]:
+    """The numbers of this process's children."""
+    with open(f"/proc/self/task/{os.getpid()}/children") as children:
+        return children.read().split()
+
+
 def _end_all() -> None:
     """Ends all that was started: whatever loses its parent becomes a child of this process."""
-    children = Path(f"/proc/self/task/{os.getpid()}/children")
     end = time.monotonic() + _LAST_PATIENCE
-    while left := children.read_text().split():
+    while left := _list_children():
         if time.monotonic() > end:
             raise TimeoutError(f"these processes can't be ended: {' '.join(left)}")
         for process in left:
