@@ -1,6 +1,7 @@
 -- A record without a fault is one that describes a bid, and the other way round.
-use Rattle.std.proofs.Common.{◌≡◌, ◌≢◌, ◌∙◌, ◌+◌, ◌≤◌, ◌∷◌, Bool, true, false, ℕ, List, [], Option, Some, None, arith, drop, length, map, refl, sym}
-use Rattle.std.proofs.Common.{◌==◌, ◌%◌, ◌&&◌, is_some, is_none, nat_le, nat_lt, not, eq-eqb, eqb-true, leb-true, All}
+use Rattle.std.proofs.Common.{◌≡◌, ◌≢◌, ◌∙◌, ◌+◌, ◌≤◌, ◌∷◌, ◌++◌, Bool, true, false, ℕ, List, [], Option, Some, None, arith, drop, length, map, refl, sym}
+use Rattle.std.proofs.Common.{◌==◌, ◌%◌, ◌&&◌, is_some, is_none, option_to_list, nat_le, nat_lt, not, eq-eqb, eqb-true, leb-true, All}
+use Rattle.std.specs.Bool.{MatchBool}
 use Rattle.std.specs.List.{list_all}
 use Rattle.std.specs.Prelude.{codes}
 use Rattle.std.proofs.lemmas.Bool.{and_parts, false≢true, lt-ltb, ltb-true}
@@ -227,3 +228,12 @@ allowed-within t eligibility bid terms allowed =
   where
     all-small : (lots : List ℕ) → list_all (λ (quantity : ℕ). nat_le quantity GREATEST_QUANTITY) lots ≡ true → All (λ quantity. quantity ≤ GREATEST_QUANTITY) lots
     all-small lots pass k d low = leb-true _ _ (AllPass-from_list_all (λ quantity. nat_le quantity GREATEST_QUANTITY) lots pass k d low)
+
+-- three faults that may be are none where each is none
+pub none-of-three : {A : Type 0} (first second third : Option A) → MatchBool (is_none first && is_none second && is_none third)
+    (option_to_list first ++ (option_to_list second ++ option_to_list third) ≡ [])
+    (option_to_list first ++ (option_to_list second ++ option_to_list third) ≢ [])
+none-of-three None None None = refl
+none-of-three None None (Some third) = λ e. cc e
+none-of-three None (Some second) third = λ e. cc e
+none-of-three (Some first) second third = λ e. cc e

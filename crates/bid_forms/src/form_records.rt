@@ -288,30 +288,22 @@ fn room_fault(place: u32, before: &[Bid]) -> Option<FaultAt<FormFault>>
     None
 }
 
-// Adds these faults, and returns whether there is none.
-fn add_each(
+// Adds a fault, if there is one, and returns whether there is none.
+fn passes(
     faults: &mut All<FormFault>,
-    first: Option<FaultAt<FormFault>>,
-    second: Option<FaultAt<FormFault>>,
-    third: Option<FaultAt<FormFault>>,
+    at: Option<FaultAt<FormFault>>,
 ) -> Result<bool, AllocError>
     ensures told { OnOk result (HoldsMore faults.old faults.new
-        (option_to_list (option_map kept_fault first)
-        ++ (option_to_list (option_map kept_fault second)
-        ++ option_to_list (option_map kept_fault third)))) }
-    ensures none { IfOk result (λ none. MatchBool none
-        (option_to_list (option_map kept_fault first)
-        ++ (option_to_list (option_map kept_fault second)
-        ++ option_to_list (option_map kept_fault third)) ≡ [])
-        (option_to_list (option_map kept_fault first)
-        ++ (option_to_list (option_map kept_fault second)
-        ++ option_to_list (option_map kept_fault third)) ≢ [])) }
+        (option_to_list (option_map kept_fault at))) }
+    ensures none { IfOk result (λ none. none ≡ is_none (option_map kept_fault at)) }
 {
-    let none = first.is_none() && second.is_none() && third.is_none();
-    faults.add_any(first)?;
-    faults.add_any(second)?;
-    faults.add_any(third)?;
-    Ok(none)
+    match at {
+        Some(at) => {
+            faults.add(at)?;
+            Ok(false)
+        }
+        None => Ok(true),
+    }
 }
 
 // Adds the faults of the package of a record, by the bids before it, and returns whether there is none. The package is among those seen
@@ -345,9 +337,12 @@ fn check_package(
     let categories = entry.rules.categories();
     let place = entry.place;
     let refused = package_fault(categories, entry.eligibility, place, quantities);
+    let is_allowed = passes(faults, refused)?;
     let below = reserve_fault(entry, quantities, amount);
+    let is_enough = passes(faults, below)?;
     let repeated = repeat_fault(seen, place, before, quantities)?;
-    add_each(faults, refused, below, repeated)
+    let is_new = passes(faults, repeated)?;
+    Ok(is_allowed & is_enough & is_new)
 }
 
 // Adds the faults of the quantities of a record, or of their package, or returns the quantities.
