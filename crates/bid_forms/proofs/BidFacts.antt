@@ -1,10 +1,10 @@
 -- A record without a fault is one that describes a bid, and the other way round.
-use Rattle.std.proofs.Common.{◌≡◌, ◌≢◌, ◌∙◌, ◌+◌, ◌≤◌, ◌∷◌, ◌++◌, Bool, true, false, ℕ, List, [], Option, Some, None, arith, drop, length, map, refl, sym}
-use Rattle.std.proofs.Common.{◌==◌, ◌%◌, ◌&&◌, is_some, is_none, option_to_list, nat_le, nat_lt, not, eq-eqb, eqb-true, leb-true, All}
+use Rattle.std.proofs.Common.{◌≡◌, ◌≢◌, ◌∙◌, ◌+◌, ◌≤◌, ◌<◌, ◌∷◌, ◌++◌, Bool, true, false, ℕ, List, [], Option, Some, None, arith, drop, length, map, refl, sym}
+use Rattle.std.proofs.Common.{◌==◌, ◌%◌, ◌&&◌, is_some, is_none, nat_le, nat_lt, not, eq-eqb, eqb-true, leb-true, All}
 use Rattle.std.specs.Bool.{MatchBool}
 use Rattle.std.specs.List.{list_all}
 use Rattle.std.specs.Prelude.{codes}
-use Rattle.std.proofs.lemmas.Bool.{and_parts, false≢true, lt-ltb, ltb-true}
+use Rattle.std.proofs.lemmas.Bool.{and_parts, false≢true, le-ltb, lt-ltb, ltb-true}
 use Rattle.std.proofs.lemmas.List.{length-drop, length-map}
 use Rattle.std.proofs.lemmas.List.Folds.{list_all-map}
 use Rattle.std.proofs.lemmas.List.Sums.{AllPass-from_list_all}
@@ -13,7 +13,7 @@ use Rattle.auction_terms.proofs.AcceptedFacts.{both-none, or_else-none}
 use Rattle.auction_terms.proofs.JudgeFacts.{holds-both, holds-none, none-failed}
 use Rattle.auction_terms.specs.AllFaults.{accepted_with, or_else}
 use Rattle.auction_terms.specs.FirstFault.{first_failed}
-use Rattle.auction_terms.specs.Judged.{Fault, HoldsMore, fault_at, fault_of}
+use Rattle.auction_terms.specs.Judged.{Fault, HoldsMore, fault_at, fault_of, fault_of_whole}
 use Rattle.auction_terms.specs.Numbers.{number_of}
 use Rattle.auction_terms.specs.Records.{Record}
 use Rattle.auction_terms.specs.RulesText.{field_number, is_between, parsed_numeral, record_field}
@@ -23,7 +23,7 @@ use Rattle.auction_terms.specs.declared.judge.All.{All as Held}
 use Rattle.auction_terms.specs.declared.limits.TheConstants.{GREATEST_AMOUNT, GREATEST_QUANTITY, MOST_BIDS}
 use Rattle.bid_forms.specs.AcceptedForms.{IsBidRecord}
 use Rattle.bid_forms.specs.FormText.{amount_checks, bid_faults, count_checks, field_faults, form_room_checks, is_number_text, is_small_text}
-use Rattle.auction_terms.specs.Causes.{limits_cause}
+use Rattle.auction_terms.specs.Causes.{limits_cause, most_cause}
 use Rattle.bid_forms.specs.FormText.{package_checks, package_faults, parsed_bid, quantity_faults, repeat_checks, reserve_checks}
 use Rattle.bid_forms.proofs.HeaderFacts.{passed}
 use Rattle.bid_forms.proofs.RecordFacts.{has_quantities}
@@ -229,11 +229,37 @@ allowed-within t eligibility bid terms allowed =
     all-small : (lots : List ℕ) → list_all (λ (quantity : ℕ). nat_le quantity GREATEST_QUANTITY) lots ≡ true → All (λ quantity. quantity ≤ GREATEST_QUANTITY) lots
     all-small lots pass k d low = leb-true _ _ (AllPass-from_list_all (λ quantity. nat_le quantity GREATEST_QUANTITY) lots pass k d low)
 
--- three faults that may be are none where each is none
-pub none-of-three : {A : Type 0} (first second third : Option A) → MatchBool (is_none first && is_none second && is_none third)
-    (option_to_list first ++ (option_to_list second ++ option_to_list third) ≡ [])
-    (option_to_list first ++ (option_to_list second ++ option_to_list third) ≢ [])
-none-of-three None None None = refl
-none-of-three None None (Some third) = λ e. cc e
-none-of-three None (Some second) third = λ e. cc e
-none-of-three (Some first) second third = λ e. cc e
+-- three lists of faults are empty together where each is
+pub none-of-three : {F : Type 0} (x y z : Bool) (first second third : List F) → MatchBool x (first ≡ []) (first ≢ [])
+    → MatchBool y (second ≡ []) (second ≢ []) → MatchBool z (third ≡ []) (third ≢ [])
+    → MatchBool (x && y && z) (first ++ (second ++ third) ≡ []) (first ++ (second ++ third) ≢ [])
+none-of-three true true true first second third one two three = rw (one, two, three) refl
+none-of-three true true false first second third one two three = λ e. three (both-none second third (both-none first (second ++ third) e).1).1
+none-of-three true false z first second third one two three = λ e. two (both-none second third (both-none first (second ++ third) e).1).0
+none-of-three false y z first second third one two three = λ e. one (both-none first (second ++ third) e).0
+
+-- what isn't none
+pub some-is : {A : Type 0} (found : Option A) → found ≢ None → is_none found ≡ false
+some-is None some = absurd (some refl)
+some-is (Some value) some = refl
+
+-- a record with a field for the amount and one for each category passes the check of its fields, and one with room after those before it that of room
+pub count-passes : (t : Terms) (place : ℕ) (r : Record) → length r ≡ length t.categories + 1 → first_failed (count_checks t.categories place r) ≡ None
+count-passes t place r is = rw (eq-eqb (length r) (length t.categories + 1) is) refl
+
+pub room-passes : (place : ℕ) (before : List Bid) → length before < MOST_BIDS → first_failed (form_room_checks place before) ≡ None
+room-passes place before room = rw (lt-ltb (length before) MOST_BIDS room) refl
+
+pub room-fails : (place : ℕ) (before : List Bid) → MOST_BIDS ≤ length before
+    → fault_of (form_room_checks place before) ≡ fault_of_whole (fault.TooManyBids place) (Some (most_cause MOST_BIDS (codes " bids"))) ∷ []
+room-fails place before full = rw (le-ltb (length before) MOST_BIDS full) refl
+
+-- and where it has none, the record has a fault
+pub room-refused : (t : Terms) (eligibility place : ℕ) (before : List Bid) (r : Record) → MOST_BIDS ≤ length before
+    → bid_faults t eligibility place before r ≢ []
+room-refused t eligibility place before r full none =
+    let count = or_else-none (fault_of (count_checks t.categories place r)) _ none in
+    let amounts = both-none (fault_of (amount_checks t.step place r)) _ count.1 in
+    let last = both-none (or_else (quantity_faults place r) (package_faults t eligibility place before r)) (fault_of (form_room_checks place before)) amounts.1 in
+    let room = sym (room-fails place before full) ∙ last.1 in
+    cc room

@@ -18,7 +18,7 @@ ghost use Rattle.bid_forms.specs.FormText.{form_header_checks, is_number_text, i
 ghost use Rattle.bid_forms.specs.FormText.{quantity_faults, repeat_checks, reserve_checks};
 ghost use Rattle.bid_forms.specs.declared.form_text.FormFault.TheVariants as fault;
 ghost use Rattle.bid_forms.specs.inside.Fingerprints.{AreSeen};
-ghost use Rattle.bid_forms.specs.inside.FormText.{IsAmountOf};
+ghost use Rattle.bid_forms.specs.inside.FormText.{IsAmountOf, reserve_faults};
 
 use crate::form_text::FormFault;
 use crate::seen::{Seen, earlier};
@@ -65,42 +65,6 @@ pub(crate) fn header_fault(
     None
 }
 
-// The fault of a record with another number of fields than there are categories, and one.
-fn count_fault(categories: &[Category], place: u32, row: &ByteRecord) -> Option<FaultAt<FormFault>>
-    ensures { option_map kept_fault result
-        ≡ first_failed (count_checks categories.now place (fields_of row.now)) }
-{
-    if row.len() != categories.len() + 1 {
-        let cause = count_cause(row.len(), categories.len() + 1);
-        return Some(FaultAt::of_whole(FormFault::FieldCount { place }, Some(cause)));
-    }
-    None
-}
-
-// The amount of a record, or its fault.
-fn read_amount(step: u64, place: u32, row: &ByteRecord) -> Result<u64, FaultAt<FormFault>>
-    requires { 1 ≤ step }
-    ensures amount { IfOk result (λ amount. IsAmountOf step place (fields_of row.now)
-        (Some amount)) }
-    ensures fault { IfErr result (λ at. first_failed (amount_checks step place
-        (fields_of row.now)) ≡ Some (kept_fault at)) }
-{
-    let text = field(row, 1);
-    let Some(amount) = number(text) else {
-        let cause = Wording::Words("isn't 1 to 18 digits");
-        return Err(FaultAt::new(1, text, FormFault::AmountText { place }, cause));
-    };
-    if amount < 1 || amount > GREATEST_AMOUNT {
-        let cause = limits_cause(1, GREATEST_AMOUNT);
-        return Err(FaultAt::new(1, text, FormFault::AmountRange { place }, cause));
-    }
-    if amount % step != 0 {
-        let cause = Wording::Number("isn't a multiple of ", step);
-        return Err(FaultAt::new(1, text, FormFault::AmountStep { place }, cause));
-    }
-    Ok(amount)
-}
-
 // Adds the fault of the amount of a record, or returns the amount.
 fn take_amount(
     faults: &mut All<FormFault>,
@@ -113,13 +77,23 @@ fn take_amount(
         (fault_of (amount_checks step place (fields_of row.now)))) }
     ensures amount { IfOk result (IsAmountOf step place (fields_of row.now)) }
 {
-    match read_amount(step, place, row) {
-        Ok(amount) => Ok(Some(amount)),
-        Err(at) => {
-            faults.add(at)?;
-            Ok(None)
-        }
+    let text = field(row, 1);
+    let Some(amount) = number(text) else {
+        let cause = Wording::Words("isn't 1 to 18 digits");
+        faults.add(FaultAt::new(1, text, FormFault::AmountText { place }, cause))?;
+        return Ok(None);
+    };
+    if amount < 1 || amount > GREATEST_AMOUNT {
+        let cause = limits_cause(1, GREATEST_AMOUNT);
+        faults.add(FaultAt::new(1, text, FormFault::AmountRange { place }, cause))?;
+        return Ok(None);
     }
+    if amount % step != 0 {
+        let cause = Wording::Number("isn't a multiple of ", step);
+        faults.add(FaultAt::new(1, text, FormFault::AmountStep { place }, cause))?;
+        return Ok(None);
+    }
+    Ok(Some(amount))
 }
 
 // The quantities of a record, where each field after the first is one.
@@ -197,113 +171,99 @@ fn add_ranges(faults: &mut All<FormFault>, place: u32, row: &ByteRecord) -> Resu
     Ok(())
 }
 
-// The fault of a package that the rules don't allow a bidder with this eligibility.
-fn package_fault(
+// Adds the fault of a package that the rules don't allow a bidder with this eligibility, and returns whether there is none.
+fn check_allowed(
+    faults: &mut All<FormFault>,
     categories: &[Category],
     eligibility: u64,
     place: u32,
     quantities: &[u16],
-) -> Option<FaultAt<FormFault>>
+) -> Result<bool, AllocError>
     requires few { length categories.now ≤ MOST_CATEGORIES }
     requires sized { length quantities.now ≡ length categories.now }
     requires each { AllAre IsCategory categories.now }
     requires quantities { AllAre (λ quantity. quantity ≤ GREATEST_QUANTITY) quantities.now }
-    ensures { option_map kept_fault result
-        ≡ first_failed (package_checks categories.now eligibility place quantities.now) }
+    ensures told { OnOk result (HoldsMore faults.old faults.new
+        (fault_of (package_checks categories.now eligibility place quantities.now))) }
+    ensures none { IfOk result (λ none. MatchBool none
+        (fault_of (package_checks categories.now eligibility place quantities.now) ≡ [])
+        (fault_of (package_checks categories.now eligibility place quantities.now) ≢ [])) }
 {
     if is_empty_package(quantities) {
         let cause = Wording::Words("each quantity is 0");
-        return Some(FaultAt::of_whole(FormFault::EmptyPackage { place }, Some(cause)));
+        faults.add(FaultAt::of_whole(FormFault::EmptyPackage { place }, Some(cause)))?;
+        return Ok(false);
     }
     let points = points_of(categories, quantities);
-    if points > eligibility {
-        let cause = Wording::Numbers(
-            "",
-            points,
-            " points, above the eligibility of ",
-            eligibility,
-        );
-        return Some(FaultAt::of_whole(FormFault::OverEligibility { place }, Some(cause)));
+    if points <= eligibility {
+        return Ok(true);
     }
-    None
+    let cause = Wording::Numbers(
+        "",
+        points,
+        " points, above the eligibility of ",
+        eligibility,
+    );
+    faults.add(FaultAt::of_whole(FormFault::OverEligibility { place }, Some(cause)))?;
+    Ok(false)
 }
 
-// The fault of the amount of a record, where it is known and below the reserve of the package.
-fn reserve_fault(
+// Adds the fault of the amount of a record, where it is known and below the reserve of the package, and returns whether there is none.
+fn check_reserve(
+    faults: &mut All<FormFault>,
     entry: &Entry<'_>,
     quantities: &[u16],
     amount: Option<u64>,
-) -> Option<FaultAt<FormFault>>
+) -> Result<bool, AllocError>
     requires sized { length quantities.now ≡ length entry.now.rules.now.categories }
     requires quantities { AllAre (λ quantity. quantity ≤ GREATEST_QUANTITY) quantities.now }
     requires amount { IsAmountOf entry.now.rules.now.step entry.now.place
         (fields_of entry.now.row.now) amount }
-    ensures { option_to_list (option_map kept_fault result)
-        ≡ (if is_none (first_failed (amount_checks entry.now.rules.now.step entry.now.place
-        (fields_of entry.now.row.now))) then fault_of (reserve_checks
-        entry.now.rules.now.categories entry.now.place quantities.now
-        (fields_of entry.now.row.now)) else []) }
+    ensures told { OnOk result (HoldsMore faults.old faults.new (reserve_faults
+        entry.now.rules.now entry.now.place quantities.now (fields_of entry.now.row.now))) }
+    ensures none { IfOk result (λ none. MatchBool none
+        (reserve_faults entry.now.rules.now entry.now.place quantities.now
+        (fields_of entry.now.row.now) ≡ [])
+        (reserve_faults entry.now.rules.now entry.now.place quantities.now
+        (fields_of entry.now.row.now) ≢ [])) }
 {
-    let amount = amount?;
+    let Some(amount) = amount else {
+        return Ok(true);
+    };
     let reserve = reserve_of(entry.rules.categories(), quantities);
     if reserve <= amount {
-        return None;
+        return Ok(true);
     }
     let fault = FormFault::BelowReserve { place: entry.place };
     let cause = Wording::Number("is below the reserve of ", reserve);
-    Some(FaultAt::new(1, field(entry.row, 1), fault, cause))
+    faults.add(FaultAt::new(1, field(entry.row, 1), fault, cause))?;
+    Ok(false)
 }
 
-// The fault of a package that an earlier bid has. It is among those seen from now on.
-fn repeat_fault(
+// Adds the fault of a package that an earlier bid has, and returns whether there is none. The package is among those seen from now on.
+fn check_new(
+    faults: &mut All<FormFault>,
     seen: &mut Seen,
     place: u32,
     before: &[Bid],
     quantities: &[u16],
-) -> Result<Option<FaultAt<FormFault>>, AllocError>
+) -> Result<bool, AllocError>
     requires seen { AreSeen seen.old.multiplier seen.old.prints.keys before.now }
     requires few { length before.now ≤ MOST_BIDS }
-    ensures fault { IfOk result (λ at. option_map kept_fault at
-        ≡ first_failed (repeat_checks place before.now quantities.now)) }
-    ensures seen { IfOk result (λ _. (bid : Bid) → bid.package ≡ quantities.now
+    ensures told { OnOk result (HoldsMore faults.old faults.new
+        (fault_of (repeat_checks place before.now quantities.now))) }
+    ensures none { IfOk result (λ none. MatchBool none
+        (fault_of (repeat_checks place before.now quantities.now) ≡ [])
+        (fault_of (repeat_checks place before.now quantities.now) ≢ [])) }
+    ensures seen { OnOk result ((bid : Bid) → bid.package ≡ quantities.now
         → AreSeen seen.new.multiplier seen.new.prints.keys (before.now ++ bid ∷ [])) }
 {
-    match earlier(seen, before, quantities)? {
-        Some(earlier) => Ok(Some(FaultAt::of_whole(
-            FormFault::RepeatedPackage { place, earlier },
-            None,
-        ))),
-        None => Ok(None),
-    }
-}
-
-// The fault of a bid after the last one that may be.
-fn room_fault(place: u32, before: &[Bid]) -> Option<FaultAt<FormFault>>
-    ensures { option_map kept_fault result ≡ first_failed (form_room_checks place before.now) }
-{
-    if before.len() >= MOST_BIDS {
-        let cause = most_cause(MOST_BIDS, " bids");
-        return Some(FaultAt::of_whole(FormFault::TooManyBids { place }, Some(cause)));
-    }
-    None
-}
-
-// Adds a fault, if there is one, and returns whether there is none.
-fn passes(
-    faults: &mut All<FormFault>,
-    at: Option<FaultAt<FormFault>>,
-) -> Result<bool, AllocError>
-    ensures told { OnOk result (HoldsMore faults.old faults.new
-        (option_to_list (option_map kept_fault at))) }
-    ensures none { IfOk result (λ none. none ≡ is_none (option_map kept_fault at)) }
-{
-    match at {
-        Some(at) => {
-            faults.add(at)?;
-            Ok(false)
-        }
-        None => Ok(true),
-    }
+    let Some(earlier) = earlier(seen, before, quantities)? else {
+        return Ok(true);
+    };
+    let fault = FormFault::RepeatedPackage { place, earlier };
+    faults.add(FaultAt::of_whole(fault, None))?;
+    Ok(false)
 }
 
 // Adds the faults of the package of a record, by the bids before it, and returns whether there is none. The package is among those seen
@@ -336,12 +296,9 @@ fn check_package(
 {
     let categories = entry.rules.categories();
     let place = entry.place;
-    let refused = package_fault(categories, entry.eligibility, place, quantities);
-    let is_allowed = passes(faults, refused)?;
-    let below = reserve_fault(entry, quantities, amount);
-    let is_enough = passes(faults, below)?;
-    let repeated = repeat_fault(seen, place, before, quantities)?;
-    let is_new = passes(faults, repeated)?;
+    let is_allowed = check_allowed(faults, categories, entry.eligibility, place, quantities)?;
+    let is_enough = check_reserve(faults, entry, quantities, amount)?;
+    let is_new = check_new(faults, seen, place, before, quantities)?;
     Ok(is_allowed & is_enough & is_new)
 }
 
@@ -395,49 +352,6 @@ fn take_quantities(
     }
 }
 
-// Adds the faults of a record, by the bids before it, or returns the bid that it describes.
-fn read_bid(
-    faults: &mut All<FormFault>,
-    entry: &Entry<'_>,
-    seen: &mut Seen,
-    before: &[Bid],
-) -> Result<Option<Bid>, AllocError>
-    requires seen { AreSeen seen.old.multiplier seen.old.prints.keys before.now }
-    requires few { length before.now ≤ MOST_BIDS }
-    ensures told { OnOk result (HoldsMore faults.old faults.new (bid_faults entry.now.rules.now
-        entry.now.eligibility entry.now.place before.now (fields_of entry.now.row.now))) }
-    ensures none { IfOk result (λ bid. MatchOption bid
-        (bid_faults entry.now.rules.now entry.now.eligibility entry.now.place before.now
-        (fields_of entry.now.row.now) ≢ [])
-        (λ _. bid_faults entry.now.rules.now entry.now.eligibility entry.now.place before.now
-        (fields_of entry.now.row.now) ≡ [])) }
-    ensures bid { IfOk result (λ bid. MatchOption bid ⊤
-        (λ bid. bid ≡ parsed_bid (fields_of entry.now.row.now))) }
-    ensures seen { IfOk result (λ bid. AreSeen seen.new.multiplier seen.new.prints.keys
-        (before.now ++ option_to_list bid)) }
-{
-    let place = entry.place;
-    if let Some(at) = count_fault(entry.rules.categories(), place, entry.row) {
-        faults.add(at)?;
-        return Ok(None);
-    }
-    entry.rules.within_limits();
-    let amount = take_amount(faults, entry.rules.step(), place, entry.row)?;
-    let quantities = take_quantities(faults, entry, seen, before, amount)?;
-    if let Some(at) = room_fault(place, before) {
-        faults.add(at)?;
-        return Ok(None);
-    }
-    let Some(amount) = amount else {
-        return Ok(None);
-    };
-    let Some(quantities) = quantities else {
-        return Ok(None);
-    };
-    let package = Package::of(quantities);
-    Ok(Some(Bid { package, amount }))
-}
-
 /// Adds the faults of a record, or the bid that it describes to those before it.
 pub(crate) fn take_bid(
     faults: &mut All<FormFault>,
@@ -455,10 +369,29 @@ pub(crate) fn take_bid(
     ensures seen { OnOk result (AreSeen seen.new.multiplier seen.new.prints.keys
         bids.new.items) }
 {
-    if let Some(bid) = read_bid(faults, entry, seen, bids)? {
-        if bids.push(bid).is_err() {
-            return Err(AllocError);
-        }
+    let place = entry.place;
+    let wanted = entry.rules.categories().len() + 1;
+    if entry.row.len() != wanted {
+        let cause = count_cause(entry.row.len(), wanted);
+        faults.add(FaultAt::of_whole(FormFault::FieldCount { place }, Some(cause)))?;
+        return Ok(());
     }
+    entry.rules.within_limits();
+    let amount = take_amount(faults, entry.rules.step(), place, entry.row)?;
+    let before = bids.as_slice();
+    let quantities = take_quantities(faults, entry, seen, before, amount)?;
+    if before.len() >= MOST_BIDS {
+        let cause = most_cause(MOST_BIDS, " bids");
+        faults.add(FaultAt::of_whole(FormFault::TooManyBids { place }, Some(cause)))?;
+        return Ok(());
+    }
+    let Some(amount) = amount else {
+        return Ok(());
+    };
+    let Some(quantities) = quantities else {
+        return Ok(());
+    };
+    let package = Package::of(quantities);
+    bids.push(Bid { package, amount })?;
     Ok(())
 }
