@@ -9,6 +9,9 @@ use Rattle.std.proofs.lemmas.List.Folds.{find_at}
 use Rattle.std.proofs.lemmas.List.Sums.{passes_at_first}
 use Rattle.std.proofs.lemmas.Option.{get_or_from_slice_get, slice_get_within}
 use Rattle.std.proofs.lemmas.Slice.Eq.{bytes_eq-Decides}
+use denote.Enum.Bare.{sameb}
+use Rattle.program_rows.specs.contracts.column.Bounds.{the_type as the_bounds}
+use Rattle.program_rows.specs.contracts.row.RowKind.{the_type as the_kinds}
 use Rattle.program_rows.specs.declared.row.RowKind.{RowKind}
 use Rattle.program_rows.specs.declared.row.RowKind.TheVariants.{AtMost, AtLeast, Equal}
 use Rattle.program_rows.specs.declared.column.Bounds.{Bounds}
@@ -43,6 +46,29 @@ pub bounds_itself : (a : Bounds) → same_bounds a a ≡ true
 bounds_itself ZeroOrOne = refl
 bounds_itself Zero = refl
 bounds_itself One = refl
+
+-- the derived tests of the code answer the same
+pub kind_test : (a b : RowKind) → sameb the_kinds a b ≡ same_kind a b
+kind_test AtMost AtMost = refl
+kind_test AtMost AtLeast = refl
+kind_test AtMost Equal = refl
+kind_test AtLeast AtMost = refl
+kind_test AtLeast AtLeast = refl
+kind_test AtLeast Equal = refl
+kind_test Equal AtMost = refl
+kind_test Equal AtLeast = refl
+kind_test Equal Equal = refl
+
+pub bounds_test : (a b : Bounds) → sameb the_bounds a b ≡ same_bounds a b
+bounds_test ZeroOrOne ZeroOrOne = refl
+bounds_test ZeroOrOne Zero = refl
+bounds_test ZeroOrOne One = refl
+bounds_test Zero ZeroOrOne = refl
+bounds_test Zero Zero = refl
+bounds_test Zero One = refl
+bounds_test One ZeroOrOne = refl
+bounds_test One Zero = refl
+bounds_test One One = refl
 
 -- ---------- lists ----------
 

@@ -1,15 +1,12 @@
 // The program of a list of kept bids.
-ghost use Rattle.std.specs.Prelude.{◌≡◌, ◌≤◌, ◌<◌, ◌+◌, ◌^◌, ◌++◌, ◌∷◌, [], ◌==◌, All, Some, codes, cond, length, map, neg_ℤ, slice_get, IfOk, OnOk};
+ghost use Rattle.std.specs.Prelude.{◌≡◌, ◌<◌, ◌+◌, ◌^◌, ◌++◌, All, codes, length, map, IfOk, OnOk};
 ghost use Rattle.std.specs.List.{range_with_len};
-ghost use Rattle.auction_terms.specs.declared.limits.TheConstants.{GREATEST_AMOUNT};
 ghost use Rattle.auction_terms.specs.Bids.{AreKept};
-ghost use Rattle.auction_terms.specs.Domination.{net};
-ghost use Rattle.auction_terms.specs.Offers.{offer_of, offers};
+ghost use Rattle.auction_terms.specs.Offers.{offers};
 ghost use Rattle.auction_terms.specs.Terms.{lots_in};
 ghost use Rattle.program_rows.specs.declared.subject.Subject.TheVariants.{Category, Pool};
-ghost use Rattle.program_rows.specs.inside.Building.{IsThere, built_column};
 ghost use Rattle.program_rows.specs.Parts.{shown_row};
-ghost use Rattle.program_rows.specs.Rows.{bidder_subjects, column_of, program_of, row_of, subjects as subjects_of, weight, worth_column};
+ghost use Rattle.program_rows.specs.Rows.{bidder_subjects, column_of, program_of, row_of, subjects as subjects_of};
 
 use crate::column::Bounds;
 use crate::columns::Columns;
@@ -18,76 +15,8 @@ use crate::names::{NAME_LEN, objective_name, write_bid_name};
 use crate::program::{Program, ProgramParts};
 use crate::rows::{add_categories, add_pools, bidders, rows};
 use crate::subject::Subject;
-use auction_terms::{Bid, Kept, KeptBid, Rules};
+use auction_terms::{Kept, KeptBid, Rules};
 use std::alloc::{AllocError, Global};
-
-/// What a row is about.
-fn subject_at(subjects: &[Subject], row: usize) -> Subject
-    requires { row < length subjects.now }
-    ensures { slice_get subjects.now row ≡ Some result }
-{
-    subjects[row]
-}
-
-/// The place of the row of a bid's bidder: that of the last one, if the bid counts there, or the next.
-fn next_place(place: usize, last: Subject, rules: &Rules, bid: KeptBid<'_>) -> usize
-    requires place { place + 1 < 2 ^ 64 }
-    requires there { IsThere (lots_in rules.now) last }
-    requires sized { length bid.offer.now.package ≡ length rules.now.categories }
-    ensures { result ≡ cond (weight (lots_in rules.now) last (offer_of bid.entry) == 0) (place + 1)
-        place }
-{
-    if last.weight(rules, bid) == 0 {
-        place + 1
-    } else {
-        place
-    }
-}
-
-/// The cost of a bid's column: minus its net.
-fn cost_of(rules: &Rules, offer: &Bid) -> i64
-    requires { offer.now.amount ≤ GREATEST_AMOUNT }
-    ensures { result ≡ neg_ℤ (net (lots_in rules.now) offer.now) }
-{
-    -rules.net(offer)
-}
-
-/// Adds the column of a kept bid.
-fn add_column(
-    columns: &mut Columns,
-    name: &mut [u8; NAME_LEN],
-    entries: &mut [(usize, i64); MOST_ENTRIES],
-    rules: &Rules,
-    first: usize,
-    place: usize,
-    bid: KeptBid<'_>,
-) -> Result<(), AllocError>
-    requires amount { bid.offer.now.amount ≤ GREATEST_AMOUNT }
-    requires rows { first < 2 ^ 31 }
-    requires sized { length bid.offer.now.package ≡ length rules.now.categories }
-    ensures { OnOk result (columns.new ≡ columns.old
-        ++ built_column (lots_in rules.now) first place (offer_of bid.entry) ∷ []) }
-{
-    let start = write_bid_name(name, bid.bidder, bid.bid);
-    let count = write_entries(entries, place, first, rules, bid);
-    columns.push(
-        &name[start..],
-        Bounds::ZeroOrOne,
-        cost_of(rules, bid.offer),
-        &entries[..count],
-    )
-}
-
-/// Adds the column of what all lots are worth, if that isn't 0.
-fn add_worth(columns: &mut Columns, rules: &Rules) -> Result<(), AllocError>
-    ensures { OnOk result (columns.new ≡ columns.old ++ worth_column (lots_in rules.now)) }
-{
-    let worth = rules.worth_of_all();
-    if worth == 0 {
-        return Ok(());
-    }
-    columns.push(b"K", Bounds::One, -(worth as i64), &[])
-}
 
 /// The columns of the kept bids, after the rows of bidders, which end at `first`.
 fn columns(
@@ -108,18 +37,16 @@ fn columns(
     let mut columns = Columns::new(alloc);
     let mut name = [0; NAME_LEN];
     let mut entries = [(0, 0); MOST_ENTRIES];
+    // The row of the bidder that came last: the next one is the next bidder's.
     let mut place = 0;
     for &bid in kept {
-        place = next_place(place, subject_at(subjects, place), rules, bid);
-        add_column(
-            &mut columns,
-            &mut name,
-            &mut entries,
-            rules,
-            first,
-            place,
-            bid,
-        )?;
+        if subjects[place].weight(rules, bid) == 0 {
+            place += 1;
+        }
+        let start = write_bid_name(&mut name, bid.bidder, bid.bid);
+        let count = write_entries(&mut entries, place, first, rules, bid);
+        let cost = -rules.net(bid.offer);
+        columns.push(&name[start..], Bounds::ZeroOrOne, cost, &entries[..count])?;
     }
     Ok(columns)
 }
@@ -190,6 +117,9 @@ pub fn build(alloc: Global, rules: &Rules, kept: &Kept<'_>) -> Result<Program, A
     // Its contract says that the bids are within limits.
     let _bids = kept.bids();
     let mut parts = build_bids(alloc, rules, kept)?;
-    add_worth(&mut parts.columns, rules)?;
+    let worth = rules.worth_of_all();
+    if worth != 0 {
+        parts.columns.push(b"K", Bounds::One, -(worth as i64), &[])?;
+    }
     Ok(Program::from_parts(parts))
 }

@@ -1,5 +1,5 @@
 // The columns at 1, by their places, if they are few.
-ghost use Rattle.std.specs.Prelude.{◌≡◌, ◌≤◌, ◌<◌, ◌∷◌, ◌++◌, [], cond, length, true, IfSome};
+ghost use Rattle.std.specs.Prelude.{◌≡◌, ◌≤◌, ◌<◌, length, IfSome};
 ghost use Rattle.std.specs.List.{AllByRecursion};
 ghost use Rattle.program_rows.specs.Points.{coefficient_at};
 ghost use Rattle.program_rows.specs.inside.Ones.{ones_from, sum_at};
@@ -15,17 +15,6 @@ pub(crate) const MOST_ONES: usize = 512;
 /// Places of columns, rising.
 pub(crate) type Ones = ArrayVec<usize, MOST_ONES>;
 
-/// Adds a place if the value there is 1, and returns whether there was room.
-fn add_one(ones: &mut Ones, place: usize, value: bool) -> bool
-    ensures { result ≡ true → ones.new.items
-        ≡ cond value (ones.old.items ++ place ∷ []) ones.old.items }
-{
-    if value {
-        return ones.try_push(place).is_ok();
-    }
-    true
-}
-
 /// The places of the columns at 1, if they are few.
 pub(crate) fn ones_of(values: &[bool]) -> Option<Ones>
     ensures { IfSome result (λ ones. ones.items ≡ ones_from 0 values.now) }
@@ -33,7 +22,7 @@ pub(crate) fn ones_of(values: &[bool]) -> Option<Ones>
     let mut ones = ArrayVec::from_array_in((), [0usize; MOST_ONES]);
     ones.clear();
     for (place, &value) in values.iter().enumerate() {
-        if !add_one(&mut ones, place, value) {
+        if value && ones.try_push(place).is_err() {
             return None;
         }
     }

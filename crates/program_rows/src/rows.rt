@@ -1,10 +1,10 @@
 // What a program has rows for, and the rows.
-ghost use Rattle.std.specs.Prelude.{◌≡◌, ◌++◌, [], ◌∷◌, ◌==◌, All, cond, map, IfOk, OnOk};
+ghost use Rattle.std.specs.Prelude.{◌≡◌, ◌++◌, All, map, IfOk, OnOk};
 ghost use Rattle.std.specs.List.{range_with_len};
 ghost use Rattle.auction_terms.specs.Bids.{AreKept};
 ghost use Rattle.auction_terms.specs.Offers.{offers};
 ghost use Rattle.auction_terms.specs.Terms.{lots_in};
-ghost use Rattle.program_rows.specs.declared.subject.Subject.TheVariants.{Bidder, Category, Pool};
+ghost use Rattle.program_rows.specs.declared.subject.Subject.TheVariants.{Category, Pool};
 ghost use Rattle.program_rows.specs.inside.Building.{IsThere};
 ghost use Rattle.program_rows.specs.Parts.{shown_row};
 ghost use Rattle.program_rows.specs.Rows.{bidder_subjects, row_of};
@@ -14,18 +14,6 @@ use crate::subject::Subject;
 use auction_terms::{KeptBid, Rules};
 use std::alloc::{AllocError, Global};
 
-/// Adds a bidder, unless it is the last one.
-fn add_bidder(subjects: &mut Vec<Subject>, last: u16, bidder: u16) -> Result<(), AllocError>
-    ensures { OnOk result (subjects.new.items
-        ≡ subjects.old.items ++ cond (bidder == last) [] (Bidder bidder ∷ [])) }
-{
-    if bidder == last {
-        return Ok(());
-    }
-    subjects.push(Subject::Bidder(bidder))?;
-    Ok(())
-}
-
 /// The bidders with a bid.
 pub(crate) fn bidders(alloc: Global, kept: &[KeptBid<'_>]) -> Result<Vec<Subject>, AllocError>
     requires { AreKept kept.now }
@@ -34,8 +22,10 @@ pub(crate) fn bidders(alloc: Global, kept: &[KeptBid<'_>]) -> Result<Vec<Subject
     let mut subjects = Vec::new(alloc);
     let mut last = 0;
     for bid in kept {
-        add_bidder(&mut subjects, last, bid.bidder)?;
-        last = bid.bidder;
+        if bid.bidder != last {
+            subjects.push(Subject::Bidder(bid.bidder))?;
+            last = bid.bidder;
+        }
     }
     Ok(subjects)
 }

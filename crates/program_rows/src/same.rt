@@ -57,22 +57,16 @@ fn stands_in(parts: &ProgramParts, others: &ProgramParts) -> bool
         )
 }
 
-fn is_same(parts: &ProgramParts, others: &ProgramParts) -> bool
-    requires parts { IsProgram (table_of parts.now) }
-    requires others { IsProgram (table_of others.now) }
-    ensures { result ≡ comparing.is_same_program (table_of parts.now) (table_of others.now) }
-{
-    is_same_name(
-        parts.objective_name.as_slice(),
-        others.objective_name.as_slice(),
-    ) && stands_in(parts, others)
-        && stands_in(others, parts)
-}
-
 /// Whether two programs are equal as maps: the objective's name, the rows by name, and the columns by name with their bounds,
 /// costs and entries, in whatever order.
 pub fn same_program(program: &Program, other: &Program) -> bool
     ensures { IsTrue result ↔ IsSameProgram program.now other.now }
 {
-    is_same(program.parts(), other.parts())
+    let parts = program.parts();
+    let others = other.parts();
+    is_same_name(
+        parts.objective_name.as_slice(),
+        others.objective_name.as_slice(),
+    ) && stands_in(parts, others)
+        && stands_in(others, parts)
 }

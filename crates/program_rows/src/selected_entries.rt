@@ -28,19 +28,6 @@ fn number_at(numbers: &[usize], row: usize) -> usize
     if row < numbers.len() { numbers[row] } else { 0 }
 }
 
-/// An entry, by the number of its row in the selection.
-fn entry_at(entries: &[(usize, i64)], numbers: Option<&[usize]>, place: usize) -> (usize, i64)
-    requires { place < length entries.now }
-    ensures { slice_get (seen_entries (option_map (λ numbers. numbers.now) numbers.entry)
-        entries.now) place ≡ Some result }
-{
-    let (row, number) = entries[place];
-    match numbers {
-        None => (row, number),
-        Some(numbers) => (number_at(numbers, row), number),
-    }
-}
-
 impl<'e> Entries<'e> {
     ghost use Rattle.std.specs.Prelude.{◌<◌, Some, length, option_map, slice_get};
     ghost use Rattle.program_rows.specs.inside.Seen.{seen_entries};
@@ -58,11 +45,16 @@ impl<'e> Entries<'e> {
         self.entries.len()
     }
 
-    /// An entry.
+    /// An entry, by the number of its row in the selection.
     pub fn entry(&self, place: usize) -> (usize, i64)
         requires { place < length self.now }
         ensures { slice_get self.now place ≡ Some result }
     {
-        entry_at(self.entries, self.numbers, place)
+        let entries = self.entries;
+        let (row, number) = entries[place];
+        match self.numbers {
+            None => (row, number),
+            Some(numbers) => (number_at(numbers, row), number),
+        }
     }
 }

@@ -1,11 +1,9 @@
 //! A program of which each group's program is a selection.
 
-ghost use Rattle.std.specs.Prelude.{◌≡◌, ◌++◌, All, IfOk, None, OnOk, Some, length, map};
-ghost use Rattle.auction_terms.specs.Bids.{AreKept};
+ghost use Rattle.std.specs.Prelude.{◌≡◌, All, IfOk, Some, length, map};
 ghost use Rattle.auction_terms.specs.Groups.{has};
 ghost use Rattle.auction_terms.specs.Offers.{offers};
 ghost use Rattle.auction_terms.specs.Terms.{lots_in};
-ghost use Rattle.program_rows.specs.Rows.{subjects as subjects_of, worth_column};
 ghost use Rattle.program_rows.specs.Selections as left;
 ghost use Rattle.program_rows.specs.Selections.{owner_of, shared_of};
 
@@ -59,21 +57,6 @@ fn owners_of(alloc: Global, subjects: &[Subject]) -> Result<Vec<Option<u16>>, Al
     Ok(owners)
 }
 
-/// The bidder of each row.
-fn row_owners(
-    alloc: Global,
-    rules: &Rules,
-    kept: &[KeptBid<'_>],
-) -> Result<Vec<Option<u16>>, AllocError>
-    requires { AreKept kept.now }
-    ensures { IfOk result (λ owners. owners.items
-        ≡ map owner_of (subjects_of (lots_in rules.now) (offers kept.now))) }
-{
-    let mut subjects = bidders(alloc, kept)?;
-    add_lots(&mut subjects, rules)?;
-    owners_of(alloc, &subjects)
-}
-
 /// The bidder of each bid's column.
 fn bid_owners(alloc: Global, kept: &[KeptBid<'_>]) -> Result<Vec<Option<u16>>, AllocError>
     ensures { IfOk result (λ owners. owners.items ≡ map (λ o. Some o.bidder) (offers kept.now)) }
@@ -83,18 +66,6 @@ fn bid_owners(alloc: Global, kept: &[KeptBid<'_>]) -> Result<Vec<Option<u16>>, A
         owners.push(Some(bid.bidder))?;
     }
     Ok(owners)
-}
-
-/// Adds nobody for the column of what all lots are worth, if that isn't 0.
-fn add_worth_owner(owners: &mut Vec<Option<u16>>, rules: &Rules) -> Result<(), AllocError>
-    ensures { OnOk result (owners.new.items ≡ owners.old.items
-        ++ map (λ c. None) (worth_column (lots_in rules.now))) }
-{
-    if rules.worth_of_all() == 0 {
-        return Ok(());
-    }
-    owners.push(None)?;
-    Ok(())
 }
 
 /// The program of the kept bids, as `build` makes it.
@@ -108,9 +79,13 @@ pub fn build_shared(
 {
     rules.within_limits();
     let bids = kept.bids();
-    let rows = row_owners(alloc, rules, bids)?;
+    let mut subjects = bidders(alloc, bids)?;
+    add_lots(&mut subjects, rules)?;
+    let rows = owners_of(alloc, &subjects)?;
     let mut columns = bid_owners(alloc, bids)?;
-    add_worth_owner(&mut columns, rules)?;
+    if rules.worth_of_all() != 0 {
+        columns.push(None)?;
+    }
     let program = build(alloc, rules, kept)?;
     Ok(SharedProgram {
         program,
@@ -128,19 +103,8 @@ fn is_out(group: &Group, owner: Option<u16>) -> bool
     }
 }
 
-/// The same, given the answer for another owner: neighbours mostly have the same one, and a group is searched from its start.
-fn is_next_out(group: &Group, last: Option<u16>, is_last_out: bool, owner: Option<u16>) -> bool
-    requires { is_last_out ≡ left.is_out (has group.now) last }
-    ensures { result ≡ left.is_out (has group.now) owner }
-{
-    if owner == last {
-        is_last_out
-    } else {
-        is_out(group, owner)
-    }
-}
-
-/// The places of those that stay without the group.
+/// The places of those that stay without the group, which is searched from its start: neighbours mostly have the same owner, and
+/// the same answer.
 fn places_left(
     alloc: Global,
     group: &Group,
@@ -153,8 +117,10 @@ fn places_left(
     let mut last = None;
     let mut is_last_out = false;
     for (i, &owner) in owners.iter().enumerate() {
-        is_last_out = is_next_out(group, last, is_last_out, owner);
-        last = owner;
+        if owner != last {
+            is_last_out = is_out(group, owner);
+            last = owner;
+        }
         if !is_last_out {
             places.push(i)?;
         }

@@ -1,6 +1,6 @@
 //! The bid that the name of a column spells.
 
-ghost use Rattle.std.specs.Prelude.{◌≡◌, ◌≢◌, ℕ, ◌^◌, ◌<◌, ◌≤◌, decimal, drop, length, take, MatchOption, ◌==◌};
+ghost use Rattle.std.specs.Prelude.{◌≡◌, ◌≢◌, ℕ, ◌^◌, ◌<◌, ◌≤◌, decimal, length, MatchOption, ◌==◌};
 ghost use Rattle.std.specs.List.{position_or_len};
 ghost use Rattle.program_rows.specs.Spelling.{column_bid, is_bid};
 
@@ -26,12 +26,6 @@ fn number_spelled(text: &[u8]) -> Option<u16>
     Some(digits_after(0, 0, text) as u16)
 }
 
-fn is_bar_byte(b: u8) -> bool
-    ensures { result ≡ (b == 95) }
-{
-    b == b'_'
-}
-
 /// The place of the first bar, or the length if there is none.
 fn bar_in(bytes: &[u8]) -> usize
     ensures value { result ≡ position_or_len (λ b. b == 95) bytes.now }
@@ -39,7 +33,7 @@ fn bar_in(bytes: &[u8]) -> usize
 {
     let mut i = 0;
     while i < bytes.len() {
-        if is_bar_byte(bytes[i]) {
+        if bytes[i] == b'_' {
             return i;
         }
         i += 1;
@@ -54,22 +48,6 @@ fn is_bid(bidder: u16, bid: u16) -> bool
         && (1 <= bid && usize::from(bid) <= MOST_BIDS)
 }
 
-/// What follows the letter that a name begins with.
-fn after_letter(name: &[u8]) -> &[u8]
-    requires { 0 < length name.now }
-    ensures { result.now ≡ drop 1 name.now }
-{
-    &name[1..]
-}
-
-/// What comes before a place.
-fn front(place: usize, bytes: &[u8]) -> &[u8]
-    requires { place ≤ length bytes.now }
-    ensures { result.now ≡ take place bytes.now }
-{
-    &bytes[..place]
-}
-
 /// The bid that a name spells, if it spells one.
 pub fn bid_named(name: &[u8]) -> Option<Choice>
     ensures { result ≡ column_bid name.now }
@@ -80,12 +58,12 @@ pub fn bid_named(name: &[u8]) -> Option<Choice>
     if name[0] != b'X' {
         return None;
     }
-    let numbers = after_letter(name);
+    let numbers = &name[1..];
     let bar = bar_in(numbers);
     if bar == numbers.len() {
         return None;
     }
-    let Some(bidder) = number_spelled(front(bar, numbers)) else {
+    let Some(bidder) = number_spelled(&numbers[..bar]) else {
         return None;
     };
     let Some(bid) = number_spelled(after(bar, numbers)) else {

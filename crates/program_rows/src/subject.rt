@@ -2,7 +2,7 @@
 
 use crate::names::numbered;
 use crate::row::{Row, RowKind};
-use auction_terms::{Category, KeptBid, Package, Pool, Rules};
+use auction_terms::{KeptBid, Rules};
 use std::alloc::{AllocError, Global};
 
 /// What a row is about.
@@ -45,8 +45,8 @@ impl Subject {
     {
         match self {
             Subject::Bidder(_) => 1,
-            Subject::Category(place) => supply_at(rules.categories(), usize::from(place)),
-            Subject::Pool(place) => cap_at(rules.pools(), usize::from(place)),
+            Subject::Category(place) => u64::from(rules.categories()[usize::from(place)].supply),
+            Subject::Pool(place) => rules.pools()[usize::from(place)].cap,
         }
     }
 
@@ -72,56 +72,9 @@ impl Subject {
         match self {
             Subject::Bidder(number) => u64::from(number == bid.bidder),
             Subject::Category(place) => {
-                quantity_at(bid.offer.package.quantities(), usize::from(place))
+                u64::from(bid.offer.package.quantities()[usize::from(place)])
             }
-            Subject::Pool(place) => load_at(rules.pools(), usize::from(place), &bid.offer.package),
+            Subject::Pool(place) => rules.pools()[usize::from(place)].load(&bid.offer.package),
         }
     }
-}
-
-ghost use Rattle.std.specs.Prelude.{◌≡◌, ◌≤◌, ◌<◌, ◌^◌, [], All, length, map, slice_index, slice_index_or};
-ghost use Rattle.auction_terms.specs.declared.limits.TheConstants.{GREATEST_AMOUNT, GREATEST_QUANTITY};
-ghost use Rattle.auction_terms.specs.Packages.{IsPackage, weighed};
-ghost use Rattle.auction_terms.specs.Terms.{IsCategory, IsPool};
-ghost use Rattle.auction_terms.specs.inside.Terms.{cap_of};
-
-// What a row of a category may hold, in the words of lists, by which rows are stated.
-fn supply_at(categories: &[Category], place: usize) -> u64
-    requires place { place < length categories.now }
-    requires limits { All IsCategory categories.now }
-    ensures supply { result ≡ slice_index (map (λ category. category.supply) categories.now) place }
-    ensures limit { result ≤ GREATEST_QUANTITY }
-{
-    u64::from(categories[place].supply)
-}
-
-// What a row of a pool may hold, in the same words.
-fn cap_at(pools: &[Pool], place: usize) -> u64
-    requires place { place < length pools.now }
-    requires limits { All IsPool pools.now }
-    ensures cap { result ≡ (slice_index_or (map cap_of pools.now) place
-        (record { cap = 0; weights = [] })).cap }
-    ensures limit { result ≤ GREATEST_AMOUNT }
-{
-    pools[place].cap
-}
-
-// How much of a bid counts in a category, in the same words.
-fn quantity_at(quantities: &[u16], place: usize) -> u64
-    requires { place < length quantities.now }
-    ensures quantity { result ≡ slice_index quantities.now place }
-    ensures limit { result ≤ 2 ^ 37 }
-{
-    u64::from(quantities[place])
-}
-
-// How much of a bid counts in a pool, in the same words.
-fn load_at(pools: &[Pool], place: usize, package: &Package) -> u64
-    requires { place < length pools.now }
-    ensures load { result ≡ weighed (slice_index_or (map cap_of pools.now) place
-        (record { cap = 0; weights = [] })).weights
-        «package».now }
-    ensures limit { result ≤ 2 ^ 37 }
-{
-    pools[place].load(package)
 }

@@ -1,11 +1,12 @@
-use Rattle.std.proofs.Common.{sym, ◌∙◌, arith}
+use Rattle.std.proofs.Common.{sym, arith}
+use Rattle.std.proofs.lemmas.Bool.{eq-eqb}
 use Rattle.std.proofs.lemmas.List.Sums.{position_or_len_is}
 use Rattle.std.specs.Prelude.{◌==◌}
 use Rattle.program_rows.proofs.spelling.bar_in.Goals as goal
 
-pub returns-then-is_bar_byte-clause-value : goal.returns-then-is_bar_byte-clause-value
-returns-then-is_bar_byte-clause-value c = sym (position_or_len_is (λ b. b == 95) c.args.bytes.now c.loop-i.i 0 c.loop-i.invariant.0
-    c.loop-i.invariant.1 (λ _. sym c.is_bar_byte.ensures ∙ c.if-is_bar_byte.true))
+pub returns-then-bytes-i-eq95-clause-value : goal.returns-then-bytes-i-eq95-clause-value
+returns-then-bytes-i-eq95-clause-value c = sym (position_or_len_is (λ b. b == 95) c.args.bytes.now c.loop-i.i 0 c.loop-i.invariant.0
+    c.loop-i.invariant.1 (λ _. eq-eqb _ _ c.if-bytes-i-eq95.true))
 
 pub returns-clause-value : goal.returns-clause-value
 returns-clause-value c = sym (position_or_len_is (λ b. b == 95) c.args.bytes.now c.loop-i.i 0 c.loop-i.invariant.0 c.loop-i.invariant.1
