@@ -1,12 +1,12 @@
 //! The lines of each section on their way to a sink.
 
-ghost use Rattle.std.specs.Prelude.{ℕ, List, IfSome, ◌≡◌, ◌≤◌, ◌≤ℤ◌, ◌<ℤ◌, ◌∷◌, [], ◌++◌, codes, flat_map, length, map, pos, take, true};
+ghost use Rattle.std.specs.Prelude.{IfSome, ◌≡◌, ◌≤◌, ◌≤ℤ◌, ◌<ℤ◌, ◌∷◌, [], ◌++◌, codes, flat_map, length, map, pos, take, true};
 ghost use Rattle.std.specs.Fmt.{signed_decimal};
 ghost use Rattle.program_rows.specs.MpsLines.{Data};
 ghost use Rattle.program_rows.specs.Parts.{shown_row, shown_column};
 ghost use Rattle.mps_text.specs.Text.{written, kind_letter, bound_words};
 ghost use Rattle.byte_sinks.specs.Adds.{Adds};
-ghost use Rattle.mps_text.specs.Bytes.{row_bytes, right_side_bytes, bound_bytes, entry_bytes, cost_bytes, column_bytes};
+ghost use Rattle.mps_text.specs.Bytes.{row_bytes, right_side_bytes, bound_bytes, entry_bytes, column_bytes};
 ghost use Rattle.program_rows.specs.ProgramNames.{row_name};
 
 use crate::data_lines::{add_three, add_two};
@@ -63,69 +63,12 @@ fn add_number<S: Sink>(writer: &mut Writer<'_, S>, a: &[u8], b: &[u8], n: i64)
     add_three(writer, a, b, digits.as_bytes());
 }
 
-fn add_row<S: Sink>(writer: &mut Writer<'_, S>, row: &Row)
-    ensures { Adds S.state writer.old writer.new (row_bytes (shown_row row.now)) }
-{
-    add_two(writer, letter(row.kind), row.name.as_slice());
-}
-
-fn add_right_side<S: Sink>(writer: &mut Writer<'_, S>, row: &Row)
-    ensures { Adds S.state writer.old writer.new (right_side_bytes (shown_row row.now)) }
-{
-    add_number(writer, b"RHS", row.name.as_slice(), row.right_side);
-}
-
-fn add_bound<S: Sink>(writer: &mut Writer<'_, S>, column: &Column<'_>)
-    ensures { Adds S.state writer.old writer.new
-        (bound_bytes (shown_column column.now)) }
-{
-    writer.add(before_bound(column.bounds));
-    writer.add(column.name);
-    writer.add(after_bound(column.bounds));
-}
-
-/// Adds the line of an entry field by field.
-fn add_long_entry<S: Sink>(
-    writer: &mut Writer<'_, S>,
-    rows: &[Row],
-    name: &[u8],
-    entry: &(usize, i64),
-)
-    ensures { Adds S.state writer.old writer.new
-        (entry_bytes (map shown_row rows.now) name.now entry.now) }
-{
-    add_number(writer, name, name_at(rows, entry.0), entry.1);
-}
-
 /// Whether an entry is short: a row's name of two to four bytes, and a number below 100.
 fn is_short(row: &[u8], number: i64) -> bool
     ensures { result ≡ true → (2 ≤ length row.now) × (length row.now ≤ 4) × (pos 0 ≤ℤ number)
         × (number <ℤ pos 100) }
 {
     2 <= row.len() && row.len() <= 4 && 0 <= number && number < 100
-}
-
-/// Writes the line of an entry after other lines, and returns where it ends, if it is short and has room.
-#[inline(always)]
-fn write_entry(
-    lines: &mut [u8; LINES_LEN],
-    at: usize,
-    rows: &[Row],
-    front: &[u8; FRONT_LEN],
-    front_len: usize,
-    entry: &(usize, i64),
-) -> Option<usize>
-    requires within { front_len ≤ FRONT_LEN }
-    ensures written { (name : List ℕ) → take front_len front.now ≡ 32 ∷ (name ++ 32 ∷ [])
-        → IfSome result (λ end. take end lines.new
-        ≡ take at lines.old ++ entry_bytes (map shown_row rows.now) name entry.now) }
-    ensures within { IfSome result (λ end. end ≤ LINES_LEN) }
-{
-    let row = name_at(rows, entry.0);
-    if at <= LINES_LEN - LINE_ROOM && is_short(row, entry.1) {
-        return Some(write_line(lines, at, front, front_len, row, entry.1 as u8));
-    }
-    None
 }
 
 /// Writes the lines of the entries of a column with a short name one after the other, and returns where they end, if each is short and they have room.
@@ -143,8 +86,12 @@ fn write_entries(
     let mut front = [0; FRONT_LEN];
     let front_len = write_front(&mut front, name);
     let mut at = 0;
-    for entry in entries {
-        at = write_entry(lines, at, rows, &front, front_len, entry)?;
+    for &(place, number) in entries {
+        let row = name_at(rows, place);
+        if at > LINES_LEN - LINE_ROOM || !is_short(row, number) {
+            return None;
+        }
+        at = write_line(lines, at, &front, front_len, row, number as u8);
     }
     Some(at)
 }
@@ -155,7 +102,7 @@ pub fn add_rows<S: Sink>(writer: &mut Writer<'_, S>, rows: &[Row])
         (flat_map (λ r. row_bytes (shown_row r)) rows.now) }
 {
     for row in rows {
-        add_row(writer, row);
+        add_two(writer, letter(row.kind), row.name.as_slice());
     }
 }
 
@@ -165,7 +112,7 @@ pub fn add_right_sides<S: Sink>(writer: &mut Writer<'_, S>, rows: &[Row])
         (flat_map (λ r. right_side_bytes (shown_row r)) rows.now) }
 {
     for row in rows {
-        add_right_side(writer, row);
+        add_number(writer, b"RHS", row.name.as_slice(), row.right_side);
     }
 }
 
@@ -174,11 +121,14 @@ pub fn add_bounds<S: Sink>(writer: &mut Writer<'_, S>, columns: &Columns)
     ensures { Adds S.state writer.old writer.new (flat_map bound_bytes columns.now) }
 {
     for place in 0..columns.len() {
-        add_bound(writer, &columns.column(place));
+        let column = columns.column(place);
+        writer.add(before_bound(column.bounds));
+        writer.add(column.name);
+        writer.add(after_bound(column.bounds));
     }
 }
 
-/// Adds the lines of entries of a column one by one.
+/// Adds the lines of entries of a column one by one, and each field by field.
 fn add_long_entries<S: Sink>(
     writer: &mut Writer<'_, S>,
     rows: &[Row],
@@ -188,8 +138,8 @@ fn add_long_entries<S: Sink>(
     ensures { Adds S.state writer.old writer.new
         (flat_map (entry_bytes (map shown_row rows.now) name.now) entries.now) }
 {
-    for entry in entries {
-        add_long_entry(writer, rows, name, entry);
+    for &(place, number) in entries {
+        add_number(writer, name, name_at(rows, place), number);
     }
 }
 
@@ -213,13 +163,6 @@ pub fn add_entries<S: Sink>(
     add_long_entries(writer, rows, name, entries);
 }
 
-fn add_cost<S: Sink>(writer: &mut Writer<'_, S>, objective: &[u8], column: &Column<'_>)
-    ensures { Adds S.state writer.old writer.new
-        (cost_bytes objective.now (shown_column column.now)) }
-{
-    add_number(writer, column.name, objective, column.cost);
-}
-
 /// Adds the lines of a column.
 pub fn add_column<S: Sink>(
     writer: &mut Writer<'_, S>,
@@ -231,7 +174,7 @@ pub fn add_column<S: Sink>(
     ensures { Adds S.state writer.old writer.new
         (column_bytes objective.now (map shown_row rows.now) (shown_column column.now)) }
 {
-    add_cost(writer, objective, column);
+    add_number(writer, column.name, objective, column.cost);
     add_entries(writer, lines, rows, column.name, column.entries);
 }
 

@@ -4,7 +4,7 @@ use Rattle.std.proofs.Common.{Some, None, drop, get_or, length, map, slice_get, 
 use Rattle.std.specs.Prelude.{bytes_eq, find, position}
 use Rattle.std.specs.Option.{option_map, option_map_or}
 use Rattle.std.specs.List.{list_all, position_or_len, IsDistinct}
-use Rattle.std.proofs.lemmas.Bool.{false_from_ne_true, cond-true, cond-false, le-ltb}
+use Rattle.std.proofs.lemmas.Bool.{false_from_ne_true, cond-true}
 use Rattle.std.proofs.lemmas.List.{at_drop_all, at_drop_more}
 use Rattle.std.proofs.lemmas.List.Folds.{find_at}
 use Rattle.std.proofs.lemmas.Option.{get_or_from_slice_get, slice_get-map, slice_get_past, slice_get_read, slice_get_within}
@@ -98,9 +98,3 @@ pub place_found : {X : Type 0} (p : X → Bool) (f : ℕ → ℤ) (xs : List X) 
 place_found p f xs n e l =
     let within : nat_lt (position_or_len p xs) (length xs) ≡ true = lt-ltb (position_or_len p xs) (length xs) (omega arith) in
     sym (ap (λ o. option_map_or f o (pos 0)) (cond-true (nat_lt (position_or_len p xs) (length xs)) (Some (position_or_len p xs)) None within) ∙ ap f (sym e))
-
-pub place_none : {X : Type 0} (p : X → Bool) (f : ℕ → ℤ) (xs : List X) (n : ℕ) → n ≡ position_or_len p xs → length xs ≤ n
-    → pos 0 ≡ option_map_or f (position p xs) (pos 0)
-place_none p f xs n e l =
-    let beyond : nat_lt (position_or_len p xs) (length xs) ≡ false = le-ltb (position_or_len p xs) (length xs) (omega arith) in
-    sym (ap (λ o. option_map_or f o (pos 0)) (cond-false (nat_lt (position_or_len p xs) (length xs)) (Some (position_or_len p xs)) None beyond))

@@ -1,6 +1,6 @@
 -- The columns at 1, by their places.
-use Rattle.std.proofs.Common.{◌≡◌, ℕ, ◌+◌, ◌<◌, Bool, true, false, cond, List, [], ◌∷◌, ◌++◌, Option, Some, None, drop}
-use Rattle.std.proofs.Common.{length, slice_get, slice_index_or, sym, refl, ap, ◌∙◌, arith, append_assoc, ℤ, pos, ◌+ℤ◌}
+use Rattle.std.proofs.Common.{◌≡◌, ℕ, ◌+◌, ◌<◌, Bool, true, false, List, [], ◌∷◌, Option, Some, None, drop}
+use Rattle.std.proofs.Common.{length, slice_get, slice_index_or, sym, refl, ap, ◌∙◌, arith, ℤ, pos, ◌+ℤ◌}
 use Rattle.std.specs.List.{AllByRecursion}
 use Rattle.std.specs.Option.{option_map, option_map_or}
 use Rattle.std.proofs.lemmas.Int.{ints}
@@ -10,17 +10,6 @@ use Rattle.program_rows.specs.Program.{TableColumn}
 use Rattle.program_rows.specs.Points.{sum_at_one}
 use Rattle.program_rows.specs.inside.Ones.{ones_from, sum_at}
 use Rattle.program_rows.proofs.EachFacts.{item_at}
-
--- the next value is listed or not
-pub ones-step : (items : List ℕ) (values : List Bool) (i : ℕ) (v : Bool) (all : List ℕ) → i < length values → slice_index_or values i false ≡ v
-    → items ++ ones_from i (drop i values) ≡ all → cond v (items ++ i ∷ []) items ++ ones_from (i + 1) (drop (i + 1) values) ≡ all
-ones-step items values i v all within is left =
-    let next : drop i values ≡ v ∷ drop (i + 1) values = drop_more values i false within ∙ ap (λ (w : Bool). w ∷ drop (i + 1) values) is in
-    by v (ap (λ (rest : List Bool). items ++ ones_from i rest) (sym next) ∙ left)
-  where
-    by : (w : Bool) → items ++ ones_from i (w ∷ drop (i + 1) values) ≡ all → cond w (items ++ i ∷ []) items ++ ones_from (i + 1) (drop (i + 1) values) ≡ all
-    by true h = append_assoc items (i ∷ []) (ones_from (i + 1) (drop (i + 1) values)) ∙ h
-    by false h = h
 
 -- the places are those of values
 pub ones-within : (k n : ℕ) (values : List Bool) → k + length values ≡ n → AllByRecursion (λ i. i < n) (ones_from k values)

@@ -82,8 +82,3 @@ added_one true o sum next k t e f m = (
   rw f (within k sum m).1,
 )
 added_one false o sum next k t e f m = cc
-
-pub added_none : (v : Bool) (o : Option ℤ) (sum : ℤ) → v ≡ false
-    → ((n : ℤ) → o ≡ Some n → sum ≡ sum +ℤ cond v n (pos 0)) × ((sum +ℤ neg_ℤ (pos (2 ^ 63))) ≤ℤ sum) × (sum ≤ℤ (sum +ℤ pos (2 ^ 63)))
-added_none true o sum t = cc
-added_none false o sum t = ((λ n g. let e : sum ≡ sum +ℤ pos 0 = omega (arith, ints) in e), omega (arith, ints), omega (arith, ints))

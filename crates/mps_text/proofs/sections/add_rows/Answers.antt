@@ -7,5 +7,5 @@ use Rattle.mps_text.proofs.sections.add_rows.Goals as goal
 
 pub loop-row-preserved : goal.loop-row-preserved
 loop-row-preserved g c =
-    Adds-to (Adds-then c.loop-row.invariant c.add_row.ensures) (flat_map-next_item (λ r. row_bytes (shown_row r)) c.args.rows.now
+    Adds-to (Adds-then c.loop-row.invariant (rw (c.letter.ensures, c.as_slice.ensures.value) at c.add_two.ensures)) (flat_map-next_item (λ r. row_bytes (shown_row r)) c.args.rows.now
     c.loop-row.row-index c.row-item.result c.row-item.is (omega arith))
