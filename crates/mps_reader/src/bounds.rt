@@ -11,7 +11,7 @@ ghost use Rattle.auction_terms.specs.Lines.{bytes_of};
 ghost use Rattle.mps_reader.specs.inside.Reading.{AnswersFault, bit_fault};
 ghost use Rattle.mps_reader.specs.inside.Columns.{BothFit};
 ghost use Rattle.mps_reader.specs.inside.Rows.{names_of};
-ghost use Rattle.mps_reader.specs.inside.Tracking.{ColumnsTell, bit, state_values, bounded_values};
+ghost use Rattle.mps_reader.specs.inside.Tracking.{ColumnsTell, state_values, bounded_values};
 ghost use Rattle.std.specs.Bool.{then_some as when};
 ghost use Rattle.mps_reader.specs.declared.tables.Rows as row_table;
 
@@ -24,24 +24,6 @@ fn is_bound_type(word: &[u8]) -> bool
     ensures { result ≡ is_one_of word.now (codes "UP" ∷ codes "LO" ∷ codes "FX" ∷ codes "BV" ∷ []) }
 {
     is_word(word, b"UP") || is_word(word, b"LO") || is_word(word, b"FX") || is_word(word, b"BV")
-}
-
-fn is_from_to(low: usize, high: usize, count: usize) -> bool
-    ensures value { result ≡ (nat_le low count && nat_le count high) }
-    ensures range { result ≡ true → (low ≤ count) × (count ≤ high) }
-{
-    low <= count && count <= high
-}
-
-fn is_count(is_binary: bool, count: usize) -> bool
-    ensures value { result ≡ (if is_binary then nat_le 2 count && nat_le count 4 else nat_le 3 count
-        && nat_le count 4) }
-    ensures range { result ≡ true → ((if is_binary then 2 else 3) ≤ count) × (count ≤ 4) }
-{
-    if is_binary {
-        return is_from_to(2, 4, count);
-    }
-    is_from_to(3, 4, count)
 }
 
 /// The type and the number of fields of a bound: whether it makes its column binary.
@@ -63,7 +45,8 @@ fn take_bound_type(fields: &[&[u8]]) -> Result<bool, Refusal>
 {
     refuse!(!is_bound_type(fields[0]), BoundType);
     let is_binary = is_word(fields[0], b"BV");
-    refuse!(!is_count(is_binary, fields.len()), Fields);
+    let fewest = if is_binary { 2 } else { 3 };
+    refuse!(fields.len() < fewest || fields.len() > 4, Fields);
     Ok(is_binary)
 }
 

@@ -1,6 +1,6 @@
 //! The columns that the lines so far name, and the markers between them.
 
-ghost use Rattle.std.specs.Prelude.{◌≡◌, ◌++◌, ◌∷◌, [], ℕ, List, Option, Some, None, length, not, true, false, ◌&&◌, bytes_eq, is_some, OnOk, codes, IfOk};
+ghost use Rattle.std.specs.Prelude.{◌≡◌, [], ℕ, List, Option, Some, length, not, true, false, ◌&&◌, bytes_eq, is_some, OnOk, codes, IfOk};
 ghost use Rattle.std.specs.List.{list_any};
 ghost use Rattle.std.specs.List.Sorted.{IsPermutation, IsNonDecreasingBy};
 ghost use Rattle.program_rows.specs.declared.mps_fault_kind.MpsFaultKind.TheVariants.{ColumnSplit};
@@ -11,7 +11,7 @@ ghost use Rattle.mps_reader.specs.inside.Rows.{names_of, option_now};
 ghost use Rattle.mps_reader.specs.inside.Columns.{ColumnsFit, AddsColumn, IsApart};
 ghost use Rattle.mps_reader.specs.inside.Tracking.{ColumnsTell, ColumnAdded, is_current};
 ghost use Rattle.std.specs.Bool.{then_some as when};
-ghost use Rattle.program_rows.specs.MpsProgram.{is_one_of, is_marker};
+ghost use Rattle.program_rows.specs.MpsProgram.{is_marker};
 ghost use Rattle.program_rows.specs.MpsFaults.{is_integer_open, marker_fault};
 ghost use Rattle.auction_terms.specs.Lines.{bytes_of};
 
@@ -113,24 +113,6 @@ pub fn open_column<'t>(columns: &mut ColumnTable<'t>, name: &'t [u8]) -> Result<
     Ok(())
 }
 
-fn is_marker_word(word: &[u8]) -> bool
-    ensures { result ≡ is_one_of word.now (codes "'INTORG'" ∷ codes "'INTEND'" ∷ []) }
-{
-    is_word(word, b"'INTORG'") || is_word(word, b"'INTEND'")
-}
-
-fn begins_again(word: &[u8], is_begun: bool) -> bool
-    ensures { result ≡ (bytes_eq word.now (codes "'INTORG'") && is_begun) }
-{
-    is_word(word, b"'INTORG'") && is_begun
-}
-
-fn ends_none(word: &[u8], is_begun: bool) -> bool
-    ensures { result ≡ (bytes_eq word.now (codes "'INTEND'") && not is_begun) }
-{
-    is_word(word, b"'INTEND'") && !is_begun
-}
-
 /// Whether a line of COLUMNS is a marker.
 pub fn names_marker(fields: &[&[u8]]) -> bool
     ensures { result ≡ is_marker (bytes_of fields.now) }
@@ -148,17 +130,11 @@ pub fn take_marker(is_begun: bool, fields: &[&[u8]]) -> Result<bool, Refusal>
     ensures value { IfOk result (λ now. now ≡ bytes_eq (field 2 (bytes_of fields.now))
         (codes "'INTORG'")) }
 {
-    if fields.len() != 3 {
-        return Err(Refusal::Fault(MpsFaultKind::Marker));
-    }
-    if !is_marker_word(fields[2]) {
-        return Err(Refusal::Fault(MpsFaultKind::Marker));
-    }
-    if begins_again(fields[2], is_begun) {
-        return Err(Refusal::Fault(MpsFaultKind::Marker));
-    }
-    if ends_none(fields[2], is_begun) {
-        return Err(Refusal::Fault(MpsFaultKind::Marker));
-    }
-    Ok(is_word(fields[2], b"'INTORG'"))
+    refuse!(fields.len() != 3, Marker);
+    let begins = is_word(fields[2], b"'INTORG'");
+    let ends = is_word(fields[2], b"'INTEND'");
+    refuse!(!begins && !ends, Marker);
+    refuse!(begins && is_begun, Marker);
+    refuse!(ends && !is_begun, Marker);
+    Ok(begins)
 }

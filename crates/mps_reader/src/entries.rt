@@ -3,9 +3,8 @@
 ghost use Rattle.std.specs.Prelude.{◌≡◌, ◌≤◌, ◌==◌, ◌||◌, ◌∷◌, [], ◌++◌, ℕ, ℤ, Bool, List, not, true, false, is_some};
 ghost use Rattle.std.specs.Prelude.{length, bytes_eq, drop, Option, None, OnOk, if◌then◌else◌};
 ghost use Rattle.std.specs.List.{AllByRecursion, list_any};
-ghost use Rattle.std.specs.Option.{option_map_or};
 ghost use Rattle.program_rows.specs.declared.mps_fault_kind.MpsFaultKind.TheVariants.{UnknownRow, EntryRepeated};
-ghost use Rattle.auction_terms.specs.LineFields.{field, LineFields};
+ghost use Rattle.auction_terms.specs.LineFields.{LineFields};
 ghost use Rattle.program_rows.specs.MpsSections.{Sections};
 ghost use Rattle.program_rows.specs.MpsProgram.{value, pairs, is_marker, number_beside};
 ghost use Rattle.program_rows.specs.MpsFaults.{earliest_fault, number_fault, is_declared, pairs_fault, is_integer_open, marker_fault, column_fault};
@@ -51,15 +50,6 @@ fn put(
     Ok(())
 }
 
-// Whether a row is the objective. A row with a place among those that aren't `N` isn't: its name needn't be compared.
-fn is_cost(place: Option<usize>, objective: Option<&[u8]>, row: &[u8]) -> bool
-    requires { is_some place ≡ true
-        → option_map_or (λ name. bytes_eq row.now name.now) objective false ≡ false }
-    ensures { result ≡ option_map_or (λ name. bytes_eq row.now name.now) objective.entry false }
-{
-    place.is_none() && is_objective(objective, row)
-}
-
 /// A pair of row and number, of the column with the stamp.
 #[inline(always)]
 fn take_entry<'t>(
@@ -93,15 +83,10 @@ fn take_entry<'t>(
     let index = stamp_row(&rows.names, &rows.next, &mut rows.stamps, row, stamp)?;
     let value = take_number(token)?;
     let place = rows.places[index];
-    put(column, is_cost(place, rows.objective, row), place, value)?;
+    // A row with a place among those that aren't `N` isn't the objective: its name needn't be compared.
+    let is_cost = place.is_none() && is_objective(rows.objective, row);
+    put(column, is_cost, place, value)?;
     Ok(())
-}
-
-fn is_three_or_five(count: usize) -> bool
-    ensures value { result ≡ ((count == 3) || (count == 5)) }
-    ensures some { result ≡ true → 3 ≤ count }
-{
-    count == 3 || count == 5
 }
 
 fn take_marker_line<'t>(columns: &mut ColumnTable<'t>, fields: &[&[u8]]) -> Result<(), Refusal>
@@ -191,7 +176,7 @@ pub fn take_column_line<'t>(
         × InColumns (record lines { columns = bytes_of fields.now ∷ lines.columns }) rows.new
         columns.new) }
 {
-    refuse!(!is_three_or_five(fields.len()), Fields);
+    refuse!(fields.len() != 3 && fields.len() != 5, Fields);
     if names_marker(fields) {
         take_marker_line(columns, fields)?;
         return Ok(());

@@ -1,12 +1,11 @@
 //! What the lines of an MPS text are, their fields, and the numbers and words that fields are.
 
 ghost use Rattle.std.specs.Prelude.{◌≡◌, ◌≤◌, ◌<◌, ◌∷◌, [], true, false, take, drop, length, position, MatchOption, IfSome};
-ghost use Rattle.std.specs.Prelude.{IfOk, OnErr, ◌==◌, slice_index, bytes_eq};
+ghost use Rattle.std.specs.Prelude.{IfOk, OnErr, bytes_eq};
 ghost use Rattle.std.specs.List.{list_all};
 ghost use Rattle.auction_terms.specs.LineFields.{fields, is_space};
 ghost use Rattle.auction_terms.specs.Lines.{bytes_of};
 ghost use Rattle.mps_reader.specs.inside.Reading.{is_other, is_after, is_text_byte, IsLine, AnswersFault, bit_fault};
-ghost use Rattle.program_rows.specs.MpsLines.{line_of};
 ghost use Rattle.program_rows.specs.MpsProgram.{value};
 ghost use Rattle.program_rows.specs.MpsFaults.{number_fault};
 ghost use Rattle.mps_reader.specs.inside.Tracking.{bit};
@@ -39,19 +38,13 @@ fn field_start(rest: &[u8]) -> Option<usize>
     None
 }
 
-fn is_after_byte(b: u8) -> bool
-    ensures { result ≡ is_after b }
-{
-    !(b'!' <= b && b <= b'~')
-}
-
 /// The place of the first byte that isn't of a field: white space, or a byte that no text has.
 fn field_end(text: &[u8]) -> Option<usize>
     ensures { result ≡ position is_after text.now }
 {
     let mut i = 0;
     while i < text.len() {
-        if is_after_byte(text[i]) {
+        if text[i] < b'!' || text[i] > b'~' {
             return Some(i);
         }
         i += 1;
@@ -120,20 +113,6 @@ pub enum Line<'t> {
     Data(Fields<'t>),
 }
 
-fn is_comment(line: &[u8]) -> bool
-    requires { 1 ≤ length line.now }
-    ensures { result ≡ (slice_index line.now 0 == 42) }
-{
-    line[0] == b'*'
-}
-
-fn is_data(line: &[u8]) -> bool
-    requires { 1 ≤ length line.now }
-    ensures { result ≡ is_space (slice_index line.now 0) }
-{
-    line[0] == b' ' || line[0] == b'\t'
-}
-
 /// What a line is, with its first fields.
 pub fn read_line(bytes: &[u8]) -> Line<'_>
     ensures { IsLine result bytes.now }
@@ -141,7 +120,7 @@ pub fn read_line(bytes: &[u8]) -> Line<'_>
     if bytes.is_empty() {
         return Line::Skipped;
     }
-    if is_comment(bytes) {
+    if bytes[0] == b'*' {
         return Line::Skipped;
     }
     let Ok(fields) = first_fields(bytes) else {
@@ -150,7 +129,7 @@ pub fn read_line(bytes: &[u8]) -> Line<'_>
     if fields.is_empty() {
         return Line::Skipped;
     }
-    if is_data(bytes) {
+    if is_space_byte(bytes[0]) {
         return Line::Data(fields);
     }
     Line::Header(fields)

@@ -1,57 +1,31 @@
 //! Headers: the sections and their order, and the sense of the objective.
 
-ghost use Rattle.std.specs.Prelude.{◌≡◌, ◌∷◌, [], ◌==◌, ◌<◌, ◌&&◌, not, codes, nat_lt, length, is_none, bytes_eq, true};
+ghost use Rattle.std.specs.Prelude.{◌≡◌, ◌∷◌, [], ◌<◌, ◌&&◌, not, codes, nat_lt, length, is_none, bytes_eq, true};
 ghost use Rattle.std.specs.Prelude.{IfOk, OnOk, None, if◌then◌else◌, position, option_map};
-ghost use Rattle.program_rows.specs.declared.mps_fault_kind.MpsFaultKind.TheVariants.{SectionLeftOut, Section, Fields, NoObjective, NotBinary, SenseMax};
-ghost use Rattle.auction_terms.specs.LineFields.{field};
+ghost use Rattle.program_rows.specs.declared.mps_fault_kind.MpsFaultKind.TheVariants.{NotBinary};
 ghost use Rattle.program_rows.specs.MpsSections.{Sections};
 ghost use Rattle.program_rows.specs.MpsProgram.{is_one_of, first_free, columns_named};
-ghost use Rattle.program_rows.specs.MpsFaults.{place_of, earliest_fault, sense_fault, header_fault, is_binary, sections_left_out};
+ghost use Rattle.program_rows.specs.MpsFaults.{place_of, sense_fault, header_fault, is_binary, sections_left_out};
 ghost use Rattle.auction_terms.specs.Lines.{bytes_of};
 ghost use Rattle.mps_reader.specs.inside.Reading.{AnswersFault, AnswersUpTo};
 ghost use Rattle.mps_reader.specs.inside.Sections.{word_of};
-ghost use Rattle.std.specs.Bool.{then_some as when};
 
 use crate::fields::is_word;
 use crate::refusal::Refusal;
 use crate::sections::{Section, place, section_of};
 use program_rows::MpsFaultKind;
 
-fn is_greatest(word: &[u8]) -> bool
-    ensures { result ≡ is_one_of word.now (codes "MAX" ∷ codes "MAXIMIZE" ∷ []) }
-{
-    is_word(word, b"MAX") || is_word(word, b"MAXIMIZE")
-}
-
-fn is_least(word: &[u8]) -> bool
-    ensures { result ≡ is_one_of word.now (codes "MIN" ∷ codes "MINIMIZE" ∷ []) }
-{
-    is_word(word, b"MIN") || is_word(word, b"MINIMIZE")
-}
-
-/// A sense.
-fn take_sense(word: &[u8]) -> Result<(), Refusal>
-    ensures { AnswersFault result (earliest_fault
-        (when (is_one_of word.now (codes "MAX" ∷ codes "MAXIMIZE" ∷ [])) SenseMax
-        ∷ when (not (is_one_of word.now (codes "MIN" ∷ codes "MINIMIZE" ∷ []))) Fields ∷ [])) }
-{
-    if is_greatest(word) {
-        return Err(Refusal::Fault(MpsFaultKind::SenseMax));
-    }
-    if !is_least(word) {
-        return Err(Refusal::Fault(MpsFaultKind::Fields));
-    }
-    Ok(())
-}
-
 /// The one field of a line of OBJSENSE, or of its header.
 pub fn take_sense_line(fields: &[&[u8]]) -> Result<(), Refusal>
     ensures { AnswersFault result (sense_fault (bytes_of fields.now)) }
 {
-    if fields.len() != 1 {
-        return Err(Refusal::Fault(MpsFaultKind::Fields));
-    }
-    take_sense(fields[0])
+    refuse!(fields.len() != 1, Fields);
+    let sense = fields[0];
+    let is_greatest = is_word(sense, b"MAX") || is_word(sense, b"MAXIMIZE");
+    refuse!(is_greatest, SenseMax);
+    let is_least = is_word(sense, b"MIN") || is_word(sense, b"MINIMIZE");
+    refuse!(!is_least, Fields);
+    Ok(())
 }
 
 fn is_left_out(word: &[u8]) -> bool
@@ -88,22 +62,6 @@ fn wants_objective(word: &[u8]) -> bool
         || is_word(word, b"ENDATA")
 }
 
-fn has_more(word: &[u8], more: &[&[u8]]) -> bool
-    ensures { result ≡ (is_one_of word.now
-        (codes "ROWS" ∷ codes "COLUMNS" ∷ codes "RHS" ∷ codes "BOUNDS" ∷ [])
-        && nat_lt 0 (length (bytes_of more.now))) }
-{
-    stands_alone(word) && more.len() > 0
-}
-
-fn lacks_objective(word: &[u8], has_objective: bool) -> bool
-    ensures { result ≡ (is_one_of word.now
-        (codes "COLUMNS" ∷ codes "RHS" ∷ codes "BOUNDS" ∷ codes "ENDATA" ∷ [])
-        && not has_objective) }
-{
-    wants_objective(word) && !has_objective
-}
-
 /// The sense that a header names, if it does.
 fn take_header_sense(word: &[u8], more: &[&[u8]]) -> Result<(), Refusal>
     ensures { AnswersFault result (if bytes_eq word.now (codes "OBJSENSE")
@@ -137,8 +95,8 @@ pub fn take_header(
     refuse!(is_left_out(word), SectionLeftOut);
     let section = section_of(word);
     refuse!(place(opened) >= place(section), Section);
-    refuse!(has_more(word, more), Fields);
+    refuse!(stands_alone(word) && more.len() > 0, Fields);
     take_header_sense(word, more)?;
-    refuse!(lacks_objective(word, has_objective), NoObjective);
+    refuse!(wants_objective(word) && !has_objective, NoObjective);
     Ok(section)
 }

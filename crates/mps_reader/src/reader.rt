@@ -23,7 +23,7 @@ ghost use Rattle.auction_terms.specs.Lines.{lines_of, bytes_of};
 ghost use Rattle.mps_reader.specs.Answer.{IsRead};
 ghost use Rattle.program_rows.specs.MpsMeaning.{meaning};
 ghost use Rattle.program_rows.specs.declared.mps_fault_kind.MpsFaultKind.TheVariants.{TooLarge, NotBinary};
-ghost use Rattle.program_rows.specs.MpsSections.{Sections, no_lines, with_line, is_end};
+ghost use Rattle.program_rows.specs.MpsSections.{Sections, with_line, is_end};
 ghost use Rattle.program_rows.specs.MpsProgram.{program};
 ghost use Rattle.mps_reader.specs.inside.Reading.{AnswersFault, IsRefusedLine};
 ghost use Rattle.mps_reader.specs.inside.Tracking.{ReadingTells};
@@ -51,18 +51,6 @@ use crate::tables::{ColumnState, ColumnTable, Reading, Rows};
 use auction_terms::LineReader;
 use program_rows::{Bounds, MpsFault, MpsFaultKind, Program, ProgramParts, Seeded};
 use std::alloc::{AllocError, Global};
-
-/// Nothing, before the first line. The seed is that of the sets of names.
-fn start<'t>(alloc: Global, seed: Seeded) -> Reading<'t>
-    ensures fit { ReadingFits result }
-    ensures tells { ReadingTells no_lines result }
-{
-    Reading {
-        section: Section::Start,
-        rows: Rows::new(alloc, seed),
-        columns: ColumnTable::new(alloc, seed),
-    }
-}
 
 fn take_header_line<'t>(reading: &mut Reading<'t>, fields: &[&'t [u8]]) -> Result<bool, Refusal>
     requires fit { ReadingFits reading.old }
@@ -163,19 +151,12 @@ fn is_binary(state: ColumnState) -> bool
     }
 }
 
-// The first column without bounds of 0 and 1.
-fn first_open(states: &[ColumnState]) -> Option<usize>
-    ensures { result ≡ position (λ state. not (is_binary_state state)) states.now }
-{
-    states.iter().position(|state| !is_binary(*state))
-}
-
-/// Refuses the first column that isn't binary.
+/// Refuses the first column without bounds of 0 and 1.
 fn refuse_open(states: &[ColumnState]) -> Result<(), Refusal>
     ensures { AnswersFault result (option_map NotBinary
         (position (λ state. not (is_binary_state state)) states.now)) }
 {
-    match first_open(states) {
+    match states.iter().position(|state| !is_binary(*state)) {
         Some(column) => Err(Refusal::Fault(MpsFaultKind::NotBinary { column })),
         None => Ok(()),
     }
@@ -246,7 +227,12 @@ fn read_lines(alloc: Global, text: &[u8]) -> Result<Program, MpsFault>
     ensures line { IfErr result (λ e. e.line ≤ length (lines_of text.now)) }
     ensures meaning { IsRead result (meaning text.now) }
 {
-    let mut reading = start(alloc, Seeded::by_text(text));
+    let seed = Seeded::by_text(text);
+    let mut reading = Reading {
+        section: Section::Start,
+        rows: Rows::new(alloc, seed),
+        columns: ColumnTable::new(alloc, seed),
+    };
     let mut lines = LineReader::new(text);
     let mut place: usize = 0;
     while let Some(line) = lines.next() {

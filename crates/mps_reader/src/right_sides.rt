@@ -1,7 +1,7 @@
 //! Lines of RHS.
 
-ghost use Rattle.std.specs.Prelude.{◌≡◌, ◌≤◌, ◌<◌, ◌==◌, ◌&&◌, ◌||◌, ◌∷◌, ◌++◌, ℕ, ℤ, Bool, List, not, true, false, length};
-ghost use Rattle.std.specs.Prelude.{map, bytes_eq, nat_le, pos, if◌then◌else◌, OnOk, flat_map};
+ghost use Rattle.std.specs.Prelude.{◌≡◌, ◌≤◌, ◌<◌, ◌==◌, ◌||◌, ◌∷◌, ◌++◌, ℕ, ℤ, Bool, List, true, false, length};
+ghost use Rattle.std.specs.Prelude.{map, bytes_eq, if◌then◌else◌, OnOk, flat_map};
 ghost use Rattle.std.specs.List.{list_any};
 ghost use Rattle.std.specs.Option.{option_map_or};
 ghost use Rattle.auction_terms.specs.LineFields.{LineFields};
@@ -10,7 +10,6 @@ ghost use Rattle.program_rows.specs.MpsProgram.{pairs, value, first_free, number
 ghost use Rattle.program_rows.specs.MpsFaults.{is_declared, pairs_fault, right_side_fault};
 ghost use Rattle.auction_terms.specs.Lines.{bytes_of};
 ghost use Rattle.mps_reader.specs.inside.Reading.{AnswersFault};
-ghost use Rattle.std.specs.Ordering.{int_eq};
 ghost use Rattle.program_rows.specs.Parts.{shown_row};
 ghost use Rattle.mps_reader.specs.inside.Rows.{RowsFit, StampsAre, names_of, with_side, rows_by, side_fault};
 ghost use Rattle.mps_reader.specs.inside.Tracking.{RowsTell};
@@ -20,12 +19,6 @@ use crate::refusal::Refusal;
 use crate::rows::{is_objective, stamp_row};
 use crate::tables::Rows;
 use program_rows::{MpsFaultKind, Row};
-
-fn is_constant(is_cost: bool, value: i64) -> bool
-    ensures { result ≡ (is_cost && not (int_eq value (pos 0))) }
-{
-    is_cost && value != 0
-}
 
 // Sets the right side of the row at a place, and leaves all else as it is.
 fn set_right_side(rows: &mut Vec<Row>, place: usize, value: i64)
@@ -63,22 +56,13 @@ fn take_right_side<'t>(
 {
     let index = stamp_row(&rows.names, &rows.next, &mut rows.stamps, row, stamp)?;
     let value = take_number(token)?;
-    refuse!(
-        is_constant(is_objective(rows.objective, row), value),
-        ObjectiveConstant
-    );
+    let is_cost = is_objective(rows.objective, row);
+    refuse!(is_cost && value != 0, ObjectiveConstant);
     let Some(place) = rows.places[index] else {
         return Ok(());
     };
     set_right_side(&mut rows.rows, place, value);
     Ok(())
-}
-
-fn is_two_to_five(count: usize) -> bool
-    ensures value { result ≡ (nat_le 2 count && nat_le count 5) }
-    ensures range { result ≡ true → (2 ≤ count) × (count ≤ 5) }
-{
-    2 <= count && count <= 5
 }
 
 fn take_right_sides<'t>(rows: &mut Rows<'t>, stamp: usize, fields: &[&[u8]]) -> Result<(), Refusal>
@@ -149,7 +133,7 @@ pub fn take_right_side_line<'t>(
         (λ row. list_any (λ other. bytes_eq row other.0) (flat_map line_right_sides rights))
         → RowsTell lines rights rows.old → RowsTell lines (bytes_of fields.now ∷ rights) rows.new) }
 {
-    refuse!(!is_two_to_five(fields.len()), Fields);
+    refuse!(fields.len() < 2 || fields.len() > 5, Fields);
     take_right_sides(rows, stamp, &fields[fields.len() % 2..])?;
     Ok(())
 }

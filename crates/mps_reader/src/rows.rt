@@ -1,14 +1,14 @@
 //! The rows that the lines so far declare.
 
-ghost use Rattle.std.specs.Prelude.{◌≡◌, ◌≤◌, ◌∷◌, [], ◌++◌, ◌+◌, ◌==◌, ℕ, Bool, List, length, not, true, false, map};
-ghost use Rattle.std.specs.Prelude.{bytes_eq, codes, slice_get, Option, Some, None, IfOk, OnOk, is_none, if◌then◌else◌, pos};
+ghost use Rattle.std.specs.Prelude.{◌≡◌, ◌≤◌, ◌∷◌, [], ◌==◌, ℕ, Bool, List, length, not, false};
+ghost use Rattle.std.specs.Prelude.{bytes_eq, codes, slice_get, Some, IfOk, OnOk};
 ghost use Rattle.std.specs.List.{list_any, slice_set, AllByRecursion};
-ghost use Rattle.std.specs.Option.{option_map, option_map_or};
+ghost use Rattle.std.specs.Option.{option_map_or};
 ghost use Rattle.program_rows.specs.declared.mps_fault_kind.MpsFaultKind.TheVariants.{Fields, RowType, RowRepeated, UnknownRow, EntryRepeated};
 ghost use Rattle.auction_terms.specs.LineFields.{field, LineFields};
 ghost use Rattle.program_rows.specs.MpsProgram.{is_one_of, row_kind_of};
 ghost use Rattle.program_rows.specs.MpsFaults.{earliest_fault};
-ghost use Rattle.program_rows.specs.Parts.{shown_row, IsName};
+ghost use Rattle.program_rows.specs.Parts.{IsName};
 ghost use Rattle.auction_terms.specs.Lines.{bytes_of};
 ghost use Rattle.mps_reader.specs.inside.Reading.{AnswersFault};
 ghost use Rattle.mps_reader.specs.inside.Rows.{names_of, RowsFit, AddsFree, AddsBound, StampsAre};
@@ -19,7 +19,7 @@ use crate::fields::is_word;
 use crate::refusal::Refusal;
 use crate::tables::{Rows, insert_name};
 use program_rows::{MpsFaultKind, NameSet, Row, RowKind, place_of};
-use std::alloc::{AllocError, Global};
+use std::alloc::AllocError;
 use std::cell::Cell;
 
 fn is_row_type(letter: &[u8]) -> bool

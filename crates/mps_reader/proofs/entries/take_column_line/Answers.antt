@@ -13,6 +13,7 @@ use Rattle.mps_reader.proofs.AnswerFacts.{handed-on}
 use Rattle.mps_reader.proofs.LineFacts.{ready-of, split-refused, not-split, pairs-fault, line-tells, line-stays}
 use Rattle.mps_reader.proofs.NameFacts.{length-bytes}
 use Rattle.mps_reader.proofs.ColumnStepFacts.{line-fits}
+use Rattle.mps_reader.proofs.entries.take_column_line.Goals.{else-fields-ne3-via-then-fields-ne3+else-fields-ne5, else-fields-ne3-via-else-fields-ne3}
 use Rattle.mps_reader.proofs.entries.take_column_line.Goals as goal
 
 pub returns-clause-columns : goal.returns-clause-columns
@@ -29,9 +30,15 @@ pub returns-in_err-open_column-clause-fault : goal.returns-in_err-open_column-cl
 returns-in_err-open_column-clause-fault c = λ before d both h at.
     let fields = bytes_of c.args.fields.now in
     let count : ((length fields == 3) || (length fields == 5)) ≡ true = ap (λ n. (n == 3) || (n == 5)) (length-bytes c.args.fields.now)
-    ∙ sym c.is_three_or_five.ensures.value ∙ c.if-not-is_three_or_five.false in
+    ∙ elim c.else-fields-ne3.branch [
+      | else-fields-ne3-via-then-fields-ne3+else-fields-ne5 w ↦ ap (λ n. (n == 3) || (n == 5)) w.if-fields-ne5.false
+      | else-fields-ne3-via-else-fields-ne3 w ↦ ap (λ n. (n == 3) || (n == 5)) w.if-fields-ne3.false
+    ] in
     let marker : is_marker fields ≡ false = sym c.names_marker.ensures ∙ c.if-names_marker.false in
-    let named = field-at c.args.fields.now 0 (omega (arith, c.is_three_or_five.ensures.some c.if-not-is_three_or_five.false)) in
+    let named = field-at c.args.fields.now 0 (elim c.else-fields-ne3.branch [
+      | else-fields-ne3-via-then-fields-ne3+else-fields-ne5 w ↦ omega arith
+      | else-fields-ne3-via-else-fields-ne3 w ↦ omega arith
+    ]) in
     handed-on (Unit {0}) c.from_residual-in_err-open_column.result c.in_err-open_column.field-0.0 _ _ (search rules)
     (λ kind. split-refused before fields c.args.columns.now (get_or c.args.fields.now 0 no_name).now kind count marker named at.current h.names)
     c.in_err-open_column.ensures.fault
@@ -40,9 +47,15 @@ pub returns-in_err-take_entries-clause-fault : goal.returns-in_err-take_entries-
 returns-in_err-take_entries-clause-fault c = λ before d both h at.
     let fields = bytes_of c.args.fields.now in
     let count : ((length fields == 3) || (length fields == 5)) ≡ true = ap (λ n. (n == 3) || (n == 5)) (length-bytes c.args.fields.now)
-    ∙ sym c.is_three_or_five.ensures.value ∙ c.if-not-is_three_or_five.false in
+    ∙ elim c.else-fields-ne3.branch [
+      | else-fields-ne3-via-then-fields-ne3+else-fields-ne5 w ↦ ap (λ n. (n == 3) || (n == 5)) w.if-fields-ne5.false
+      | else-fields-ne3-via-else-fields-ne3 w ↦ ap (λ n. (n == 3) || (n == 5)) w.if-fields-ne3.false
+    ] in
     let marker : is_marker fields ≡ false = sym c.names_marker.ensures ∙ c.if-names_marker.false in
-    let named = field-at c.args.fields.now 0 (omega (arith, c.is_three_or_five.ensures.some c.if-not-is_three_or_five.false)) in
+    let named = field-at c.args.fields.now 0 (elim c.else-fields-ne3.branch [
+      | else-fields-ne3-via-then-fields-ne3+else-fields-ne5 w ↦ omega arith
+      | else-fields-ne3-via-else-fields-ne3 w ↦ omega arith
+    ]) in
     let ready = ready-of fields (option_now c.args.rows.now.objective) (data_lines before) c.args.rows.now c.args.columns.now c.open_column.new.columns
     (get_or c.args.fields.now 0 no_name).now marker named c.requires.fit c.in_ok-open_column.ensures.same c.in_ok-open_column.ensures.added
     both.columns h at in
@@ -57,9 +70,15 @@ pub returns-clause-fault : goal.returns-clause-fault
 returns-clause-fault c = λ before d both h at.
     let fields = bytes_of c.args.fields.now in
     let count : ((length fields == 3) || (length fields == 5)) ≡ true = ap (λ n. (n == 3) || (n == 5)) (length-bytes c.args.fields.now)
-    ∙ sym c.is_three_or_five.ensures.value ∙ c.if-not-is_three_or_five.false in
+    ∙ elim c.else-fields-ne3.branch [
+      | else-fields-ne3-via-then-fields-ne3+else-fields-ne5 w ↦ ap (λ n. (n == 3) || (n == 5)) w.if-fields-ne5.false
+      | else-fields-ne3-via-else-fields-ne3 w ↦ ap (λ n. (n == 3) || (n == 5)) w.if-fields-ne3.false
+    ] in
     let marker : is_marker fields ≡ false = sym c.names_marker.ensures ∙ c.if-names_marker.false in
-    let named = field-at c.args.fields.now 0 (omega (arith, c.is_three_or_five.ensures.some c.if-not-is_three_or_five.false)) in
+    let named = field-at c.args.fields.now 0 (elim c.else-fields-ne3.branch [
+      | else-fields-ne3-via-then-fields-ne3+else-fields-ne5 w ↦ omega arith
+      | else-fields-ne3-via-else-fields-ne3 w ↦ omega arith
+    ]) in
     let ready = ready-of fields (option_now c.args.rows.now.objective) (data_lines before) c.args.rows.now c.args.columns.now c.open_column.new.columns
     (get_or c.args.fields.now 0 no_name).now marker named c.requires.fit c.in_ok-open_column.ensures.same c.in_ok-open_column.ensures.added
     both.columns h at in
@@ -73,7 +92,10 @@ pub returns-clause-tells : goal.returns-clause-tells
 returns-clause-tells c = λ lines both h at.
     let fields = bytes_of c.args.fields.now in
     let marker : is_marker fields ≡ false = sym c.names_marker.ensures ∙ c.if-names_marker.false in
-    let named = field-at c.args.fields.now 0 (omega (arith, c.is_three_or_five.ensures.some c.if-not-is_three_or_five.false)) in
+    let named = field-at c.args.fields.now 0 (elim c.else-fields-ne3.branch [
+      | else-fields-ne3-via-then-fields-ne3+else-fields-ne5 w ↦ omega arith
+      | else-fields-ne3-via-else-fields-ne3 w ↦ omega arith
+    ]) in
     let ready = ready-of fields (option_now c.args.rows.now.objective) lines c.args.rows.now c.args.columns.now c.open_column.new.columns
     (get_or c.args.fields.now 0 no_name).now marker named c.requires.fit c.in_ok-open_column.ensures.same c.in_ok-open_column.ensures.added
     both.columns h at in

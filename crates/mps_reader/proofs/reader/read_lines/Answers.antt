@@ -1,8 +1,11 @@
-use Rattle.std.proofs.Common.{◌≡◌, ℕ, ◌+◌, ◌∷◌, [], ◌++◌, ◌∙◌, ap, sym, refl, map, length, arith, length-append}
+use Rattle.std.proofs.Common.{◌≡◌, ℕ, ◌+◌, ◌∷◌, [], ◌++◌, ◌∙◌, ap, sym, refl, map, length, arith, rules, length-append}
 use Rattle.auction_terms.specs.Lines.{lines_of}
 use Rattle.auction_terms.proofs.LineCountFacts.{lines-within}
 use Rattle.mps_reader.proofs.EndFacts.{moved}
-use Rattle.std.specs.Prelude.{Ok}
+use Rattle.std.specs.Prelude.{Ok, is_some}
+use Rattle.mps_reader.specs.inside.Rows.{names_of}
+use Rattle.mps_reader.proofs.ColumnStepFacts.{apart-none}
+use Rattle.mps_reader.proofs.FitFacts.{empty-columns}
 use Rattle.program_rows.specs.MpsLines.{line_of}
 use Rattle.program_rows.specs.MpsSections.{no_lines, with_line}
 use Rattle.mps_reader.proofs.LineAnswerFacts.{meaning-starts, meaning-goes-on, meaning-ends, program-ended}
@@ -36,9 +39,17 @@ loop-line-preserved c =
 
 pub loop-line-init : goal.loop-line-init
 loop-line-init c = (
-  c.start-reading.ensures.fit,
+  record {
+    rows = c.new.ensures.fit;
+    both = record {
+      columns = empty-columns (length c.new.result.rows.items) c.new-2.result c.new-2.ensures;
+      apart = apart-none c.new.result.stamps.items c.new.result.places.items (length (names_of c.new-2.result.names))
+          c.new-2.result.current_column.entries.items c.new-2.ensures.entries;
+    };
+    closed = ap is_some c.new-2.ensures.current;
+  },
   ([], sym c.new-lines.ensures, refl),
-  (no_lines, meaning-starts c.args.text.now ∙ ap (λ ls. meaning_after 0 no_lines (map line_of ls)) (sym c.new-lines.ensures), c.start-reading.ensures.tells),
+  (no_lines, meaning-starts c.args.text.now ∙ ap (λ ls. meaning_after 0 no_lines (map line_of ls)) (sym c.new-lines.ensures), search rules),
 )
 
 pub returns-in-Ok-finished-clause-meaning : goal.returns-in-Ok-finished-clause-meaning
