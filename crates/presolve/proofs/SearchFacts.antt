@@ -26,6 +26,20 @@ supply-passed supplies quantities i small within =
     let failed : nat_lt (slice_index supplies i) (slice_index quantities i) ≡ false = grind (arith, nat_tests) in
     rw (more, failed) refl
 
+-- the first one of which more is
+pub supply-found : (supplies quantities : List ℕ) (i asked : ℕ) → i < length quantities → asked ≡ slice_index quantities i
+    → slice_index supplies i < asked
+    → find (is_above supplies quantities) (range_with_len 0 (length quantities)) ≡ find (is_above supplies quantities) (range_with_len i (length quantities - i))
+    → Some (reason.OverSupply i asked (slice_index supplies i))
+    ≡ option_map (λ place. reason.OverSupply place (slice_index quantities place) (slice_index supplies place))
+    (find (is_above supplies quantities) (range_with_len 0 (length quantities)))
+supply-found supplies quantities i asked small asked_is above so_far =
+    let more : length quantities - i ≡ suc (length quantities - (i + 1)) = omega arith in
+    let passed : nat_lt (slice_index supplies i) (slice_index quantities i) ≡ true = grind (arith, nat_tests) in
+    let found : find (is_above supplies quantities) (range_with_len 0 (length quantities)) ≡ Some i = rw (more, passed) at so_far in
+    let reported : ℕ → Reason = λ place. reason.OverSupply place (slice_index quantities place) (slice_index supplies place) in
+    sym (ap (λ (o : Option ℕ). option_map reported o) found ∙ ap (λ (n : ℕ). Some (reason.OverSupply i n (slice_index supplies i))) (sym asked_is))
+
 -- ---- pools
 
 abbrev pub cap_in : Pool → WeightedCap

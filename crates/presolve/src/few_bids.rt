@@ -1,7 +1,6 @@
 //! Whether there are so few bids that one thread is done with them sooner than several.
 
 ghost use Rattle.std.specs.Prelude.{◌≡◌, length, nat_lt, sum_by};
-ghost use Rattle.auction_terms.specs.Allocations.{form_of};
 ghost use Rattle.bid_desk.specs.Closing.{book_of};
 
 use bid_desk::ClosedBook;
@@ -16,17 +15,9 @@ pub fn has_few_bids(book: &ClosedBook) -> bool
     let bidders = book.rules().bidders().len() as u16;
     let mut left = FEW_BIDS;
     for place in 0..bidders {
-        left = left.saturating_sub(bid_count(book, place + 1));
+        if let Some(form) = book.form(place + 1) {
+            left = left.saturating_sub(form.bids().len());
+        }
     }
     left > 0
-}
-
-// How many bids the form has that a bidder leaves standing.
-fn bid_count(book: &ClosedBook, bidder: u16) -> usize
-    ensures { result ≡ length (form_of (book_of book.now) bidder) }
-{
-    match book.form(bidder) {
-        None => 0,
-        Some(form) => form.bids().len(),
-    }
 }

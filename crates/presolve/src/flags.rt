@@ -1,25 +1,22 @@
 //! Which bids of a closed book are kept. It doesn't depend on who is left out, so one `Flags` serves every group.
 
-ghost use Rattle.std.specs.Prelude.{◌≡◌, ◌≤◌, ◌-◌, IfOk, map, ◌<◌, ◌↔◌, AllPairs, IsPermutation, IsTrue, length, ◌+◌, ◌&&◌};
-ghost use Rattle.std.specs.Prelude.{pos, not, int_le, slice_index_or, All};
-ghost use Rattle.std.specs.List.{range_with_len, list_any};
+ghost use Rattle.std.specs.Prelude.{◌≡◌, ◌≤◌, ◌-◌, IfOk, map, ◌<◌, ◌↔◌, IsTrue, length, ◌+◌, ◌&&◌};
+ghost use Rattle.std.specs.Prelude.{All};
+ghost use Rattle.std.specs.List.{range_with_len};
 ghost use Rattle.auction_terms.specs.Allocations.{form_of};
 ghost use Rattle.auction_terms.specs.Terms.{lots_in};
 ghost use Rattle.bid_desk.specs.Closing.{book_of};
 ghost use Rattle.presolve.specs.Flags.{flags_of, flags_of_form};
 ghost use Rattle.presolve.specs.inside.Flags.{flags_of_bidders, IsRepeated};
-ghost use Rattle.presolve.specs.Sizes.{IsUpTo};
 ghost use Rattle.auction_terms.specs.Domination.{is_kept};
-ghost use Rattle.auction_terms.specs.declared.limits.TheConstants.{MOST_BIDS, MOST_CATEGORIES};
+ghost use Rattle.auction_terms.specs.declared.limits.TheConstants.{MOST_BIDS};
 ghost use Rattle.bid_forms.specs.Offers.{IsBidWithinLimits};
-ghost use Rattle.presolve.specs.inside.Sieves.{IsSieve};
-ghost use Rattle.presolve.specs.inside.Sizes.{AreRivals, beats};
 
 use crate::few_bids::has_few_bids;
 use crate::keeping::{keep_bidder, keep_form};
-use crate::order::{SizedBid, ordered};
+use crate::order::ordered;
 use crate::search::is_beaten;
-use crate::sieve::{Sieve, sieves};
+use crate::sieve::sieves;
 use auction_terms::{Bid, Choice, Group, Kept, KeptBid, Rules};
 use bid_desk::ClosedBook;
 use rayon::prelude::*;
@@ -99,7 +96,12 @@ impl Flags {
             choices.items) }
     {
         book.within_limits();
-        let sorted = by_rising_bid(choices);
+        let mut sorted = choices;
+        sorted.sort_unstable_by_key(
+            |choice: &Choice| -> (u16, u16)
+                ensures { result ≡ (choice.now.bidder, choice.now.bid) }
+            { (choice.bidder, choice.bid) },
+        );
         let mut kept = Vec::new(alloc);
         for place in 0..sorted.len() {
             if !is_repeated(&sorted, place) {
@@ -222,34 +224,15 @@ fn flags_between(
                 ensures { IfOk result (λ flags. flags.items
                     ≡ flags_of_form (lots_in book.entry.now.rules)
                     (form_of (book_of book.entry.now) bidder)) }
-            { flags_of_bidder(alloc, book, bidder) },
+            {
+                match book.form(bidder) {
+                    None => Ok(Vec::new(alloc)),
+                    Some(form) => flags_of_form(alloc, book.rules(), form.bids()),
+                }
+            },
         )
         .collect(rt, alloc)?;
     made
-}
-
-// The flags of the form that a bidder leaves standing.
-fn flags_of_bidder(alloc: Global, book: &ClosedBook, bidder: u16) -> Result<Vec<bool>, AllocError>
-    ensures { IfOk result (λ flags. flags.items
-        ≡ flags_of_form (lots_in book.now.rules) (form_of (book_of book.now) bidder)) }
-{
-    match book.form(bidder) {
-        None => Ok(Vec::new(alloc)),
-        Some(form) => flags_of_form(alloc, book.rules(), form.bids()),
-    }
-}
-
-// The choices by rising bidder, then bid.
-fn by_rising_bid(mut choices: Vec<Choice>) -> Vec<Choice>
-    ensures same { IsPermutation choices.items result.items }
-    ensures rising { AllPairs (λ c d. IsUpTo c.bidder c.bid d.bidder d.bid) result.items }
-{
-    choices.sort_unstable_by_key(
-        |choice: &Choice| -> (u16, u16)
-            ensures { result ≡ (choice.now.bidder, choice.now.bid) }
-        { (choice.bidder, choice.bid) },
-    );
-    choices
 }
 
 // Whether the choice at a place is the one before it again.
@@ -265,26 +248,7 @@ fn is_repeated(choices: &[Choice], place: usize) -> bool
     choice.bidder == before.bidder && choice.bid == before.bid
 }
 
-// Whether a bid that fits, at its place among the rivals, is kept: its net isn't below 0, and none of them dominates it.
-fn is_kept_beside(
-    rivals: &[SizedBid<'_>],
-    sieves: &[Sieve],
-    place: usize,
-    bid: &SizedBid<'_>,
-) -> bool
-    requires rivals { AreRivals (length bid.now.bid.now.package) rivals.now }
-    requires sieves { All (IsSieve rivals.now) sieves.now }
-    requires many { length rivals.now ≤ MOST_BIDS }
-    requires some { 1 ≤ length sieves.now }
-    requires few { length sieves.now ≤ MOST_CATEGORIES + 1 }
-    requires within { place < length rivals.now }
-    requires bid { bid.now ≡ slice_index_or rivals.now place bid.now }
-    ensures { result ≡ (int_le (pos 0) bid.now.net && not (list_any (beats bid.now) rivals.now)) }
-{
-    bid.net >= 0 && !is_beaten(rivals, sieves, place, bid)
-}
-
-// Whether each bid of a form is kept, in the form's order.
+// Whether each bid of a form is kept, in the form's order: its net isn't below 0, and no rival dominates it.
 fn flags_of_form(alloc: Global, rules: &Rules, bids: &[Bid]) -> Result<Vec<bool>, AllocError>
     requires few { length bids.now ≤ MOST_BIDS }
     requires sized { All (λ bid. length bid.package ≡ length rules.now.categories) bids.now }
@@ -296,7 +260,7 @@ fn flags_of_form(alloc: Global, rules: &Rules, bids: &[Bid]) -> Result<Vec<bool>
     let sieves = sieves(alloc, &rivals, rules.categories().len())?;
     let mut flags = vec![in alloc; false; bids.len()]?;
     for (place, rival) in rivals.iter().enumerate() {
-        if is_kept_beside(&rivals, &sieves, place, rival) {
+        if rival.net >= 0 && !is_beaten(&rivals, &sieves, place, rival) {
             flags[usize::from(rival.number) - 1] = true;
         }
     }

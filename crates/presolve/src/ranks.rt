@@ -130,16 +130,6 @@ fn least_of(numbers: &[u64]) -> u64 {
     least
 }
 
-// By how many bits numbers are to be shortened that go so far, so that there are no more of them than some for each of so many.
-fn bits_left_out(greatest: u64, count: u64) -> u32
-    ensures { result < 64 }
-{
-    let more = count
-        .leading_zeros()
-        .saturating_sub(greatest.leading_zeros());
-    more.min(63)
-}
-
 // How far each number is above the least, in steps of a power of two, rounded up: so none but the least is at 0.
 fn steps_of(alloc: Global, numbers: &[u64], least: u64, bits: u32) -> Result<Vec<u64>, AllocError>
     requires { bits < 64 }
@@ -164,7 +154,7 @@ fn are_apart(counts: &[u32], most: u32) -> bool {
     true
 }
 
-// The rank of each number by steps; none where too many numbers share one.
+// The rank of each number by steps, of which there are only some for each number; none where too many numbers share one.
 fn ranks_by_steps(
     alloc: Global,
     numbers: &[u64],
@@ -175,7 +165,11 @@ fn ranks_by_steps(
 {
     let count = numbers.len() as u64;
     let least = least_of(numbers);
-    let bits = bits_left_out(greatest.saturating_sub(least), count);
+    let spread = greatest.saturating_sub(least);
+    let bits = count
+        .leading_zeros()
+        .saturating_sub(spread.leading_zeros())
+        .min(63);
     let steps = steps_of(alloc, numbers, least, bits)?;
     let last = greatest_of(&steps);
     if last > SPREAD * count {
@@ -187,20 +181,6 @@ fn ranks_by_steps(
     }
     let ranks = ranks_of_counted(alloc, &steps, &counts)?;
     Ok(Some(ranks))
-}
-
-// The rank of each number by its value, or by its place where values are great beside how many there are.
-fn ranks_by_values(alloc: Global, numbers: &[u64], greatest: u64) -> Result<Vec<u8>, AllocError>
-    requires few { length numbers.now ≤ MOST_BIDS }
-    requires within { All (λ number. number ≤ greatest) numbers.now }
-    ensures { IfOk result (λ ranks. AreRanked numbers.now ranks.items) }
-{
-    let count = numbers.len() as u64;
-    if greatest <= SPREAD * count {
-        return ranks_up_to(alloc, numbers, greatest);
-    }
-    let places = places_of(alloc, numbers)?;
-    ranks_up_to(alloc, &places, count)
 }
 
 // Each number as its own rank.
@@ -215,7 +195,7 @@ fn own_ranks(alloc: Global, numbers: &[u64]) -> Result<Vec<u8>, AllocError>
     Ok(ranks)
 }
 
-/// The rank of each number.
+/// The rank of each number: by its value where no steps serve, or by its place where values are great beside how many there are.
 pub(crate) fn ranks_of(alloc: Global, numbers: &[u64]) -> Result<Vec<u8>, AllocError>
     requires { length numbers.now ≤ MOST_BIDS }
     ensures { IfOk result (λ ranks. AreRanked numbers.now ranks.items) }
@@ -224,8 +204,13 @@ pub(crate) fn ranks_of(alloc: Global, numbers: &[u64]) -> Result<Vec<u8>, AllocE
     if greatest < u64::from(RANKS) {
         return own_ranks(alloc, numbers);
     }
-    match ranks_by_steps(alloc, numbers, greatest)? {
-        Some(ranks) => Ok(ranks),
-        None => ranks_by_values(alloc, numbers, greatest),
+    if let Some(ranks) = ranks_by_steps(alloc, numbers, greatest)? {
+        return Ok(ranks);
     }
+    let count = numbers.len() as u64;
+    if greatest <= SPREAD * count {
+        return ranks_up_to(alloc, numbers, greatest);
+    }
+    let places = places_of(alloc, numbers)?;
+    ranks_up_to(alloc, &places, count)
 }

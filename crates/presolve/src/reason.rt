@@ -1,7 +1,6 @@
 //! Why a bid is in no program.
 
-ghost use Rattle.std.specs.Prelude.{◌≡◌, ◌≤◌, ◌<◌, ◌+◌, All, List, length, map, slice_index, slice_index_or};
-ghost use Rattle.std.specs.Option.{option_or};
+ghost use Rattle.std.specs.Prelude.{◌≡◌, ◌≤◌, ◌<◌, ◌+◌, All, List, length, slice_index_or};
 ghost use Rattle.auction_terms.specs.Terms.{lots_in};
 ghost use Rattle.auction_terms.specs.declared.bids.Bid.{Bid};
 ghost use Rattle.auction_terms.specs.declared.limits.TheConstants.{MOST_BIDS, MOST_CATEGORIES};
@@ -12,7 +11,7 @@ ghost use Rattle.presolve.specs.inside.Sizes.{AreNumbered};
 use crate::order::SizedBid;
 use crate::search::first_beating;
 use crate::sieve::Sieve;
-use auction_terms::{Category, Package, Rules};
+use auction_terms::{Package, Rules};
 
 /// The first reason for which no program has a bid. Categories and pools are named by their places, from 0.
 #[derive(Clone, Copy, Debug, PartialEq, Eq)]
@@ -39,14 +38,6 @@ pub enum Reason {
     },
 }
 
-// The supply at a place, in the words of lists.
-fn supply_at(categories: &[Category], place: usize) -> u32
-    requires { place < length categories.now }
-    ensures { result ≡ slice_index (map (λ category. category.supply) categories.now) place }
-{
-    categories[place].supply
-}
-
 // The first category of which a package asks for more than there is.
 fn over_supply(rules: &Rules, package: &Package) -> Option<Reason>
     requires { length «package».now ≡ length rules.now.categories }
@@ -55,7 +46,7 @@ fn over_supply(rules: &Rules, package: &Package) -> Option<Reason>
     let quantities = package.quantities();
     for (category, &quantity) in quantities.iter().enumerate() {
         let asked = u32::from(quantity);
-        let supply = supply_at(rules.categories(), category);
+        let supply = rules.categories()[category].supply;
         if asked > supply {
             return Some(Reason::OverSupply {
                 category,
@@ -85,18 +76,6 @@ fn over_cap(rules: &Rules, package: &Package) -> Option<Reason>
     None
 }
 
-// Why a package doesn't fit by itself.
-fn beyond_lots(rules: &Rules, package: &Package) -> Option<Reason>
-    requires { length «package».now ≡ length rules.now.categories }
-    ensures { result ≡ option_or (over_supply (lots_in rules.now) «package».now)
-        (over_cap (lots_in rules.now) «package».now) }
-{
-    match over_supply(rules, package) {
-        Some(reason) => Some(reason),
-        None => over_cap(rules, package),
-    }
-}
-
 // Why the bid at a place of a form is in no program.
 pub(crate) fn why_left_out(
     rules: &Rules,
@@ -114,7 +93,11 @@ pub(crate) fn why_left_out(
         → result ≡ why_left_out (lots_in rules.now) form (slice_index_or form place bid) }
 {
     let rival = &rivals[place];
-    if let Some(reason) = beyond_lots(rules, &rival.bid.package) {
+    let package = &rival.bid.package;
+    if let Some(reason) = over_supply(rules, package) {
+        return Some(reason);
+    }
+    if let Some(reason) = over_cap(rules, package) {
         return Some(reason);
     }
     if rival.net < 0 {

@@ -11,40 +11,6 @@ use crate::reason_words::{bidder_name, category_name, pool_name};
 use auction_terms::Rules;
 use byte_sinks::{Sink, Writer, add_number_member, add_text_member};
 
-// Adds that a bid asks for more of a category than there is.
-fn add_over_supply<S: Sink>(
-    writer: &mut Writer<'_, S>,
-    rules: &Rules,
-    category: usize,
-    asked: u32,
-    supply: u32,
-)
-    ensures { Adds S.state writer.old writer.new
-        (reason_members rules.now (reason.OverSupply category asked supply)) }
-{
-    add_text_member(writer, b", ", b"reason", b"OverSupply");
-    add_text_member(writer, b", ", b"category", category_name(rules, category));
-    add_number_member(writer, b", ", b"asked", u64::from(asked));
-    add_number_member(writer, b", ", b"supply", u64::from(supply));
-}
-
-// Adds that a bid loads a pool above its cap.
-fn add_over_cap<S: Sink>(
-    writer: &mut Writer<'_, S>,
-    rules: &Rules,
-    pool: usize,
-    load: u64,
-    cap: u64,
-)
-    ensures { Adds S.state writer.old writer.new
-        (reason_members rules.now (reason.OverCap pool load cap)) }
-{
-    add_text_member(writer, b", ", b"reason", b"OverCap");
-    add_text_member(writer, b", ", b"pool", pool_name(rules, pool));
-    add_number_member(writer, b", ", b"load", load);
-    add_number_member(writer, b", ", b"cap", cap);
-}
-
 // Adds the name of a reason, and the one number that is reported of it.
 fn add_named_number<S: Sink>(writer: &mut Writer<'_, S>, reason: &[u8], name: &[u8], number: u64)
     ensures { Adds S.state writer.old writer.new
@@ -63,8 +29,18 @@ fn add_reason<S: Sink>(writer: &mut Writer<'_, S>, rules: &Rules, reason: Reason
             category,
             asked,
             supply,
-        } => add_over_supply(writer, rules, category, asked, supply),
-        Reason::OverCap { pool, load, cap } => add_over_cap(writer, rules, pool, load, cap),
+        } => {
+            add_text_member(writer, b", ", b"reason", b"OverSupply");
+            add_text_member(writer, b", ", b"category", category_name(rules, category));
+            add_number_member(writer, b", ", b"asked", u64::from(asked));
+            add_number_member(writer, b", ", b"supply", u64::from(supply));
+        }
+        Reason::OverCap { pool, load, cap } => {
+            add_text_member(writer, b", ", b"reason", b"OverCap");
+            add_text_member(writer, b", ", b"pool", pool_name(rules, pool));
+            add_number_member(writer, b", ", b"load", load);
+            add_number_member(writer, b", ", b"cap", cap);
+        }
         Reason::BelowWorth { less } => add_named_number(writer, b"BelowWorth", b"less", less),
         Reason::Dominated { by } => add_named_number(writer, b"Dominated", b"by", by as u64),
     }

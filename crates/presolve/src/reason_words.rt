@@ -1,6 +1,6 @@
 //! The line of a bid that no program has.
 
-ghost use Rattle.std.specs.Prelude.{◌≡◌, ◌++◌, ◌∷◌, ◌≤◌, [], codes, decimal, map};
+ghost use Rattle.std.specs.Prelude.{◌≡◌, ◌++◌, ◌∷◌, ◌≤◌, [], decimal, map};
 ghost use Rattle.bid_desk.specs.Sale.{bidder_name};
 ghost use Rattle.presolve.specs.Lines.{left_out_line, reason_text, replaced_line};
 ghost use Rattle.presolve.specs.Names.{category_name, pool_name};
@@ -128,21 +128,6 @@ fn add_reason<S: Sink>(writer: &mut Writer<'_, S>, rules: &Rules, reason: Reason
     }
 }
 
-// Adds which bid a line is of.
-fn add_bid<S: Sink>(writer: &mut Writer<'_, S>, rules: &Rules, bidder: usize, number: usize)
-    ensures { Adds S.state writer.old writer.new
-        (bidder_name (map (λ b. b.name) rules.now.bidders) bidder
-        ++ (codes ": bid " ++ decimal number)) }
-{
-    let mut digits = Buffer::new();
-    let pieces: [&[u8]; 3] = [
-        bidder_name(rules, bidder),
-        b": bid ",
-        digits.format(number).as_bytes(),
-    ];
-    writer.add_pieces(&pieces);
-}
-
 /// Adds the line of a form that the last one of its bidder replaces, by the numbers of the bidder and of both forms.
 pub fn add_replaced_line<S: Sink>(
     writer: &mut Writer<'_, S>,
@@ -178,7 +163,13 @@ pub fn add_line<S: Sink>(
     ensures { Adds S.state writer.old writer.new
         (left_out_line rules.now bidder number reason) }
 {
-    add_bid(writer, rules, bidder, number);
+    let mut digits = Buffer::new();
+    let pieces: [&[u8]; 3] = [
+        bidder_name(rules, bidder),
+        b": bid ",
+        digits.format(number).as_bytes(),
+    ];
+    writer.add_pieces(&pieces);
     add_reason(writer, rules, reason);
     writer.add(b"\n");
 }

@@ -78,25 +78,15 @@ fn reasons_by_bidder(
                 ensures { IfOk result (λ reasons. reasons.items
                     ≡ reasons_of_form (lots_in book.entry.now.rules)
                     (form_of (book_of book.entry.now) bidder)) }
-            { reasons_of_bidder(alloc, book, bidder) },
+            {
+                match book.form(bidder) {
+                    None => Ok(Vec::new(alloc)),
+                    Some(form) => reasons_of_form(alloc, book.rules(), form.bids()),
+                }
+            },
         )
         .collect(rt, alloc)?;
     made
-}
-
-// The reasons of the form that a bidder leaves standing.
-fn reasons_of_bidder(
-    alloc: Global,
-    book: &ClosedBook,
-    bidder: u16,
-) -> Result<Vec<Option<Reason>>, AllocError>
-    ensures { IfOk result (λ reasons. reasons.items
-        ≡ reasons_of_form (lots_in book.now.rules) (form_of (book_of book.now) bidder)) }
-{
-    match book.form(bidder) {
-        None => Ok(Vec::new(alloc)),
-        Some(form) => reasons_of_form(alloc, book.rules(), form.bids()),
-    }
 }
 
 // Why each bid of a form is in no program, in the form's order. Its rivals stay in this order, so that the first one that

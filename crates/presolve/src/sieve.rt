@@ -52,16 +52,6 @@ fn empty_levels(alloc: Global, count: usize, words: usize) -> Result<Vec<Level>,
     Ok(levels)
 }
 
-// Sets the bit of a place.
-fn mark(level: &mut Level, place: usize)
-    requires { place / 64 < length level.old.words.items }
-    ensures count { length level.new.words.items ≡ length level.old.words.items }
-    ensures own { IsMarked level.new.words.items place }
-    ensures others { (i : ℕ) → IsMarked level.old.words.items i → IsMarked level.new.words.items i }
-{
-    level.words[place / 64] |= 1 << (place % 64);
-}
-
 // A level for each rank, with the places of that rank alone.
 fn own_levels(alloc: Global, ranks: &[u8]) -> Result<Vec<Level>, AllocError>
     ensures { IfOk result (λ levels. AreLevels (λ r s. r ≡ s) ranks.now levels.items) }
@@ -69,7 +59,7 @@ fn own_levels(alloc: Global, ranks: &[u8]) -> Result<Vec<Level>, AllocError>
     let count = usize::from(greatest(ranks)) + 1;
     let mut levels = empty_levels(alloc, count, ranks.len().div_ceil(64))?;
     for (place, &rank) in ranks.iter().enumerate() {
-        mark(&mut levels[usize::from(rank)], place);
+        levels[usize::from(rank)].words[place / 64] |= 1 << (place % 64);
     }
     Ok(levels)
 }
@@ -122,39 +112,15 @@ fn quantities_at(
     Ok(numbers)
 }
 
-// How far a net stays below the greatest number; all below 0 stay as far.
-fn shortfall(net: i64) -> u64
-    ensures { result ≡ shortfall net }
-{
-    u64::MAX - net.max(0) as u64
-}
-
-// How far each rival's net stays below the greatest number.
+// How far each rival's net stays below the greatest number; all nets below 0 stay as far.
 fn shortfalls(alloc: Global, rivals: &[SizedBid<'_>]) -> Result<Vec<u64>, AllocError>
     ensures { IfOk result (λ numbers. numbers.items ≡ map (λ s. shortfall s.net) rivals.now) }
 {
     let mut numbers = Vec::with_capacity(alloc, rivals.len())?;
     for rival in rivals {
-        numbers.push_reserved(shortfall(rival.net));
+        numbers.push_reserved(u64::MAX - rival.net.max(0) as u64);
     }
     Ok(numbers)
-}
-
-// The sieve of the rivals' nets.
-fn net_sieve(alloc: Global, rivals: &[SizedBid<'_>]) -> Result<Sieve, AllocError>
-    requires { length rivals.now ≤ MOST_BIDS }
-    ensures { IfOk result (IsSieve rivals.now) }
-{
-    sieve_of(alloc, &shortfalls(alloc, rivals)?)
-}
-
-// The sieve of their quantities of a category.
-fn category_sieve(alloc: Global, rivals: &[SizedBid<'_>], place: usize) -> Result<Sieve, AllocError>
-    requires sized { All (λ s. place < length s.bid.now.package) rivals.now }
-    requires many { length rivals.now ≤ MOST_BIDS }
-    ensures { IfOk result (IsSieve rivals.now) }
-{
-    sieve_of(alloc, &quantities_at(alloc, rivals, place)?)
 }
 
 // A sieve for the net, and one for each category.
@@ -170,9 +136,9 @@ pub(crate) fn sieves(
     ensures count { IfOk result (λ sieves. length sieves.items ≡ categories + 1) }
 {
     let mut sieves = Vec::with_capacity(alloc, categories + 1)?;
-    sieves.push_reserved(net_sieve(alloc, rivals)?);
+    sieves.push_reserved(sieve_of(alloc, &shortfalls(alloc, rivals)?)?);
     for place in 0..categories {
-        sieves.push_reserved(category_sieve(alloc, rivals, place)?);
+        sieves.push_reserved(sieve_of(alloc, &quantities_at(alloc, rivals, place)?)?);
     }
     Ok(sieves)
 }

@@ -2,7 +2,6 @@
 
 ghost use Rattle.std.specs.Prelude.{◌≡◌, ◌++◌, ◌==◌, [], None, flat_map, if◌then◌else◌};
 ghost use Rattle.std.specs.List.{last_or};
-ghost use Rattle.std.specs.Option.{option_map_or};
 ghost use Rattle.byte_sinks.specs.Adds.{Adds};
 ghost use Rattle.byte_sinks.specs.Sinks.{Sends};
 ghost use Rattle.presolve.specs.Lines.{form_lines, forms_by, left_out, left_out_lines, replaced, replaced_lines};
@@ -32,23 +31,6 @@ fn add_bid<S: Sink>(
     }
 }
 
-// Adds the line of a bid, where there is a reason for it.
-fn add_left_out<S: Sink>(
-    writer: &mut Writer<'_, S>,
-    format: Format,
-    rules: &Rules,
-    bidder: usize,
-    number: usize,
-    why: Option<Reason>,
-)
-    ensures { Adds S.state writer.old writer.new
-        (option_map_or (left_out format rules.now bidder number) why []) }
-{
-    if let Some(reason) = why {
-        add_bid(writer, format, rules, bidder, number, reason);
-    }
-}
-
 // Adds the lines of a bidder's form.
 fn add_form<S: Sink>(
     writer: &mut Writer<'_, S>,
@@ -60,8 +42,10 @@ fn add_form<S: Sink>(
     ensures { Adds S.state writer.old writer.new
         (form_lines format rules.now bidder reasons.now) }
 {
-    for (place, &reason) in reasons.iter().enumerate() {
-        add_left_out(writer, format, rules, bidder, place + 1, reason);
+    for (place, &why) in reasons.iter().enumerate() {
+        if let Some(reason) = why {
+            add_bid(writer, format, rules, bidder, place + 1, reason);
+        }
     }
 }
 
@@ -96,25 +80,6 @@ fn add_old_form<S: Sink>(
     }
 }
 
-// Adds the line of a form of some bidder, where it is of this one, and not its last.
-fn add_replaced<S: Sink>(
-    writer: &mut Writer<'_, S>,
-    format: Format,
-    rules: &Rules,
-    bidder: usize,
-    last: usize,
-    form: (usize, u16),
-)
-    ensures { Adds S.state writer.old writer.new
-        (if form.1 == bidder then (if form.0 == last then []
-        else replaced format rules.now bidder last form.0) else []) }
-{
-    let (number, owner) = form;
-    if usize::from(owner) == bidder && number != last {
-        add_old_form(writer, format, rules, bidder, last, number);
-    }
-}
-
 // Adds the lines of a bidder's forms but the last.
 fn add_replaced_by<S: Sink>(
     writer: &mut Writer<'_, S>,
@@ -129,23 +94,10 @@ fn add_replaced_by<S: Sink>(
         else replaced format rules.now bidder last number) (forms_by bidders.now bidder)) }
 {
     for (place, &owner) in bidders.iter().enumerate() {
-        add_replaced(writer, format, rules, bidder, last, (place + 1, owner));
-    }
-}
-
-// Adds the lines of a bidder's forms that are replaced.
-fn add_replaced_forms<S: Sink>(
-    writer: &mut Writer<'_, S>,
-    format: Format,
-    rules: &Rules,
-    bidders: &[u16],
-    bidder: usize,
-)
-    ensures { Adds S.state writer.old writer.new
-        (replaced_lines format rules.now bidders.now bidder) }
-{
-    if let Some(last) = last_form(bidders, bidder) {
-        add_replaced_by(writer, format, rules, bidders, bidder, last);
+        let number = place + 1;
+        if usize::from(owner) == bidder && number != last {
+            add_old_form(writer, format, rules, bidder, last, number);
+        }
     }
 }
 
@@ -161,7 +113,9 @@ fn add_bidder<S: Sink>(
     ensures { Adds S.state writer.old writer.new
         (replaced_lines format rules.now bidders.now bidder ++ form_lines format rules.now bidder reasons.now) }
 {
-    add_replaced_forms(writer, format, rules, bidders, bidder);
+    if let Some(last) = last_form(bidders, bidder) {
+        add_replaced_by(writer, format, rules, bidders, bidder, last);
+    }
     add_form(writer, format, rules, bidder, reasons);
 }
 

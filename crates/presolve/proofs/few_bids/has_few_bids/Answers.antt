@@ -7,6 +7,7 @@ use Rattle.auction_terms.specs.declared.bids.Bid.{Bid}
 use Rattle.bid_desk.specs.Closing.{book_of}
 use Rattle.presolve.proofs.KeepFacts.{length_book, next_form}
 use Rattle.presolve.proofs.few_bids.has_few_bids.Goals as goal
+use Rattle.presolve.proofs.few_bids.has_few_bids.Goals.{in-Some, in_default}
 
 pub loop-place-init : goal.loop-place-init
 loop-place-init c = refl
@@ -22,10 +23,18 @@ loop-place-preserved c =
     ≡ length (form_of book (c.loop-place.place + 1)) + sum_by (λ (form : List Bid). length form) (drop (c.loop-place.place + 1) book) =
     ap (sum_by (λ (form : List Bid). length form)) next ∙ sum_by-cons (λ (form : List Bid). length form)
     (form_of book (c.loop-place.place + 1)) (drop (c.loop-place.place + 1) book) in
-    let count = c.bid_count.ensures in
-    let sub = c.saturating_sub-left.ensures in
     let so_far = c.loop-place.invariant in
-    omega arith
+    elim c.match-form.branch [
+      | in-Some w ↦ (
+          let bids = ap length (w.bids.ensures.bids ∙ w.in-Some.ensures.bids) in
+          let sub = w.saturating_sub-left.ensures in
+          let is = w.left-is in
+          omega arith)
+      | in_default w ↦ (
+          let none = ap length w.in_default.ensures.bids in
+          let is = w.left-is in
+          omega arith)
+    ]
 
 pub returns : goal.returns
 returns c =
