@@ -33,7 +33,7 @@ apart cs vs xs = 0
 abbrev term : ℕ → Bool → ℕ × ℤ
 term place v = (place, if v then neg_ℤ (pos 1) else pos 1)
 
-abbrev one_of : Bool → ℕ
+abbrev pub one_of : Bool → ℕ
 one_of b = if b then 1 else 0
 
 -- what a column adds to the sum and to the ones

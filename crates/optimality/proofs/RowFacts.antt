@@ -6,7 +6,7 @@ use Rattle.optimality.proofs.PlaceFacts.{number-last, rest}
 use Rattle.std.specs.Prelude.{◌==◌, find, replicate, slice_set}
 use Rattle.std.specs.Option.{option_map, option_map_or}
 use Rattle.std.specs.List.{AllByRecursion}
-use Rattle.std.proofs.lemmas.List.{length-replicate, get_or-replicate, get_or_past, get_or-map, map-set}
+use Rattle.std.proofs.lemmas.List.{length-replicate, get_or-replicate, get_or_past, get_or-map, length-map, map-set}
 use Rattle.std.proofs.lemmas.Grind.{get_or-set_at}
 use Rattle.std.proofs.lemmas.Option.{get_or_from_slice_get, slice_get_within}
 use Rattle.std.proofs.lemmas.Int.{ints, by_lt_z}
@@ -27,6 +27,15 @@ pub term-pushed : (forms : List RowForm) (row : ℕ) (t : ℕ × ℤ) (d next : 
 term-pushed forms row t d next h e =
     map-set form_held forms row next
     ∙ ap (λ (form : Form). slice_set (forms_held forms) row form) (e ∙ ap (λ (form : Form). form ++ t ∷ []) (sym (get_or-map form_held forms row d [] h)))
+
+unset : (forms : List Form) (row : ℕ) (form : Form) → length forms ≤ row → slice_set forms row form ≡ forms
+unset [] row form past = refl
+unset (f ∷ forms) zero form past = absurd (omega arith)
+unset (f ∷ forms) (suc row) form past = ap (λ (fs : List Form). f ∷ fs) (unset forms row form (omega arith))
+
+-- a term of a row that isn't there
+pub term-nowhere : (forms : List RowForm) (row : ℕ) (t : ℕ × ℤ) → length forms ≤ row → forms_held forms ≡ with_term row t (forms_held forms)
+term-nowhere forms row t past = sym (unset (forms_held forms) row _ (let count = length-map forms form_held in omega arith))
 
 columns_there : (place i : ℕ) (cs : List TableColumn) (es : List (ℕ × ℤ)) (forms : List Form)
     → option_map (λ c. c.entries) (slice_get cs i) ≡ Some es

@@ -1,16 +1,14 @@
 //! The least that all columns come to, by what cuts and rows give each of them. Each call answers nothing if a number is beyond what it
 //! takes, or if there is no memory.
 
-ghost use Rattle.std.specs.Prelude.{◌≡◌, IfSome, ◌<◌, ◌+ℤ◌, ◌*ℤ◌, FitsSigned, MatchOption, Some, length, slice_get};
-ghost use Rattle.optimality.specs.inside.Adding.{AreGivenMore, AreNone, AreOf, HaveRows, HaveAll, least_with};
+ghost use Rattle.std.specs.Prelude.{◌≡◌, IfSome, ◌<◌, ◌+ℤ◌, ◌*ℤ◌, Some, length, slice_get};
+ghost use Rattle.optimality.specs.inside.Adding.{AreGivenMore, AreNone, AreOf, HaveRows, least_with};
 ghost use Rattle.optimality.specs.inside.ByEntries.{columns_given, entries_given};
-ghost use Rattle.std.specs.Int.{w128};
 ghost use Rattle.std.specs.List.{enumerate_from};
 ghost use Rattle.std.specs.Option.{option_map};
 ghost use Rattle.optimality.specs.Certificates.{sum_of};
 ghost use Rattle.optimality.specs.inside.Checking.{IsPrepared};
 ghost use Rattle.optimality.specs.inside.Holding.{cuts_of};
-ghost use Rattle.optimality.specs.inside.RowForms.{forms_held, row_forms as forms_of};
 ghost use Rattle.optimality.specs.inside.Adding as adding;
 ghost use Rattle.optimality.specs.Reduced as reduced;
 
@@ -19,7 +17,6 @@ use crate::by_rows::least_part;
 use crate::checker::{Checker, Leaf, OpenSplit};
 use crate::narrow_sums;
 use crate::narrow_sums::{add_at, number_at, zeros};
-use crate::row_forms::RowForm;
 use program_rows::{Entries, Selection};
 use std::alloc::Global;
 
@@ -32,15 +29,6 @@ fn add_multipliers(multipliers: &mut [i64], rows: &[(usize, i128)]) -> Option<()
         add_at(multipliers, row, narrow(number)?)?;
     }
     Some(())
-}
-
-/// A multiplier for each row, 0 for one that the leaf doesn't name; nothing if one of them doesn't fit 64 bits.
-fn row_multipliers(alloc: Global, count: usize, rows: &[(usize, i128)]) -> Option<Vec<i64>>
-    ensures { IfSome result (λ multipliers. AreOf rows.now multipliers.items) }
-{
-    let mut multipliers = zeros(alloc, count)?;
-    add_multipliers(multipliers.as_mut_slice(), rows)?;
-    Some(multipliers)
 }
 
 /// What the rows of a column's entries give it.
@@ -67,7 +55,7 @@ fn add_columns(sums: &mut [i64], program: &Selection<'_>, multipliers: &[i64]) -
     Some(())
 }
 
-/// Adds to each column what the rows give it, each times its multiplier.
+/// Adds to each column what the rows give it, each times its multiplier, column by column.
 fn add_rows_by_entries(
     alloc: Global,
     sums: &mut [i64],
@@ -78,68 +66,24 @@ fn add_rows_by_entries(
 {
     // The places of entries lie within the rows.
     program.well_formed();
-    let multipliers = row_multipliers(alloc, program.row_count(), rows)?;
+    let mut multipliers = zeros(alloc, program.row_count())?;
+    add_multipliers(multipliers.as_mut_slice(), rows)?;
     add_columns(sums, program, multipliers.as_slice())
 }
 
-/// Adds to each column what the rows give it, each times its multiplier, by the forms of the rows.
-fn add_rows_by_forms(
-    sums: &mut [i64],
-    program: &Selection<'_>,
-    forms: &[RowForm],
-    rows: &[(usize, i128)],
-) -> Option<()>
-    requires { forms_held forms.now ≡ forms_of program.now }
-    ensures { IfSome result (λ _. HaveRows program.now rows.now sums.old sums.new) }
-{
-    // The places of entries lie within the rows.
-    program.well_formed();
-    narrow_sums::add_rows(sums, forms, rows)
-}
-
-/// The same by the forms of the rows if there are any, and else column by column.
+/// The same, by the forms of the rows if there are any.
 fn add_rows(checker: &Checker, sums: &mut [i64], rows: &[(usize, i128)]) -> Option<()>
     requires { IsPrepared checker.now }
     ensures { IfSome result (λ _. HaveRows checker.now.program.now rows.now sums.old sums.new) }
 {
     match &checker.row_forms {
-        Some(all) => add_rows_by_forms(sums, checker.program, all.forms.as_slice(), rows),
+        Some(all) => {
+            // The places of entries lie within the rows.
+            checker.program.well_formed();
+            narrow_sums::add_rows(sums, all.forms.as_slice(), rows)
+        }
         None => add_rows_by_entries(checker.alloc, sums, checker.program, rows),
     }
-}
-
-/// Adds to each column what cuts and rows give it.
-fn add_to_all(
-    checker: &Checker,
-    sums: &mut [i64],
-    splits: &[OpenSplit],
-    leaf: &Leaf,
-    rows: &[(usize, i128)],
-) -> Option<()>
-    requires prepared { IsPrepared checker.now }
-    requires count { length leaf.now.multipliers.items ≡ length splits.now }
-    requires empty { AreNone sums.old }
-    ensures { IfSome result (λ _. HaveAll checker.now.program.now leaf.now.multipliers.items
-        (cuts_of splits.now) rows.now sums.new) }
-{
-    narrow_sums::add_cuts(sums, leaf.multipliers.as_slice(), splits)?;
-    add_rows(checker, sums, rows)
-}
-
-fn plus(a: i128, b: i128) -> Option<i128>
-    ensures { MatchOption result (¬ FitsSigned w128 (a +ℤ b)) (λ n. n ≡ a +ℤ b) }
-{
-    a.checked_add(b)
-}
-
-/// The scaled cost of a column, with what it is given.
-fn reduced_cost(program: &Selection<'_>, scale: i64, given: &[i64], column: usize) -> Option<i128>
-    requires { column < length program.now.columns }
-    ensures { IfSome result (λ n. option_map (λ c. scale *ℤ c.cost
-        +ℤ adding.number_at given.now column) (slice_get program.now.columns column) ≡ Some n) }
-{
-    let given = i128::from(number_at(given, column));
-    plus_multiple(given, scale, program.cost(column))
 }
 
 /// The least that a column contributes.
@@ -148,8 +92,9 @@ fn part_of(program: &Selection<'_>, scale: i64, given: &[i64], column: usize) ->
     ensures { IfSome result (λ n. option_map (λ c. reduced.least_part c.bounds (scale *ℤ c.cost
         +ℤ adding.number_at given.now column)) (slice_get program.now.columns column) ≡ Some n) }
 {
-    let cost = reduced_cost(program, scale, given, column)?;
-    Some(least_part(program.bounds(column), cost))
+    let given = i128::from(number_at(given, column));
+    let reduced_cost = plus_multiple(given, scale, program.cost(column))?;
+    Some(least_part(program.bounds(column), reduced_cost))
 }
 
 /// The least that columns contribute that are given these numbers.
@@ -160,26 +105,9 @@ fn least_given(program: &Selection<'_>, scale: i64, given: &[i64]) -> Option<i12
 {
     let mut sum: i128 = 0;
     for column in 0..program.column_count() {
-        sum = plus(sum, part_of(program, scale, given, column)?)?;
+        sum = sum.checked_add(part_of(program, scale, given, column)?)?;
     }
     Some(sum)
-}
-
-/// What cuts and rows give each column.
-fn given_to_all(
-    checker: &Checker,
-    splits: &[OpenSplit],
-    leaf: &Leaf,
-    rows: &[(usize, i128)],
-) -> Option<Vec<i64>>
-    requires prepared { IsPrepared checker.now }
-    requires count { length leaf.now.multipliers.items ≡ length splits.now }
-    ensures { IfSome result (λ sums. HaveAll checker.now.program.now leaf.now.multipliers.items
-        (cuts_of splits.now) rows.now sums.items) }
-{
-    let mut sums = zeros(checker.alloc, checker.program.column_count())?;
-    add_to_all(checker, sums.as_mut_slice(), splits, leaf, rows)?;
-    Some(sums)
 }
 
 /// The least that the reduced costs come to.
@@ -195,7 +123,9 @@ pub fn least_by_columns(
         (reduced.reduced leaf.now.scale leaf.now.multipliers.items (cuts_of splits.now) rows.now
         e.0 e.1)) (enumerate_from 0 checker.now.program.now.columns)) }
 {
-    let given = given_to_all(checker, splits, leaf, rows)?;
+    let mut given = zeros(checker.alloc, checker.program.column_count())?;
+    narrow_sums::add_cuts(given.as_mut_slice(), leaf.multipliers.as_slice(), splits)?;
+    add_rows(checker, given.as_mut_slice(), rows)?;
     let scale = narrow(i128::from(leaf.scale))?;
     least_given(checker.program, scale, given.as_slice())
 }

@@ -1,7 +1,6 @@
 //! The least that a leaf's columns come to, by the rows and cuts that it names, in 128 bits.
 
-ghost use Rattle.std.specs.Prelude.{◌≡◌, ◌⊎◌, ◌<◌, ◌≤◌, ◌+◌, ◌*◌, ◌^◌, Some, IfOk, ◌+ℤ◌, ◌*ℤ◌, length, pos, slice_get, unsigned_abs, OnOk};
-ghost use Rattle.std.specs.Option.{option_map};
+ghost use Rattle.std.specs.Prelude.{◌≡◌, ◌<◌, ◌≤◌, ◌+◌, ◌*◌, ◌^◌, Some, IfOk, ◌+ℤ◌, ◌*ℤ◌, length, pos, unsigned_abs, OnOk};
 ghost use Rattle.optimality.specs.inside.Adding.{change_at, least_with, number_at, sizes_below, AreGivenMore, cuts_given, form_given, form_at, rows_given};
 ghost use Rattle.optimality.specs.inside.Stopping.{TooLargeOnly, ReachesLimit};
 ghost use Rattle.optimality.specs.Sizes.{costs_size, size_of};
@@ -30,15 +29,6 @@ pub fn least_part(bounds: Bounds, number: i128) -> i128
     }
 }
 
-fn cost_part(program: &Selection<'_>, column: usize) -> i128
-    requires { column < length program.now.columns }
-    ensures part { option_map (λ c. reduced.least_part c.bounds c.cost)
-        (slice_get program.now.columns column) ≡ Some result }
-    ensures size { unsigned_abs result ≤ 2 ^ 63 }
-{
-    least_part(program.bounds(column), i128::from(program.cost(column)))
-}
-
 /// The least that the costs alone come to. A scale is a factor of it, so that it is added up once for all leaves. There is room in
 /// 128 bits for as many costs of 64 bits as there are places.
 pub fn least_alone(program: &Selection<'_>) -> i128
@@ -46,7 +36,7 @@ pub fn least_alone(program: &Selection<'_>) -> i128
 {
     let mut sum: i128 = 0;
     for column in 0..program.column_count() {
-        sum += cost_part(program, column);
+        sum += least_part(program.bounds(column), i128::from(program.cost(column)));
     }
     sum
 }
@@ -64,23 +54,6 @@ fn change(program: &Selection<'_>, scale: u64, column: usize, number: i128) -> R
     let cost = scaled(scale, program.cost(column));
     let reduced = plus(cost, number)?;
     minus(least_part(bounds, reduced), least_part(bounds, cost))
-}
-
-fn with_change(
-    sum: i128,
-    program: &Selection<'_>,
-    scale: u64,
-    column: usize,
-    number: i128,
-) -> Result<i128, Limit>
-    ensures value { IfOk result (λ n. n ≡ sum +ℤ change_at program.now.columns (pos scale) column
-        number) }
-    ensures too_large { TooLargeOnly (((column < length program.now.columns)
-        × (2 ^ 126 ≤ scale * costs_size program.now.columns + unsigned_abs number)) ⊎ (2 ^ 126
-        ≤ unsigned_abs sum + unsigned_abs (change_at program.now.columns (pos scale) column
-        number))) result }
-{
-    plus(sum, change(program, scale, column, number)?)
 }
 
 /// The least that the columns contribute, given what their scaled costs alone come to. Takes the sums: a column that has none costs
@@ -101,7 +74,7 @@ pub fn least_total(
 {
     let mut total = alone;
     while let Some((column, number)) = sums.take() {
-        total = with_change(total, program, scale, column, number)?;
+        total = plus(total, change(program, scale, column, number)?)?;
     }
     Ok(total)
 }

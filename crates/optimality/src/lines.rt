@@ -1,31 +1,28 @@
 //! One line of a certificate: a split or a leaf, and the tree up to it.
 
-ghost use Rattle.std.specs.Prelude.{◌≡◌, IfOk, false, length, IfErr, ◌≤◌, ◌==◌, ◌^◌, ◌-ℤ◌, ◌*ℤ◌, bytes_eq, int_lt, not, pos, slice_index};
+ghost use Rattle.std.specs.Prelude.{◌≡◌, IfOk, false, length, IfErr, ◌==◌, bytes_eq, not, slice_index};
 ghost use Rattle.auction_terms.specs.LineFields.{fields, is_skipped};
-ghost use Rattle.optimality.specs.inside.Adding.{AreAlike, AreNoLarger};
 ghost use Rattle.optimality.specs.inside.Answers.{AnswersSeen, IsStopped, AnswersClosed};
 ghost use Rattle.optimality.specs.inside.Checking.{IsPrepared};
-ghost use Rattle.optimality.specs.inside.Stopping.{TooLargeOnly, RefusedLargeOnly};
+ghost use Rattle.optimality.specs.inside.Stopping.{RefusedLargeOnly};
 ghost use Rattle.optimality.specs.LineMeaning.{SplitLine, BoundLine, parsed_certificate_line};
 ghost use Rattle.optimality.specs.inside.LineMeaning.{split_after, bound_after};
 ghost use Rattle.std.specs.List.{list_all};
 ghost use Rattle.optimality.specs.inside.Branches.{branches_of, opened, AnswersAlike};
-ghost use Rattle.optimality.specs.Branches.{closed, cuts_above};
+ghost use Rattle.optimality.specs.Branches.{closed};
 ghost use Rattle.auction_terms.specs.Stages.{and_then};
-ghost use Rattle.optimality.specs.Shows.{leaf_value};
-ghost use Rattle.optimality.specs.Sizes.{IsLargeLine, IsLargeParsed, leaf_size};
+ghost use Rattle.optimality.specs.Sizes.{IsLargeLine, IsLargeParsed};
 ghost use Rattle.optimality.specs.Verdict.{open_after, taken};
 ghost use Rattle.optimality.specs.Shows as shows;
 
 use crate::checker::{Checker, Leaf, OpenSplit};
 use crate::leaf_value::is_above;
-use crate::refusal::{Limit, Refusal};
+use crate::refusal::Refusal;
 use crate::row_forms::Form;
 use crate::sums::{Sums, added_up};
 use crate::terms::{Named, take_natural, take_naturals, take_number, take_terms};
 use auction_terms::next_field;
 use program_rows::{CertificateFaultKind, RowKind, Selection};
-use std::alloc::Global;
 
 /// A split as its line describes it.
 #[derive(Drop)]
@@ -46,22 +43,6 @@ fn take_split(checker: &Checker, text: &[u8]) -> Result<ParsedSplit, Refusal>
     let most = take_number(token.text)?;
     let form = take_terms(checker, Named::Columns, token.rest)?;
     Ok(ParsedSplit { form, most })
-}
-
-/// Opens a split at its first side, with the numbers of each column added up: a leaf below it goes over each column once.
-fn opened_split(alloc: Global, sums: &mut Sums, parsed: &ParsedSplit) -> Result<OpenSplit, Limit>
-    ensures alike { IfOk result (λ split. AreAlike split.form.items parsed.now.form.items) }
-    ensures size { IfOk result (λ split. AreNoLarger split.form.items parsed.now.form.items) }
-    ensures most { IfOk result (λ split. split.most ≡ parsed.now.most) }
-    ensures low { IfOk result (λ split. split.is_high ≡ false) }
-    ensures too_large { TooLargeOnly ⊥ result }
-{
-    let form = added_up(alloc, sums, parsed.form.as_slice())?;
-    Ok(OpenSplit {
-        form,
-        most: i128::from(parsed.most),
-        is_high: false,
-    })
 }
 
 /// Whether there is a row at this place that may have the multiplier.
@@ -142,30 +123,17 @@ fn take_split_line(
     ensures too_large { RefusedLargeOnly ⊥ result }
 {
     let parsed = take_split(checker, text)?;
-    let split = opened_split(checker.alloc, sums, &parsed)?;
-    splits.push(split)?;
+    // The numbers of each column are added up: a leaf below goes over each column once.
+    let form = added_up(checker.alloc, sums, parsed.form.as_slice())?;
+    splits.push(OpenSplit {
+        form,
+        most: i128::from(parsed.most),
+        is_high: false,
+    })?;
     Ok(false)
 }
 
-fn leaf_shows(
-    checker: &Checker,
-    sums: &mut Sums,
-    splits: &[OpenSplit],
-    leaf: &Leaf,
-) -> Result<bool, Limit>
-    requires prepared { IsPrepared checker.now }
-    requires count { length leaf.now.multipliers.items ≡ length splits.now }
-    ensures value { IfOk result (λ shows. shows
-        ≡ int_lt (pos leaf.now.scale *ℤ (checker.now.least -ℤ pos 1))
-        (leaf_value checker.now.program.now (cuts_above (branches_of splits.now)) leaf.now.scale
-        leaf.now.multipliers.items leaf.now.rows.items)) }
-    ensures too_large { TooLargeOnly (2 ^ 126 ≤ leaf_size checker.now.program.now checker.now.least
-        (cuts_above (branches_of splits.now)) leaf.now.scale leaf.now.multipliers.items
-        leaf.now.rows.items) result }
-{
-    is_above(checker, sums, splits, leaf)
-}
-
+#[tactic(auto, using(crate::proofs::BranchFacts::cuts_are))]
 fn take_leaf_line(
     checker: &Checker,
     sums: &mut Sums,
@@ -181,7 +149,7 @@ fn take_leaf_line(
         (length splits.old.items) (fields text.now))) result }
 {
     let leaf = take_leaf(checker, splits.len(), text)?;
-    if !leaf_shows(checker, sums, splits.as_slice(), &leaf)? {
+    if !is_above(checker, sums, splits.as_slice(), &leaf)? {
         return Err(Refusal::Fault(CertificateFaultKind::NotShown));
     }
     close(splits)
@@ -224,16 +192,10 @@ fn is_comment(line: &[u8]) -> bool
     line[0] == b'#'
 }
 
-fn has_fields(line: &[u8]) -> bool
-    ensures { result ≡ not (length (fields line.now) == 0) }
-{
-    next_field(line).is_some()
-}
-
 fn is_certificate_of(line: &[u8]) -> bool
     ensures { result ≡ not (is_skipped line.now) }
 {
-    !is_comment(line) && has_fields(line)
+    !is_comment(line) && next_field(line).is_some()
 }
 
 /// Takes a line. `is_last` says whether the certificate is complete, before and after it; `sums` is room for a line.

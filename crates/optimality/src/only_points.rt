@@ -1,6 +1,6 @@
 //! Whether points are the only ones of the objective of the first of them, or less.
 
-ghost use Rattle.std.specs.Prelude.{◌≡◌, ◌⊎◌, ◌+◌, ◌+ℤ◌, ◌++◌, ◌∷◌, ◌<◌, ◌≤◌, All, IfErr, IfOk, OnOk, drop, if◌then◌else◌, length, neg_ℤ, pos};
+ghost use Rattle.std.specs.Prelude.{◌≡◌, ◌⊎◌, ◌+◌, ◌∷◌, ◌<◌, All, IfErr, IfOk, OnOk, if◌then◌else◌, length, neg_ℤ, pos};
 ghost use Rattle.optimality.specs.Answers.{IsLimit, IsVerdict};
 ghost use Rattle.optimality.specs.OnlyPoints as only;
 ghost use Rattle.optimality.specs.OnlyPoints.{IsLargeOnlyAt, IsShownOnlyBy, all_but, all_others, free_ones, one_above, only_fault};
@@ -8,7 +8,7 @@ ghost use Rattle.optimality.specs.inside.Branches.{branch_of, branches_of};
 ghost use Rattle.optimality.specs.inside.Checking.{IsPrepared};
 ghost use Rattle.program_rows.specs.declared.certificate_fault.CertificateFaultKind.TheVariants.{TooLarge};
 ghost use Rattle.program_rows.specs.Only.{AreOnlyLeast};
-ghost use Rattle.program_rows.specs.Points.{IsPoint, objective, sum_at_one};
+ghost use Rattle.program_rows.specs.Points.{IsPoint, objective};
 
 use crate::checker::{Checker, OpenSplit};
 use crate::reader::{check_lines, new_checker, refused};
@@ -33,28 +33,6 @@ fn number_of(is_one: bool) -> i128
     if is_one { -1 } else { 1 }
 }
 
-/// Adds the term of a column, if it may be 0 or 1.
-fn add_term(
-    form: &mut WideForm,
-    program: &Selection<'_>,
-    values: &Point,
-    column: usize,
-) -> Result<(), AllocError>
-    requires sized { length values.now ≡ length program.now.columns }
-    requires within { column < length program.now.columns }
-    ensures { OnOk result (form.new.items ++ only.distance (column + 1)
-        (drop (column + 1) program.now.columns) (drop (column + 1) values.now)
-        ≡ form.old.items ++ only.distance column (drop column program.now.columns)
-        (drop column values.now)) }
-{
-    let bounds = program.bounds(column);
-    let value = values.value(column);
-    if is_zero_or_one(bounds) {
-        form.push((column, number_of(value)))?;
-    }
-    Ok(())
-}
-
 /// The form of the split from a point.
 fn distance(alloc: Global, program: &Selection<'_>, values: &Point) -> Result<WideForm, AllocError>
     requires { length values.now ≡ length program.now.columns }
@@ -62,26 +40,12 @@ fn distance(alloc: Global, program: &Selection<'_>, values: &Point) -> Result<Wi
 {
     let mut form = Vec::new(alloc);
     for column in 0..program.column_count() {
-        add_term(&mut form, program, values, column)?;
+        let value = values.value(column);
+        if is_zero_or_one(program.bounds(column)) {
+            form.push((column, number_of(value)))?;
+        }
     }
     Ok(form)
-}
-
-/// 1 where the column may be 0 or 1 and is 1, else 0.
-fn free_one(program: &Selection<'_>, values: &Point, column: usize) -> usize
-    requires sized { length values.now ≡ length program.now.columns }
-    requires within { column < length program.now.columns }
-    ensures counted { free_ones (drop column program.now.columns) (drop column values.now)
-        ≡ result + free_ones (drop (column + 1) program.now.columns)
-        (drop (column + 1) values.now) }
-    ensures small { result ≤ 1 }
-{
-    let bounds = program.bounds(column);
-    let value = values.value(column);
-    if !is_zero_or_one(bounds) {
-        return 0;
-    }
-    if value { 1 } else { 0 }
 }
 
 /// How many of the columns that may be 0 or 1 are 1.
@@ -91,7 +55,10 @@ fn free_ones(program: &Selection<'_>, values: &Point) -> usize
 {
     let mut ones: usize = 0;
     for column in 0..program.column_count() {
-        ones += free_one(program, values, column);
+        let value = values.value(column);
+        if is_zero_or_one(program.bounds(column)) && value {
+            ones += 1;
+        }
     }
     ones
 }
@@ -134,19 +101,6 @@ fn open_splits(
     Ok(splits)
 }
 
-/// The cost of a column, if it is 1.
-fn cost_at(program: &Selection<'_>, values: &Point, column: usize) -> i64
-    requires sized { length values.now ≡ length program.now.columns }
-    requires within { column < length program.now.columns }
-    ensures { sum_at_one (λ c. c.cost) (drop column program.now.columns) (drop column values.now)
-        ≡ result +ℤ sum_at_one (λ c. c.cost) (drop (column + 1) program.now.columns)
-        (drop (column + 1) values.now) }
-{
-    let value = values.value(column);
-    let cost = program.cost(column);
-    if value { cost } else { 0 }
-}
-
 /// One more than the objective of the values. It is added up here from 1 on, which shows that there is room for it in 128 bits.
 fn one_above(program: &Selection<'_>, values: &Point) -> i128
     requires { length values.now ≡ length program.now.columns }
@@ -154,7 +108,10 @@ fn one_above(program: &Selection<'_>, values: &Point) -> i128
 {
     let mut sum: i128 = 1;
     for column in 0..program.column_count() {
-        sum += i128::from(cost_at(program, values, column));
+        let cost = program.cost(column);
+        if values.value(column) {
+            sum += i128::from(cost);
+        }
     }
     sum
 }

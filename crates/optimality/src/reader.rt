@@ -1,9 +1,9 @@
 //! The pass over a certificate's lines, and what it shows.
 
-ghost use Rattle.std.specs.Prelude.{◌≡◌, ◌⊎◌, IfErr, IfOk, IfSome, Ok, OnOk, Some, length};
+ghost use Rattle.std.specs.Prelude.{◌≡◌, ◌⊎◌, IfErr, IfOk, Ok, OnOk, Some, length};
 ghost use Rattle.optimality.specs.Answers.{IsLimit, IsVerdict};
 ghost use Rattle.optimality.specs.inside.Answers.{IsRefusedCertificate};
-ghost use Rattle.optimality.specs.inside.Checking.{AreRowsOf, IsPrepared};
+ghost use Rattle.optimality.specs.inside.Checking.{IsPrepared};
 ghost use Rattle.optimality.specs.Laws.{IsBound};
 ghost use Rattle.optimality.specs.Sizes.{IsLargeAt, IsLargeFrom};
 ghost use Rattle.program_rows.specs.declared.certificate_fault.CertificateFaultKind.TheVariants.{TooLarge};
@@ -17,7 +17,7 @@ ghost use Rattle.program_rows.specs.Points.{objective};
 use crate::checker::{Checker, OpenSplit};
 use crate::lines::take_any;
 use crate::refusal::{Limit, Refusal};
-use crate::row_forms::{RowForms, row_forms};
+use crate::row_forms::row_forms;
 use crate::sums::Sums;
 use crate::terms::row_names;
 use auction_terms::LineReader;
@@ -78,20 +78,6 @@ fn has_many_lines(text: &[u8]) -> bool {
     lines.next().is_some()
 }
 
-/// The forms of the rows, for a text of many lines.
-fn forms_for(
-    alloc: Global,
-    text: &[u8],
-    program: &Selection<'_>,
-) -> Result<Option<RowForms>, AllocError>
-    ensures { IfOk result (λ made. IfSome made (λ rows. AreRowsOf program.now rows)) }
-{
-    if !has_many_lines(text) {
-        return Ok(None);
-    }
-    Ok(Some(row_forms(alloc, program)?))
-}
-
 /// What a text is checked against.
 pub fn new_checker<'p>(
     alloc: Global,
@@ -103,7 +89,11 @@ pub fn new_checker<'p>(
     ensures program { IfOk result (λ checker. checker.program.now ≡ program.now) }
     ensures least { IfOk result (λ checker. checker.least ≡ least) }
 {
-    let forms = forms_for(alloc, text, program)?;
+    let row_forms = if has_many_lines(text) {
+        Some(row_forms(alloc, program)?)
+    } else {
+        None
+    };
     let rows = row_names(alloc, program)?;
     Ok(Checker {
         alloc,
@@ -111,7 +101,7 @@ pub fn new_checker<'p>(
         next_column: Cell::new(0),
         rows,
         next_row: Cell::new(0),
-        row_forms: forms,
+        row_forms,
         least,
     })
 }

@@ -4,7 +4,7 @@ ghost use Rattle.std.specs.Int.{w16};
 ghost use Rattle.std.specs.Prelude.{◌≡◌, ◌<◌, ◌^◌, [], FitsSigned, IfOk, MatchOption, OnOk, replicate};
 ghost use Rattle.optimality.specs.inside.Checking.{AreRowsOf};
 ghost use Rattle.optimality.specs.inside.RowForms as rows;
-ghost use Rattle.optimality.specs.inside.RowForms.{forms_held, with_columns, with_entries, with_term};
+ghost use Rattle.optimality.specs.inside.RowForms.{forms_held, with_columns, with_entries};
 
 use crate::by_rows::least_alone;
 use program_rows::{Entries, Selection};
@@ -71,16 +71,6 @@ impl RowForm {
     }
 }
 
-fn add_term(forms: &mut [RowForm], row: usize, place: usize, number: i64) -> Result<(), AllocError>
-    ensures { OnOk result (forms_held forms.new
-        ≡ with_term row (place, number) (forms_held forms.old)) }
-{
-    if row < forms.len() {
-        forms[row].push(place, number)?;
-    }
-    Ok(())
-}
-
 /// Adds the entries of a column, each to the form of its row.
 fn add_column(forms: &mut [RowForm], column: usize, entries: &Entries<'_>) -> Result<(), AllocError>
     ensures { OnOk result (forms_held forms.new
@@ -88,7 +78,9 @@ fn add_column(forms: &mut [RowForm], column: usize, entries: &Entries<'_>) -> Re
 {
     for i in 0..entries.len() {
         let (row, coefficient) = entries.entry(i);
-        add_term(forms, row, column, coefficient)?;
+        if row < forms.len() {
+            forms[row].push(column, coefficient)?;
+        }
     }
     Ok(())
 }
@@ -114,21 +106,14 @@ fn add_columns(forms: &mut [RowForm], program: &Selection<'_>) -> Result<(), All
     Ok(())
 }
 
-/// The forms of the rows, in the order of the program.
-fn forms_of_rows(alloc: Global, program: &Selection<'_>) -> Result<Vec<RowForm>, AllocError>
-    ensures { IfOk result (λ forms. forms_held forms.items ≡ rows.row_forms program.now) }
-{
-    let mut forms = empty_forms(alloc, program.row_count())?;
-    add_columns(forms.as_mut_slice(), program)?;
-    Ok(forms)
-}
-
 /// The rows of a program as forms, with what the costs alone come to.
 pub fn row_forms(alloc: Global, program: &Selection<'_>) -> Result<RowForms, AllocError>
     ensures { IfOk result (λ rows. AreRowsOf program.now rows) }
 {
+    let mut forms = empty_forms(alloc, program.row_count())?;
+    add_columns(forms.as_mut_slice(), program)?;
     Ok(RowForms {
-        forms: forms_of_rows(alloc, program)?,
+        forms,
         alone: least_alone(program),
     })
 }

@@ -1,6 +1,6 @@
 //! Names and numbers of a line.
 
-ghost use Rattle.std.specs.Prelude.{Err, Ok, if◌then◌else◌, int_lt, nat_abs, pos, ◌≡◌, IfOk, length, bytes_eq, position};
+ghost use Rattle.std.specs.Prelude.{Err, Ok, if◌then◌else◌, ◌≡◌, IfOk, length, bytes_eq, position};
 ghost use Rattle.program_rows.specs.declared.certificate_fault.CertificateFaultKind.TheVariants.{Sign};
 ghost use Rattle.auction_terms.specs.Decimals.{number};
 ghost use Rattle.optimality.specs.inside.Answers.{AnswersSeen};
@@ -34,19 +34,14 @@ pub fn take_number(token: &[u8]) -> Result<i64, Refusal>
     }
 }
 
-fn natural(n: i64) -> Result<u64, Refusal>
-    ensures { AnswersSeen (λ m. m) result (if int_lt n (pos 0) then Err Sign else Ok (nat_abs n)) }
+pub fn take_natural(token: &[u8]) -> Result<u64, Refusal>
+    ensures { AnswersSeen (λ n. n) result (parsed_natural token.now) }
 {
+    let n = take_number(token)?;
     if n < 0 {
         return Err(Refusal::Fault(CertificateFaultKind::Sign));
     }
     Ok(n as u64)
-}
-
-pub fn take_natural(token: &[u8]) -> Result<u64, Refusal>
-    ensures { AnswersSeen (λ n. n) result (parsed_natural token.now) }
-{
-    natural(take_number(token)?)
 }
 
 /// Numbers, and what follows them in their line.
@@ -104,13 +99,6 @@ fn is_same(name: &[u8], other: &[u8]) -> bool
     name == other
 }
 
-fn is_column(program: &Selection<'_>, column: usize, name: &[u8]) -> bool {
-    if column >= program.column_count() {
-        return false;
-    }
-    is_same(name, program.column_name(column))
-}
-
 /// Whether the bid of a column comes before another one.
 fn is_before(found: Option<Choice>, bid: Choice) -> bool {
     match found {
@@ -137,7 +125,7 @@ fn place_of_bid(program: &Selection<'_>, bid: Choice) -> usize {
 /// Where the column of a name may be: where the next one is expected, or by the bid that the name spells, or else last, as the
 /// column of what all lots are worth is.
 fn guess(program: &Selection<'_>, expected: usize, name: &[u8]) -> usize {
-    if is_column(program, expected, name) {
+    if expected < program.column_count() && is_same(name, program.column_name(expected)) {
         return expected;
     }
     match bid_named(name) {
@@ -201,31 +189,13 @@ fn unknown(named: Named) -> CertificateFaultKind
     }
 }
 
-fn row_place(checker: &Checker, name: &[u8]) -> Option<usize>
-    requires { IsPrepared checker.now }
-    ensures { result ≡ position (bytes_eq name.now) (row_names checker.now.program.now) }
-{
-    place_of(&checker.rows, &checker.next_row, name)
-}
-
 fn place_named(checker: &Checker, named: Named, name: &[u8]) -> Option<usize>
     requires { IsPrepared checker.now }
     ensures { result ≡ position (bytes_eq name.now) (nameable named checker.now.program.now) }
 {
     match named {
         Named::Columns => column_place(checker.program, &checker.next_column, name),
-        Named::Rows => row_place(checker, name),
-    }
-}
-
-fn take_place(checker: &Checker, named: Named, name: &[u8]) -> Result<usize, Refusal>
-    requires { IsPrepared checker.now }
-    ensures { AnswersSeen (λ place. place) result (ok_or (position (bytes_eq name.now)
-        (nameable named checker.now.program.now)) (unknown_of named)) }
-{
-    match place_named(checker, named, name) {
-        Some(place) => Ok(place),
-        None => Err(Refusal::Fault(unknown(named))),
+        Named::Rows => place_of(&checker.rows, &checker.next_row, name),
     }
 }
 
@@ -240,7 +210,9 @@ fn take_term(
         (nameable named checker.now.program.now)) (unknown_of named)) (λ place.
         and_then (parsed_integer (number token.now)) (λ n. Ok (place, n)))) }
 {
-    let place = take_place(checker, named, name)?;
+    let Some(place) = place_named(checker, named, name) else {
+        return Err(Refusal::Fault(unknown(named)));
+    };
     let number = take_number(token)?;
     Ok((place, number))
 }

@@ -14,7 +14,7 @@ loop-column-preserved c =
     let fits_part : SFits w128 c.in_ok-part_of.field-0 = search rules in
     let added = simp to_z-of_z at c.in_ok-sum.ensures in
     simp to_z-of_z (least-step (with_given c.args.scale (number_at c.args.given.now)) c.loop-column.column c.args.program.now.columns
-    (to_z w128 c.loop-column.sum-bits) c.in_ok-sum.sum c.in_ok-part_of.field-0 _ (simp to_z-of_z at c.in_ok-part_of.ensures) added
+    (to_z w128 c.loop-column.sum-bits) c.in_ok-sum.sum c.in_ok-part_of.field-0 _ (simp to_z-of_z at c.in_ok-part_of.ensures) added.1
     (simp to_z-of_z at c.loop-column.invariant))
 
 pub returns : goal.returns

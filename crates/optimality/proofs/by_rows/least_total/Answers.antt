@@ -1,4 +1,4 @@
-use Rattle.std.proofs.Common.{◌≡◌, ap, arith, length, pos, rules, ℕ, ℤ, ◌+ℤ◌}
+use Rattle.std.proofs.Common.{◌≡◌, ◌∙◌, ◌+◌, ◌≤◌, ◌^◌, ap, arith, inl, inr, length, pos, rules, ℕ, ℤ, ◌+ℤ◌}
 use Rattle.std.specs.Prelude.{unsigned_abs}
 use Rattle.std.proofs.lemmas.Int.{to_z-of_z}
 use mir.Syntax.{w128}
@@ -22,7 +22,10 @@ loop-column-preserved c =
     let fits_alone : SFits w128 c.args.alone = c.ranges.alone in
     let fits_total : SFits w128 c.in_ok-total.total = search rules in
     let fits_number : SFits w128 c.in-Some.number = search rules in
-    let added : c.in_ok-total.total ≡ total +ℤ change = simp to_z-of_z at c.in_ok-total.ensures.value in
+    let fits_change : SFits w128 c.in_ok-change.field-0 = search rules in
+    let changed : c.in_ok-change.field-0 ≡ change = simp to_z-of_z at c.in_ok-change.ensures.value in
+    let sum = simp to_z-of_z at c.in_ok-total.ensures.value in
+    let added : c.in_ok-total.total ≡ total +ℤ change = sum ∙ ap (λ (z : ℤ). total +ℤ z) changed in
     let size : unsigned_abs c.in_ok-total.total ≡ unsigned_abs (total +ℤ change) = ap unsigned_abs added in
     let both = abs-sum total change in
     let less = below-taken (length cs) before after t c.in-Some.ensures.taken in
@@ -36,16 +39,32 @@ loop-column-preserved c =
       simp to_z-of_z (omega arith),
     )
 
+pub returns-in_err-change-clause-too_large : goal.returns-in_err-change-clause-too_large
+returns-in_err-change-clause-too_large c =
+    let cs = c.args.program.now.columns in
+    let before = c.loop-column.sums.numbers.items in
+    let after = c.take.new.self.numbers.items in
+    let total = to_z w128 c.loop-column.total-bits in
+    let fits_number : SFits w128 c.in-Some.number = search rules in
+    too-large-passed ℤ c.from_residual.result c.in_err-change.field-0.0 c.from_residual.ensures.1 c.in_err-change.ensures.too_large
+    (λ large. by-either cs c.args.scale c.in-Some.column c.in-Some.number total before after c.args.sums.now.numbers.items
+    c.in-Some.ensures.taken c.loop-column.invariant.1 c.loop-column.invariant.2 (inl (simp to_z-of_z at large)))
+
 pub returns-in_err-total-clause-too_large : goal.returns-in_err-total-clause-too_large
 returns-in_err-total-clause-too_large c =
     let cs = c.args.program.now.columns in
     let before = c.loop-column.sums.numbers.items in
     let after = c.take.new.self.numbers.items in
     let total = to_z w128 c.loop-column.total-bits in
+    let change = change_at cs (pos c.args.scale) c.in-Some.column c.in-Some.number in
     let fits_number : SFits w128 c.in-Some.number = search rules in
-    too-large-passed ℤ c.from_residual.result c.in_err-total.field-0.0 c.from_residual.ensures.1 c.in_err-total.ensures.too_large
+    let fits_change : SFits w128 c.in_ok-change.field-0 = search rules in
+    let changed : c.in_ok-change.field-0 ≡ change = simp to_z-of_z at c.in_ok-change.ensures.value in
+    let size = ap unsigned_abs changed in
+    too-large-passed ℤ c.from_residual-in_err-total.result c.in_err-total.field-0.0 c.from_residual-in_err-total.ensures.1 c.in_err-total.ensures.too_large
     (λ large. by-either cs c.args.scale c.in-Some.column c.in-Some.number total before after c.args.sums.now.numbers.items
-    c.in-Some.ensures.taken c.loop-column.invariant.1 c.loop-column.invariant.2 (simp to_z-of_z at large))
+    c.in-Some.ensures.taken c.loop-column.invariant.1 c.loop-column.invariant.2
+    (let reached : 2 ^ 127 ≤ unsigned_abs total + unsigned_abs c.in_ok-change.field-0 = simp to_z-of_z at large in inr (omega arith)))
 
 pub returns-clause-size : goal.returns-clause-size
 returns-clause-size c =
