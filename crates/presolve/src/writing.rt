@@ -1,10 +1,10 @@
 //! Writing the lines of bids that no program has, and of forms that others replace.
 
-ghost use Rattle.std.specs.Prelude.{◌≡◌, ◌++◌, ◌==◌, [], None, flat_map, if◌then◌else◌};
+ghost use Rattle.std.specs.Prelude.{◌≡◌, ◌==◌, [], None, flat_map, if◌then◌else◌};
 ghost use Rattle.std.specs.List.{last_or};
 ghost use Rattle.byte_sinks.specs.Adds.{Adds};
 ghost use Rattle.byte_sinks.specs.Sinks.{Sends};
-ghost use Rattle.presolve.specs.Lines.{form_lines, forms_by, left_out, left_out_lines, replaced, replaced_lines};
+ghost use Rattle.presolve.specs.Lines.{form_lines, forms_by, left_out_lines, replaced};
 
 use crate::reason::Reason;
 use crate::reason_objects::{add_object, add_replaced_object};
@@ -12,24 +12,6 @@ use crate::reason_words::{add_line, add_replaced_line};
 use crate::reasons::Reasons;
 use auction_terms::Rules;
 use byte_sinks::{Format, Sink, WriteFault, Writer};
-
-// Adds the line of a bid.
-fn add_bid<S: Sink>(
-    writer: &mut Writer<'_, S>,
-    format: Format,
-    rules: &Rules,
-    bidder: usize,
-    number: usize,
-    reason: Reason,
-)
-    ensures { Adds S.state writer.old writer.new
-        (left_out format rules.now bidder number reason) }
-{
-    match format {
-        Format::Words => add_line(writer, rules, bidder, number, reason),
-        Format::Json => add_object(writer, rules, bidder, number, reason),
-    }
-}
 
 // Adds the lines of a bidder's form.
 fn add_form<S: Sink>(
@@ -44,7 +26,11 @@ fn add_form<S: Sink>(
 {
     for (place, &why) in reasons.iter().enumerate() {
         if let Some(reason) = why {
-            add_bid(writer, format, rules, bidder, place + 1, reason);
+            let number = place + 1;
+            match format {
+                Format::Words => add_line(writer, rules, bidder, number, reason),
+                Format::Json => add_object(writer, rules, bidder, number, reason),
+            }
         }
     }
 }
@@ -60,24 +46,6 @@ fn last_form(bidders: &[u16], bidder: usize) -> Option<usize>
         }
     }
     last
-}
-
-// Adds the line of a form that is replaced.
-fn add_old_form<S: Sink>(
-    writer: &mut Writer<'_, S>,
-    format: Format,
-    rules: &Rules,
-    bidder: usize,
-    last: usize,
-    number: usize,
-)
-    ensures { Adds S.state writer.old writer.new
-        (replaced format rules.now bidder last number) }
-{
-    match format {
-        Format::Words => add_replaced_line(writer, rules, bidder, last, number),
-        Format::Json => add_replaced_object(writer, rules, bidder, last, number),
-    }
 }
 
 // Adds the lines of a bidder's forms but the last.
@@ -96,30 +64,15 @@ fn add_replaced_by<S: Sink>(
     for (place, &owner) in bidders.iter().enumerate() {
         let number = place + 1;
         if usize::from(owner) == bidder && number != last {
-            add_old_form(writer, format, rules, bidder, last, number);
+            match format {
+                Format::Words => add_replaced_line(writer, rules, bidder, last, number),
+                Format::Json => add_replaced_object(writer, rules, bidder, last, number),
+            }
         }
     }
 }
 
-// Adds the lines of a bidder.
-fn add_bidder<S: Sink>(
-    writer: &mut Writer<'_, S>,
-    format: Format,
-    rules: &Rules,
-    bidders: &[u16],
-    bidder: usize,
-    reasons: &[Option<Reason>],
-)
-    ensures { Adds S.state writer.old writer.new
-        (replaced_lines format rules.now bidders.now bidder ++ form_lines format rules.now bidder reasons.now) }
-{
-    if let Some(last) = last_form(bidders, bidder) {
-        add_replaced_by(writer, format, rules, bidders, bidder, last);
-    }
-    add_form(writer, format, rules, bidder, reasons);
-}
-
-// Adds the lines of a book.
+// Adds the lines of a book, bidder by bidder: those of forms that are replaced, and of bids in the last one.
 fn add_bidders<S: Sink>(
     writer: &mut Writer<'_, S>,
     format: Format,
@@ -131,14 +84,11 @@ fn add_bidders<S: Sink>(
         (left_out_lines format rules.now bidders.now reasons.now) }
 {
     for place in 0..reasons.forms.len() {
-        add_bidder(
-            writer,
-            format,
-            rules,
-            bidders,
-            place + 1,
-            &reasons.forms[place],
-        );
+        let bidder = place + 1;
+        if let Some(last) = last_form(bidders, bidder) {
+            add_replaced_by(writer, format, rules, bidders, bidder, last);
+        }
+        add_form(writer, format, rules, bidder, &reasons.forms[place]);
     }
 }
 
