@@ -1,6 +1,6 @@
 //! The allocation that a point wins.
 
-ghost use Rattle.std.specs.Prelude.{◌≡◌, ◌<◌, ◌+◌, ◌==◌, ◌++◌, drop, filter, length, IfOk, OnOk};
+ghost use Rattle.std.specs.Prelude.{◌≡◌, ◌<◌, ◌+◌, ◌==◌, ◌++◌, filter, length, IfOk, OnOk};
 ghost use Rattle.std.specs.List.{range_with_len};
 ghost use Rattle.auction_terms.specs.declared.limits.TheConstants.{MOST_BIDDERS};
 ghost use Rattle.program_rows.specs.Faithful.{back};
@@ -37,29 +37,6 @@ fn by_rising_bidder(alloc: Global, choices: &[Choice]) -> Result<Allocation, All
     Ok(Allocation::new(list))
 }
 
-/// Adds the bid that a column spells, if the column is 1.
-fn add_bid_at(
-    list: &mut Vec<Choice>,
-    program: &Program,
-    point: &Point,
-    column: usize,
-) -> Result<(), AllocError>
-    requires sized { length point.now ≡ length program.now.columns }
-    requires within { column < length program.now.columns }
-    ensures { OnOk result (list.new.items
-        ++ back (drop (column + 1) program.now.columns) (drop (column + 1) point.now)
-        ≡ list.old.items ++ back (drop column program.now.columns) (drop column point.now)) }
-{
-    if !point.value(column) {
-        return Ok(());
-    }
-    let Some(choice) = program.column_bid(column) else {
-        return Ok(());
-    };
-    list.push(choice)?;
-    Ok(())
-}
-
 /// The bids whose columns are 1, in the order of the columns.
 fn bids_at_one(alloc: Global, program: &Program, point: &Point) -> Result<Vec<Choice>, AllocError>
     requires { length point.now ≡ length program.now.columns }
@@ -67,7 +44,11 @@ fn bids_at_one(alloc: Global, program: &Program, point: &Point) -> Result<Vec<Ch
 {
     let mut bids = Vec::new(alloc);
     for column in 0..program.column_count() {
-        add_bid_at(&mut bids, program, point, column)?;
+        if point.value(column) {
+            if let Some(choice) = program.column_bid(column) {
+                bids.push(choice)?;
+            }
+        }
     }
     Ok(bids)
 }

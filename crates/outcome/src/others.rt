@@ -117,21 +117,14 @@ pub fn others_of(
     Ok(OtherAwards::new(awards, further))
 }
 
-/// Adds the line of a tie, and the award.
-fn add_tie<S: Sink>(writer: &mut Writer<'_, S>, book: &ClosedBook, award: &Allocation)
-    ensures { Adds S.state writer.old writer.new (tie_text (sale_of book.now) award.now) }
-{
-    writer.add(b"tie\n");
-    add_allocation(writer, book, award.choices());
-}
-
-/// Adds each tie.
+/// Adds the line of each tie, and the award.
 fn add_ties<S: Sink>(writer: &mut Writer<'_, S>, book: &ClosedBook, awards: &[Allocation])
     ensures { Adds S.state writer.old writer.new
         (flat_map (tie_text (sale_of book.now)) awards.now) }
 {
     for award in awards {
-        add_tie(writer, book, award);
+        writer.add(b"tie\n");
+        add_allocation(writer, book, award.choices());
     }
 }
 

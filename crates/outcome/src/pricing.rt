@@ -66,7 +66,7 @@ impl Pricing {
 
 ghost use Rattle.std.specs.Prelude.{◌≡◌, ◌≤◌, ◌*◌, ◌^◌, ◌∷◌, ◌++◌, ◌==◌, [], Some, codes, decimal, flat_map, if◌then◌else◌, length};
 ghost use Rattle.byte_sinks.specs.Adds.{Adds};
-ghost use Rattle.bid_desk.specs.Sale.{bidder_name, sale_of};
+ghost use Rattle.bid_desk.specs.Sale.{sale_of};
 ghost use Rattle.auction_terms.specs.Fractions.{fraction_text};
 ghost use Rattle.outcome.specs.Pricing as of_prices;
 ghost use Rattle.outcome.specs.Pricing.{amount_text, exact_text, in_pounds, price_in, price_line, pricing_text, rule_line, sum_line};
@@ -181,15 +181,6 @@ fn add_amount<S: Sink>(writer: &mut Writer<'_, S>, parts: u64, pounds: u128, exa
     writer.add(b"\n");
 }
 
-/// Adds the name of a bidder, and a space.
-fn add_name<S: Sink>(writer: &mut Writer<'_, S>, book: &ClosedBook, bidder: u16)
-    ensures { Adds S.state writer.old writer.new
-        (bidder_name (sale_of book.now).names bidder ++ 32 ∷ []) }
-{
-    let pieces: [&[u8]; 2] = [name_of(book, bidder), b" "];
-    writer.add_pieces(&pieces);
-}
-
 /// Adds the line of a winner's price.
 fn add_price<S: Sink>(
     writer: &mut Writer<'_, S>,
@@ -202,7 +193,8 @@ fn add_price<S: Sink>(
 {
     let exact = price_of(pricing.prices(), choice.bidder);
     let pounds = pricing.pounds(choice.bidder);
-    add_name(writer, book, choice.bidder);
+    let pieces: [&[u8]; 2] = [name_of(book, choice.bidder), b" "];
+    writer.add_pieces(&pieces);
     add_amount(
         writer,
         pricing.parts(),
@@ -247,23 +239,7 @@ fn add_rule<S: Sink>(writer: &mut Writer<'_, S>, by_rule: bool)
     }
 }
 
-/// Adds prices, and whether they are those of the rule.
-fn add_winning_prices<S: Sink>(
-    writer: &mut Writer<'_, S>,
-    book: &ClosedBook,
-    choices: &[Choice],
-    pricing: &Pricing,
-)
-    ensures { Adds S.state writer.old writer.new
-        (pricing_text (sale_of book.now) choices.now (Some pricing.now)) }
-{
-    writer.add(b"prices\n");
-    add_prices(writer, book, pricing, choices);
-    add_sum(writer, pricing, choices);
-    add_rule(writer, pricing.by_rule());
-}
-
-/// Adds what the winners pay, if there are prices.
+/// Adds what the winners pay, and whether it is by the rule, if there are prices.
 pub fn add_pricing<S: Sink>(
     writer: &mut Writer<'_, S>,
     book: &ClosedBook,
@@ -274,7 +250,13 @@ pub fn add_pricing<S: Sink>(
         (pricing_text (sale_of book.now) first.now pricing.now) }
 {
     match pricing {
-        Some(pricing) => add_winning_prices(writer, book, first.choices(), pricing),
+        Some(pricing) => {
+            let choices = first.choices();
+            writer.add(b"prices\n");
+            add_prices(writer, book, pricing, choices);
+            add_sum(writer, pricing, choices);
+            add_rule(writer, pricing.by_rule());
+        }
         None => writer.add(b""),
     }
 }

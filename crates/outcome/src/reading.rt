@@ -1,6 +1,6 @@
 //! Reading a solution: its lines, by the columns that they name, and whether what they say is a point of the program.
 
-ghost use Rattle.std.specs.Prelude.{◌≡◌, ◌<◌, ◌≤◌, [], length, map, replicate, unwrap_or, false, IfOk, OnOk, Ok, Err, None};
+ghost use Rattle.std.specs.Prelude.{◌≡◌, ◌<◌, ◌≤◌, [], length, map, unwrap_or, false, IfOk, OnOk, Ok, Err, None};
 ghost use Rattle.std.specs.Prelude.{bytes_eq, IfSome, position, ◌∷◌, ◌++◌, ◌+◌, ◌==◌, ℕ, List, slice_index, true, not};
 ghost use Rattle.std.specs.List.{IsDistinct, zip};
 ghost use Rattle.auction_terms.specs.FirstFault.{first_fault, first_failed};
@@ -194,13 +194,6 @@ fn check_point(program: &Program, point: &Point) -> Result<(), SolutionFault>
     Ok(())
 }
 
-/// Nothing said of any column.
-fn nothing_said(alloc: Global, count: usize) -> Result<Vec<Option<bool>>, AllocError>
-    ensures { IfOk result (λ said. said.items ≡ replicate count None) }
-{
-    vec![in alloc; None; count]
-}
-
 /// The values of the columns: those of which nothing is said are 0.
 fn values_from(alloc: Global, said: &[Option<bool>]) -> Result<Vec<bool>, AllocError>
     ensures { IfOk result (λ values. values.items ≡ map (λ s. unwrap_or s false) said.now) }
@@ -237,7 +230,7 @@ fn read_values(alloc: Global, bytes: &[u8], program: &Program) -> Result<Point, 
         (unless (first_fault (solution_line_fault (column_names program.now)) []
         (lines_of bytes.now)) (Ok (map (is_one (lines_of bytes.now)) (column_names program.now)))) }
 {
-    let mut said = nothing_said(alloc, program.column_count())?;
+    let mut said = vec![in alloc; None; program.column_count()]?;
     take_solution(alloc, bytes, program, &mut said)?;
     Ok(Point::new(values_from(alloc, &said)?))
 }

@@ -1,10 +1,9 @@
 //! The lines of a report on their way to a sink: headings, winners and totals, and costs.
 
-ghost use Rattle.std.specs.Prelude.{◌≡◌, ◌∷◌, ◌++◌, [], codes, decimal, flat_map, length};
+ghost use Rattle.std.specs.Prelude.{◌≡◌, ◌∷◌, ◌++◌, [], codes, flat_map, length};
 ghost use Rattle.byte_sinks.specs.Adds.{Adds};
 ghost use Rattle.bid_desk.specs.Sale.{bidder_name, sale_of};
 ghost use Rattle.outcome.specs.Report.{group_names, heading, group_report, in_turn, allocation_text, winner_line};
-ghost use Rattle.std.specs.Fmt.{signed_decimal};
 ghost use Rattle.std.specs.List.{zip};
 
 use crate::allocation::Allocation;
@@ -15,32 +14,15 @@ use bid_desk::ClosedBook;
 use byte_sinks::{Sink, Writer};
 use itoa::Buffer;
 
-/// Adds the name of a further bidder.
-fn add_further<S: Sink>(writer: &mut Writer<'_, S>, book: &ClosedBook, bidder: u16)
-    ensures { Adds S.state writer.old writer.new
-        (43 ∷ bidder_name (sale_of book.now).names bidder) }
-{
-    let pieces: [&[u8]; 2] = [b"+", name_of(book, bidder)];
-    writer.add_pieces(&pieces);
-}
-
 /// Adds the names of further bidders.
 fn add_more_names<S: Sink>(writer: &mut Writer<'_, S>, book: &ClosedBook, bidders: &[u16])
     ensures { Adds S.state writer.old writer.new
         (flat_map (λ further. 43 ∷ bidder_name (sale_of book.now).names further) bidders.now) }
 {
     for bidder in bidders {
-        add_further(writer, book, *bidder);
+        let pieces: [&[u8]; 2] = [b"+", name_of(book, *bidder)];
+        writer.add_pieces(&pieces);
     }
-}
-
-/// Adds the names of a group that isn't empty.
-fn add_first_names<S: Sink>(writer: &mut Writer<'_, S>, book: &ClosedBook, first: u16, more: &[u16])
-    ensures { Adds S.state writer.old writer.new
-        (group_names (sale_of book.now).names (first ∷ more.now)) }
-{
-    writer.add(name_of(book, first));
-    add_more_names(writer, book, more);
 }
 
 /// Adds the names of a group.
@@ -50,7 +32,10 @@ fn add_names<S: Sink>(writer: &mut Writer<'_, S>, book: &ClosedBook, group: &[u1
 {
     match group.split_first() {
         None => writer.add(b"-"),
-        Some((first, more)) => add_first_names(writer, book, *first, more),
+        Some((first, more)) => {
+            writer.add(name_of(book, *first));
+            add_more_names(writer, book, more);
+        }
     }
 }
 
@@ -63,22 +48,14 @@ pub fn add_names_line<S: Sink>(writer: &mut Writer<'_, S>, book: &ClosedBook, gr
     writer.add(b"\n");
 }
 
-/// Adds what comes before the names.
-fn add_number<S: Sink>(writer: &mut Writer<'_, S>, k: usize)
-    ensures { Adds S.state writer.old writer.new
-        (codes "group " ++ (decimal k ++ 32 ∷ [])) }
-{
-    let mut buffer = Buffer::new();
-    let pieces: [&[u8]; 3] = [b"group ", buffer.format(k).as_bytes(), b" "];
-    writer.add_pieces(&pieces);
-}
-
 /// Adds the heading of group k.
 fn add_heading<S: Sink>(writer: &mut Writer<'_, S>, book: &ClosedBook, k: usize, group: &[u16])
     ensures { Adds S.state writer.old writer.new
         (heading (codes "group ") (sale_of book.now).names k group.now) }
 {
-    add_number(writer, k);
+    let mut buffer = Buffer::new();
+    let pieces: [&[u8]; 3] = [b"group ", buffer.format(k).as_bytes(), b" "];
+    writer.add_pieces(&pieces);
     add_names_line(writer, book, group);
 }
 
@@ -110,32 +87,15 @@ fn add_winners<S: Sink>(writer: &mut Writer<'_, S>, book: &ClosedBook, choices: 
     }
 }
 
-/// Adds the line of a total.
-fn add_total<S: Sink>(writer: &mut Writer<'_, S>, amount: u128)
-    ensures { Adds S.state writer.old writer.new
-        (codes "total " ++ (decimal amount ++ 10 ∷ [])) }
-{
-    let mut buffer = Buffer::new();
-    let pieces: [&[u8]; 3] = [b"total ", buffer.format(amount).as_bytes(), b"\n"];
-    writer.add_pieces(&pieces);
-}
-
 /// Adds the winners, then the total.
 pub fn add_allocation<S: Sink>(writer: &mut Writer<'_, S>, book: &ClosedBook, choices: &[Choice])
     ensures { Adds S.state writer.old writer.new
         (allocation_text (sale_of book.now) choices.now) }
 {
     add_winners(writer, book, choices);
-    add_total(writer, total_of(book, choices));
-}
-
-/// Adds the line of a cost.
-fn add_cost<S: Sink>(writer: &mut Writer<'_, S>, amount: i128)
-    ensures { Adds S.state writer.old writer.new
-        (codes "cost " ++ (signed_decimal amount ++ 10 ∷ [])) }
-{
     let mut buffer = Buffer::new();
-    let pieces: [&[u8]; 3] = [b"cost ", buffer.format(amount).as_bytes(), b"\n"];
+    let total = total_of(book, choices);
+    let pieces: [&[u8]; 3] = [b"total ", buffer.format(total).as_bytes(), b"\n"];
     writer.add_pieces(&pieces);
 }
 
@@ -153,7 +113,10 @@ fn add_group<S: Sink>(
 {
     add_heading(writer, book, k, group.numbers());
     add_allocation(writer, book, choices);
-    add_cost(writer, cost_of(book, first, group, choices));
+    let mut buffer = Buffer::new();
+    let cost = cost_of(book, first, group, choices);
+    let pieces: [&[u8]; 3] = [b"cost ", buffer.format(cost).as_bytes(), b"\n"];
+    writer.add_pieces(&pieces);
 }
 
 /// Adds what the report says of all groups.

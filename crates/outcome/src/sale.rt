@@ -45,16 +45,6 @@ pub fn amount_of(book: &ClosedBook, choice: Choice) -> u64
     }
 }
 
-/// The quantity of a category, by its place.
-fn quantity_at(quantities: &[u16], category: usize) -> u16
-    ensures { result ≡ slice_index quantities.now category }
-{
-    match quantities.get(category) {
-        Some(quantity) => *quantity,
-        None => 0,
-    }
-}
-
 /// The quantity of a category in a bid, by its number among these.
 fn quantity_in(bids: &[Bid], number: u16, category: usize) -> u16
     ensures { result ≡ option_map_or (λ x. slice_index x.package category) (bid_at bids.now number)
@@ -64,7 +54,7 @@ fn quantity_in(bids: &[Bid], number: u16, category: usize) -> u16
         return 0;
     }
     match bids.get(number as usize - 1) {
-        Some(bid) => quantity_at(bid.package.quantities(), category),
+        Some(bid) => bid.package.quantities().get(category).copied().unwrap_or(0),
         None => 0,
     }
 }

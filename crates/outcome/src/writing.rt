@@ -50,42 +50,6 @@ fn add_report<S: Sink>(
     add_groups(writer, book, allocations[0].choices(), groups, allocations);
 }
 
-/// Adds what the winners pay, and what is known of other awards.
-fn add_after_report<S: Sink>(
-    writer: &mut Writer<'_, S>,
-    book: &ClosedBook,
-    first: &Allocation,
-    pricing: &Option<Pricing>,
-    others: &OtherAwards,
-)
-    ensures { Adds S.state writer.old writer.new
-        (pricing_text (sale_of book.now) first.now pricing.now
-        ++ others_text (sale_of book.now) others.now) }
-{
-    add_pricing(writer, book, first, pricing);
-    add_others(writer, book, others);
-}
-
-/// Adds a report, what the winners pay, and what is known of other awards.
-fn add_report_with<S: Sink>(
-    writer: &mut Writer<'_, S>,
-    book: &ClosedBook,
-    groups: &Groups,
-    allocations: &[Allocation],
-    pricing: &Option<Pricing>,
-    others: &OtherAwards,
-)
-    requires count { length groups.now ≡ length allocations.now }
-    requires some { 0 < length allocations.now }
-    ensures { Adds S.state writer.old writer.new
-        (report_text (sale_of book.now) groups.now allocations.now
-        ++ (pricing_text (sale_of book.now) (slice_index_or allocations.now 0 []) pricing.now
-        ++ others_text (sale_of book.now) others.now)) }
-{
-    add_report(writer, book, groups, allocations);
-    add_after_report(writer, book, &allocations[0], pricing, others);
-}
-
 /// Writes an allocation for each group, the first of them for the empty group: each with its total and the group's opportunity cost. It takes no memory.
 pub fn report<S: Sink>(
     book: &ClosedBook,
@@ -118,6 +82,8 @@ pub fn report_with<S: Sink>(
         ++ others_text (sale_of book.now) others.now)) }
 {
     let mut writer = Writer::new(sink);
-    add_report_with(&mut writer, book, groups, allocations, pricing, others);
+    add_report(&mut writer, book, groups, allocations);
+    add_pricing(&mut writer, book, &allocations[0], pricing);
+    add_others(&mut writer, book, others);
     writer.flush()
 }

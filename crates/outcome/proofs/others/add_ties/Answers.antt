@@ -13,5 +13,5 @@ loop-award-preserved g c =
     let all = c.args.awards.now in
     let text = tie_text (sale_of c.args.book.now) in
     let lt : at < length all = omega arith in
-    Adds-to (Adds-then c.loop-award.invariant c.add_tie.ensures)
+    Adds-to (Adds-then c.loop-award.invariant (Adds-then c.add.ensures (rw c.choices.ensures.choices at c.add_allocation.ensures)))
     (ap (λ (a : List Choice). flat_map text (take at all) ++ text a) c.award-item.is ∙ flat_map-next_or text all at c.award-item.result lt)

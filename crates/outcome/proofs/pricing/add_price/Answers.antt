@@ -1,4 +1,4 @@
-use Rattle.std.proofs.Common.{ℕ, ◌∷◌, [], ◌++◌, List, append_assoc}
+use Rattle.std.proofs.Common.{ℕ, ◌∷◌, [], ◌++◌, List, append_assoc, rules}
 use Rattle.bid_desk.specs.Sale.{bidder_name, sale_of}
 use Rattle.byte_sinks.proofs.AddingFacts.{Adds-then, Adds-to}
 use Rattle.outcome.specs.Pricing.{amount_text, in_pounds, price_in}
@@ -13,4 +13,4 @@ returns g c =
     let rest : List ℕ = amount_text pricing.parts paid exact ++ 10 ∷ [] in
     let amount = rw (c.from-2.ensures, c.from.ensures, c.parts.ensures.parts, c.pounds-pounds.ensures, c.price_of-exact.ensures, c.prices.ensures)
     at c.add_amount.ensures in
-    Adds-to (Adds-then {xs = name ++ 32 ∷ []} {ys = rest} c.add_name.ensures amount) (append_assoc name (32 ∷ []) rest)
+    Adds-to (Adds-then {xs = name ++ 32 ∷ []} {ys = rest} (Adds-to c.add_pieces.ensures (search rules)) amount) (append_assoc name (32 ∷ []) rest)

@@ -1,4 +1,5 @@
-use Rattle.std.proofs.Common.{◌≡◌, ◌∙◌, Bool, false, List, [], Option, None, Ok, length, map, unwrap_or, sym, ap, arith}
+use Rattle.std.proofs.Common.{◌≡◌, ◌∙◌, Bool, false, List, [], Option, None, Ok, length, map, unwrap_or, sym, ap, arith, rules}
+use Rattle.std.specs.Prelude.{replicate}
 use Rattle.std.proofs.lemmas.List.{length-map, take_at}
 use Rattle.auction_terms.specs.FirstFault.{first_fault}
 use Rattle.auction_terms.specs.Lines.{lines_of}
@@ -14,7 +15,8 @@ pub take_solution-requires-clause-nothing : goal.take_solution-requires-clause-n
 take_solution-requires-clause-nothing c =
     let names = column_names c.args.program.now in
     let count : c.column_count.result ≡ length names = c.column_count.ensures ∙ sym (length-map c.args.program.now.columns (λ (d : TableColumn). d.name)) in
-    c.deref_mut.ensures.value ∙ c.in_ok-said.ensures ∙ nothing_said names c.column_count.result count
+    let empty : c.in_ok-said.said.items ≡ replicate c.column_count.result None = search rules in
+    c.deref_mut.ensures.value ∙ empty ∙ nothing_said names c.column_count.result count
 
 pub returns : goal.returns
 returns c =
