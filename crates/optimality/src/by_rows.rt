@@ -116,15 +116,6 @@ fn most_of(split: &OpenSplit) -> i128
     }
 }
 
-fn add_most(sum: i128, multiplier: u64, split: &OpenSplit) -> Result<i128, Limit>
-    ensures value { IfOk result (λ n. n ≡ sum +ℤ pos multiplier *ℤ (cut_of split.now).most) }
-    ensures too_large { TooLargeOnly (2 ^ 126 ≤ unsigned_abs sum + multiplier * unsigned_abs
-        (cut_of split.now).most) result }
-{
-    let product = times(i128::from(multiplier), most_of(split))?;
-    plus(sum, product)
-}
-
 /// The sum of the right sides of the cuts, each times its multiplier.
 pub fn cuts_right(multipliers: &[u64], splits: &[OpenSplit]) -> Result<i128, Limit>
     requires { length multipliers.now ≡ length splits.now }
@@ -135,7 +126,8 @@ pub fn cuts_right(multipliers: &[u64], splits: &[OpenSplit]) -> Result<i128, Lim
 {
     let mut sum: i128 = 0;
     for (i, split) in splits.iter().enumerate() {
-        sum = add_most(sum, multipliers[i], split)?;
+        let product = times(i128::from(multipliers[i]), most_of(split))?;
+        sum = plus(sum, product)?;
     }
     Ok(sum)
 }
@@ -179,22 +171,6 @@ fn right_side_at(program: &Selection<'_>, row: usize) -> i64
     }
 }
 
-fn add_right_side(
-    sum: i128,
-    program: &Selection<'_>,
-    row: usize,
-    multiplier: i128,
-) -> Result<i128, Limit>
-    ensures value { IfOk result (λ n. n ≡ sum +ℤ multiplier
-        *ℤ reduced.right_side_at program.now.rows row) }
-    ensures too_large { TooLargeOnly (2 ^ 126 ≤ unsigned_abs sum + unsigned_abs multiplier
-        * unsigned_abs (reduced.right_side_at program.now.rows row)) result }
-{
-    let right_side = i128::from(right_side_at(program, row));
-    let multiple = wide_product(multiplier, right_side)?;
-    plus(sum, multiple)
-}
-
 /// The sum of the right sides of rows, each times its multiplier.
 pub fn rows_right(program: &Selection<'_>, rows: &[(usize, i128)]) -> Result<i128, Limit>
     ensures value { IfOk result (λ n. n ≡ sum_of (λ t. t.1
@@ -204,7 +180,9 @@ pub fn rows_right(program: &Selection<'_>, rows: &[(usize, i128)]) -> Result<i12
 {
     let mut sum: i128 = 0;
     for &(row, multiplier) in rows {
-        sum = add_right_side(sum, program, row, multiplier)?;
+        let right_side = i128::from(right_side_at(program, row));
+        let product = wide_product(multiplier, right_side)?;
+        sum = plus(sum, product)?;
     }
     Ok(sum)
 }
