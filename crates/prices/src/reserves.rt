@@ -1,8 +1,8 @@
 //! The reserves of the lots that winners take.
 
-ghost use Rattle.std.specs.Prelude.{◌≡◌, ◌≤◌, ◌<◌, ◌*◌, ◌^◌, All, length, map, slice_index};
+ghost use Rattle.std.specs.Prelude.{◌≡◌, ◌≤◌, ◌*◌, All, length, map};
 ghost use Rattle.std.specs.Option.{option_map_or};
-ghost use Rattle.auction_terms.specs.declared.limits.TheConstants.{GREATEST_AMOUNT, MOST_CATEGORIES};
+ghost use Rattle.auction_terms.specs.declared.limits.TheConstants.{MOST_CATEGORIES};
 ghost use Rattle.auction_terms.specs.Allocations.{bid_at, weighed_choice};
 ghost use Rattle.auction_terms.specs.Packages.{weighed};
 ghost use Rattle.auction_terms.specs.Terms.{IsCategory};
@@ -12,26 +12,6 @@ ghost use Rattle.prices.specs.Prices.{reserves_in};
 use auction_terms::{Bid, Category, Choice};
 use bid_desk::ClosedBook;
 
-// The reserve of that many lots.
-fn product(reserve: u64, lots: u16) -> u64
-    requires { reserve ≤ GREATEST_AMOUNT }
-    ensures product { result ≡ reserve * lots }
-    ensures limit { result ≤ 10 ^ 17 }
-{
-    reserve * u64::from(lots)
-}
-
-// The reserve at a place, in the words of lists.
-fn reserve_at(categories: &[Category], place: usize) -> u64
-    requires place { place < length categories.now }
-    requires limits { All IsCategory categories.now }
-    ensures reserve { result ≡ slice_index (map (λ category. category.reserve) categories.now)
-        place }
-    ensures limit { result ≤ GREATEST_AMOUNT }
-{
-    categories[place].reserve
-}
-
 fn weighed_reserve(categories: &[Category], quantities: &[u16]) -> u64
     requires few { length categories.now ≤ MOST_CATEGORIES }
     requires limits { All IsCategory categories.now }
@@ -40,7 +20,7 @@ fn weighed_reserve(categories: &[Category], quantities: &[u16]) -> u64
 {
     let mut sum = 0;
     for place in 0..quantities.len().min(categories.len()) {
-        sum += product(reserve_at(categories, place), quantities[place]);
+        sum += categories[place].reserve * u64::from(quantities[place]);
     }
     sum
 }

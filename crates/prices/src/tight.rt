@@ -1,6 +1,6 @@
 //! Whether there are weights only where winners pay no more than they have to.
 
-ghost use Rattle.std.specs.Prelude.{◌≡◌, ◌≤◌, ◌*◌, ◌^◌, ◌==◌, ◌||◌, ◌*ℤ◌, ◌≤ℤ◌, All, cond, false, int_le, length, nat_le, pos};
+ghost use Rattle.std.specs.Prelude.{◌≡◌, ◌≤◌, ◌*◌, ◌^◌, ◌==◌, ◌||◌, ◌*ℤ◌, ◌≤ℤ◌, All, false, int_le, length, nat_le, pos};
 ghost use Rattle.std.specs.List.{AllZip, list_all};
 ghost use Rattle.auction_terms.specs.declared.limits.TheConstants.{GREATEST_AMOUNT, MOST_PARTS};
 ghost use Rattle.auction_terms.specs.Allocations.{weighed_choice};
@@ -55,17 +55,6 @@ fn are_tight_alone(payments: &Payments<'_>, own: &[u64], choices: &[Choice]) -> 
     true
 }
 
-// The price of a winner, if it is in the group.
-fn price_at(group: &Group, prices: &[u64], choice: Choice) -> u64
-    ensures { result ≡ cond (has group.now choice.bidder) (price_in prices.now choice.bidder) 0 }
-{
-    if group.has(choice.bidder) {
-        price_of(prices, choice.bidder)
-    } else {
-        0
-    }
-}
-
 /// What the winners of a group pay.
 fn paid_by(group: &Group, choices: &[Choice], prices: &[u64]) -> u128
     requires { length choices.now ≤ 257 }
@@ -74,7 +63,9 @@ fn paid_by(group: &Group, choices: &[Choice], prices: &[u64]) -> u128
 {
     let mut sum: u128 = 0;
     for choice in choices {
-        sum += u128::from(price_at(group, prices, *choice));
+        if group.has(choice.bidder) {
+            sum += u128::from(price_of(prices, choice.bidder));
+        }
     }
     sum
 }
@@ -99,14 +90,6 @@ fn cost_in_parts(payments: &Payments<'_>, group: &Group, without: &Allocation) -
     i128::from(payments.parts) * cost
 }
 
-// Whether what is paid is at most a cost in parts.
-fn is_at_most(paid: u128, cost: i128) -> bool
-    requires { paid ≤ 257 * 2 ^ 64 }
-    ensures { result ≡ int_le (pos paid) cost }
-{
-    paid as i128 <= cost
-}
-
 /// Whether a group that has a weight pays no more than its opportunity cost.
 fn is_tight(payments: &Payments<'_>, group: &Group, without: &Allocation, weight: u64) -> bool
     requires parts { payments.now.parts ≤ MOST_PARTS }
@@ -125,7 +108,7 @@ fn is_tight(payments: &Payments<'_>, group: &Group, without: &Allocation, weight
     payments.book.within_limits();
     let paid = paid_by(group, payments.first.choices(), payments.prices);
     let cost = cost_in_parts(payments, group, without);
-    is_at_most(paid, cost)
+    paid as i128 <= cost
 }
 
 /// Whether each group that has a weight pays no more than its opportunity cost.

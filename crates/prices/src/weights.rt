@@ -1,6 +1,6 @@
 //! Weights of groups and on winners' reserves.
 
-ghost use Rattle.std.specs.Prelude.{◌≡◌, ◌<◌, ◌≤◌, ◌+◌, ◌*◌, ◌^◌, [], cond, length, slice_index, slice_index_or};
+ghost use Rattle.std.specs.Prelude.{◌≡◌, ◌<◌, ◌≤◌, ◌+◌, ◌*◌, ◌^◌, length};
 ghost use Rattle.auction_terms.specs.Groups.{has};
 ghost use Rattle.outcome.specs.Pricing.{price_in};
 ghost use Rattle.prices.specs.inside.Weighing.{weight_by};
@@ -17,20 +17,6 @@ pub struct Weights<'w> {
     pub own: &'w [u64],
 }
 
-/// The weight of the group at a place, if the bidder is in it.
-fn weight_at(groups: &Groups, weights: &[u64], place: usize, bidder: u16) -> u64
-    requires groups { place < length groups.now }
-    requires weights { place < length weights.now }
-    ensures { result ≡ cond (has (slice_index_or groups.now place []) bidder)
-        (slice_index weights.now place) 0 }
-{
-    if groups.group(place + 1).has(bidder) {
-        weights[place]
-    } else {
-        0
-    }
-}
-
 /// The weights of the groups that a bidder is in.
 fn weight_on(groups: &Groups, weights: &[u64], bidder: u16) -> u128
     requires { length weights.now ≡ length groups.now }
@@ -39,7 +25,9 @@ fn weight_on(groups: &Groups, weights: &[u64], bidder: u16) -> u128
 {
     let mut sum: u128 = 0;
     for place in 0..weights.len() {
-        sum += u128::from(weight_at(groups, weights, place, bidder));
+        if groups.group(place + 1).has(bidder) {
+            sum += u128::from(weights[place]);
+        }
     }
     sum
 }
