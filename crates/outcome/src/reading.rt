@@ -201,27 +201,6 @@ fn values_from(alloc: Global, said: &[Option<bool>]) -> Result<Vec<bool>, AllocE
     said.iter().map(|s| s.unwrap_or(false)).collect(alloc)
 }
 
-/// Notes what the lines say of the columns.
-fn take_solution(
-    alloc: Global,
-    bytes: &[u8],
-    program: &Program,
-    said: &mut [Option<bool>],
-) -> Result<(), SolutionFault>
-    requires sized { length said.old ≡ length (column_names program.now) }
-    requires nothing { said.old ≡ said_by (column_names program.now) [] }
-    requires distinct { IsDistinct bytes_eq (column_names program.now) }
-    requires small { length bytes.now ≤ SOLUTION_LIMIT }
-    ensures answer { Answers is_solution_memory result
-        (unless (first_fault (solution_line_fault (column_names program.now)) []
-        (lines_of bytes.now)) (Ok tt)) }
-    ensures said { OnOk result (said.new ≡ said_by (column_names program.now)
-        (lines_of bytes.now)) }
-{
-    let columns = finder_of(alloc, program)?;
-    take_lines(&columns, said, bytes)
-}
-
 /// The values that the lines give the columns.
 fn read_values(alloc: Global, bytes: &[u8], program: &Program) -> Result<Point, SolutionFault>
     requires distinct { IsDistinct bytes_eq (column_names program.now) }
@@ -231,7 +210,8 @@ fn read_values(alloc: Global, bytes: &[u8], program: &Program) -> Result<Point, 
         (lines_of bytes.now)) (Ok (map (is_one (lines_of bytes.now)) (column_names program.now)))) }
 {
     let mut said = vec![in alloc; None; program.column_count()]?;
-    take_solution(alloc, bytes, program, &mut said)?;
+    let columns = finder_of(alloc, program)?;
+    take_lines(&columns, &mut said, bytes)?;
     Ok(Point::new(values_from(alloc, &said)?))
 }
 
