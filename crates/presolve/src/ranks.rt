@@ -154,7 +154,7 @@ fn are_apart(counts: &[u32], most: u32) -> bool {
     true
 }
 
-// The rank of each number by steps, of which there are only some for each number; none where too many numbers share one.
+// The rank of each number by steps; none where too many numbers share one.
 fn ranks_by_steps(
     alloc: Global,
     numbers: &[u64],
@@ -166,6 +166,7 @@ fn ranks_by_steps(
     let count = numbers.len() as u64;
     let least = least_of(numbers);
     let spread = greatest.saturating_sub(least);
+    // Numbers are shortened by so many bits that there are only some steps for each of them.
     let bits = count
         .leading_zeros()
         .saturating_sub(spread.leading_zeros())
