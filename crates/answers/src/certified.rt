@@ -85,7 +85,7 @@ fn bounds_of<'c>(
             &allocations[place],
             certificates[place],
         );
-        add(&mut bounds, bound)?;
+        bounds.push(bound)?;
     }
     Ok(bounds)
 }
@@ -107,13 +107,6 @@ fn bound_of<'c>(
         least: -(total(book, allocation) as i128),
         certificate,
     }
-}
-
-fn add<'c>(bounds: &mut Vec<ClaimedBound<'c>>, bound: ClaimedBound<'c>) -> Result<(), AllocError>
-    ensures { OnOk result (bounds.new.items ≡ bounds.old.items ++ bound.entry ∷ []) }
-{
-    bounds.push(bound)?;
-    Ok(())
 }
 
 // Checks certificates, side by side, and reports the first faulty one.

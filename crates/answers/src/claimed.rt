@@ -70,7 +70,13 @@ fn tie_fault(alloc: Global, program: &Program, fault: SolutionFault) -> Result<T
             let row = Name::copied(alloc, row_name(program, row))?;
             Ok(TieFault::RowBroken { row })
         }
-        _ => Ok(TieFault::Solution(fault)),
+        SolutionFault::TooLarge
+        | SolutionFault::Fields { .. }
+        | SolutionFault::UnknownColumn { .. }
+        | SolutionFault::RepeatedColumn { .. }
+        | SolutionFault::ValueText { .. }
+        | SolutionFault::NotZeroOne { .. }
+        | SolutionFault::OutOfMemory => Ok(TieFault::Solution(fault)),
     }
 }
 

@@ -9,7 +9,7 @@ ghost use Rattle.clap.specs.Words.{FailsBy, HasKind, Row, fault_of, first_of, fo
 ghost use Rattle.clap.specs.declared.error.kind.ErrorKind.TheVariants as kind;
 ghost use Rattle.answers.specs.Asked as asked;
 ghost use Rattle.answers.specs.Asked.{by_fault, command_line_of, faults_of, for_answer, command_fault, named, option_flag};
-ghost use Rattle.answers.specs.Asked.{explain_options, option_format, option_number, option_target, option_texts, request_named, target_fault, text_of, wdp};
+ghost use Rattle.answers.specs.Asked.{explain_options, option_number, option_target, option_texts, request_named, target_fault, text_of, wdp};
 ghost use Rattle.auction_input.specs.Requests.{IsRequestWithinLimits};
 
 use crate::parser::parser;
@@ -68,17 +68,6 @@ fn has_flag(matches: &ArgMatches<'_>, id: &str) -> bool
     }
 }
 
-// How an explanation is to be printed.
-fn format_of(matches: &ArgMatches<'_>) -> Format
-    ensures { result ≡ option_format (codes "json") (rows_of (found_of matches.now)) }
-{
-    if has_flag(matches, "json") {
-        Format::Json
-    } else {
-        Format::Words
-    }
-}
-
 // The command for which an input is to be explained. Its name was tested before.
 fn target_of(matches: &ArgMatches<'_>) -> Option<Target>
     ensures { result ≡ option_target (codes "for") (rows_of (found_of matches.now)) }
@@ -93,10 +82,15 @@ fn target_of(matches: &ArgMatches<'_>) -> Option<Target>
 fn options_of(matches: &ArgMatches<'_>) -> ExplainOptions
     ensures { result ≡ explain_options (rows_of (found_of matches.now)) }
 {
+    let format = if has_flag(matches, "json") {
+        Format::Json
+    } else {
+        Format::Words
+    };
     ExplainOptions {
         bids: has_flag(matches, "bids"),
         target: target_of(matches),
-        format: format_of(matches),
+        format,
     }
 }
 
@@ -180,19 +174,6 @@ fn read_command(alloc: Global, name: &str, matches: &ArgMatches<'_>) -> Result<C
     })
 }
 
-// What no command says.
-fn no_command(alloc: Global) -> Command
-    ensures line { command_line_of result ≡ named None }
-    ensures limits { IsRequestWithinLimits result.request }
-{
-    Command {
-        request: Request::Text,
-        last_wins: false,
-        files: Vec::new(alloc),
-        output: None,
-    }
-}
-
 // What the words of the command that was found say.
 fn read(alloc: Global, matches: &ArgMatches<'_>) -> Result<Command, AllocError>
     ensures line { IfOk result (λ command. command_line_of command
@@ -201,7 +182,12 @@ fn read(alloc: Global, matches: &ArgMatches<'_>) -> Result<Command, AllocError>
 {
     match matches.subcommand() {
         Some((name, found)) => read_command(alloc, name, found),
-        None => Ok(no_command(alloc)),
+        None => Ok(Command {
+            request: Request::Text,
+            last_wins: false,
+            files: Vec::new(alloc),
+            output: None,
+        }),
     }
 }
 
@@ -284,25 +270,16 @@ fn texts_of<'a>(alloc: Global, words: &'a [String]) -> Result<Vec<&'a str>, Allo
         .collect(alloc)
 }
 
-// Puts `--help` after the words in place of `help` in front of them.
-fn spell_help(texts: &mut Vec<&str>) -> Result<(), AllocError>
-    ensures { OnOk result (map (λ text. text.now) texts.new.items
-        ≡ asked.spelled (map (λ text. text.now) texts.old.items)) }
-{
-    if texts.len() > 1 && texts[1] == "help" {
-        texts.remove(1);
-        texts.push("--help")?;
-    }
-    Ok(())
-}
-
 // The words as the parser takes them: `help` in front of others is put as `--help` after them.
 fn spelled<'a>(alloc: Global, words: &'a [String]) -> Result<Vec<&'a str>, AllocError>
     ensures { IfOk result (λ texts. map (λ text. text.now) texts.items
         ≡ asked.spelled (map text_of words.entry.now)) }
 {
     let mut texts = texts_of(alloc, words)?;
-    spell_help(&mut texts)?;
+    if texts.len() > 1 && texts[1] == "help" {
+        texts.remove(1);
+        texts.push("--help")?;
+    }
     Ok(texts)
 }
 

@@ -165,14 +165,9 @@ fn all_won(
     let mut all = Vec::new(alloc);
     for found in made {
         let number = all.len();
-        add(&mut all, winning.answer(alloc, number, found)?)?;
+        if all.push(winning.answer(alloc, number, found)?).is_err() {
+            return Err(Refusal::OutOfMemory);
+        }
     }
     Ok(all)
-}
-
-fn add(all: &mut Vec<Allocation>, allocation: Allocation) -> Result<(), AllocError>
-    ensures { OnOk result (all.new.items ≡ all.old.items ++ allocation ∷ []) }
-{
-    all.push(allocation)?;
-    Ok(())
 }

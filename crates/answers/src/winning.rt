@@ -142,7 +142,13 @@ fn refused(
             let row = Name::copied(alloc, row_name(program, row))?;
             Ok(Refusal::RowBroken { solution, row })
         }
-        _ => Ok(Refusal::Solution { solution, fault }),
+        SolutionFault::TooLarge
+        | SolutionFault::Fields { .. }
+        | SolutionFault::UnknownColumn { .. }
+        | SolutionFault::RepeatedColumn { .. }
+        | SolutionFault::ValueText { .. }
+        | SolutionFault::NotZeroOne { .. }
+        | SolutionFault::OutOfMemory => Ok(Refusal::Solution { solution, fault }),
     }
 }
 

@@ -67,7 +67,12 @@ fn number_of(reply: &Reply) -> Option<u32>
 {
     match reply {
         Reply::Accepted { number } => Some(*number),
-        _ => None,
+        Reply::Withdrawn { .. }
+        | Reply::Shown { .. }
+        | Reply::Stale { .. }
+        | Reply::Closed { .. }
+        | Reply::RoundOver
+        | Reply::CallLimit => None,
     }
 }
 

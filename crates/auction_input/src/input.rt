@@ -46,6 +46,29 @@ impl From<AllocError> for InputFault {
     }
 }
 
+impl From<InputFault> for Unread {
+    ghost use Rattle.std.specs.Prelude.{◌≡◌};
+    ghost use Rattle.auction_input.specs.declared.input.Unread.TheVariants.{Input};
+
+    ghost from_gives = { λ fault e. e ≡ Input fault };
+
+    fn from(fault: InputFault) -> Unread {
+        Unread::Input(fault)
+    }
+}
+
+impl From<AllocError> for Unread {
+    ghost use Rattle.std.specs.Prelude.{◌≡◌};
+    ghost use Rattle.auction_input.specs.declared.input.InputFault.TheVariants.{OutOfMemory};
+    ghost use Rattle.auction_input.specs.declared.input.Unread.TheVariants.{Input};
+
+    ghost from_gives = { λ _ e. e ≡ Input OutOfMemory };
+
+    fn from(_: AllocError) -> Unread {
+        Unread::Input(InputFault::OutOfMemory)
+    }
+}
+
 // Reads all bytes of a source, and at most one byte more than so many.
 fn read_bytes<I: Read>(
     alloc: Global,
@@ -156,10 +179,7 @@ fn read_named<D: Files, I: Read>(
     if !is_standard_input(name) {
         return read_file(alloc, files, name, place, &mut input.failures, limit);
     }
-    match read_bytes(alloc, input, limit) {
-        Ok(bytes) => Ok(bytes),
-        Err(fault) => Err(Unread::Input(fault)),
-    }
+    Ok(read_bytes(alloc, input, limit)?)
 }
 
 // The fault of the text at a place among so many: with others it may not be empty, and where one follows its last line has an end.
@@ -205,17 +225,8 @@ fn read_text<D: Files, I: Read>(
     if let Some(fault) = fault_among(bytes.as_slice(), place, count) {
         return Err(refused(place, fault));
     }
-    match Vec::from_slice(alloc, name.as_bytes()) {
-        Ok(name) => Ok(NamedText::new(name, bytes)),
-        Err(_) => Err(Unread::Input(InputFault::OutOfMemory)),
-    }
-}
-
-fn add_text(texts: &mut Vec<NamedText>, text: NamedText) -> Result<(), AllocError>
-    ensures { OnOk result (texts.new.items ≡ texts.old.items ++ text ∷ []) }
-{
-    texts.push(text)?;
-    Ok(())
+    let name = Vec::from_slice(alloc, name.as_bytes())?;
+    Ok(NamedText::new(name, bytes))
 }
 
 // Reads the texts of names, in order.
@@ -241,24 +252,11 @@ fn read_each<D: Files, I: Read>(
         let text = read_text(alloc, files, name.as_str(), place, names.len(), input, room)?;
         place += 1;
         room -= text.bytes().len();
-        match add_text(&mut texts, text) {
-            Ok(()) => {}
-            Err(AllocError) => return Err(Unread::Input(InputFault::OutOfMemory)),
+        if texts.push(text).is_err() {
+            return Err(Unread::Input(InputFault::OutOfMemory));
         }
     }
     Ok(texts)
-}
-
-// Reads standard input to its end, as one text by itself.
-fn read_alone<I: Read>(alloc: Global, input: &mut Source<I>) -> Result<Input, InputFault>
-    ensures read { IfOk result (λ read. (bytes : List ℕ) × IsWhole INPUT_LIMIT
-        (I.remaining input.old.reader) (I.remaining input.new.reader) bytes × (read ≡ input_of bytes)) }
-    ensures unfailed { OnOk result (input.new.failures ≡ input.old.failures) }
-    ensures untaken { IfErr result (λ f. IsUntaken INPUT_LIMIT f (I.remaining input.old.reader)
-        (I.remaining input.new.reader) input.old.failures input.new.failures) }
-{
-    let bytes = read_bytes(alloc, input, INPUT_LIMIT)?;
-    Ok(Input::of_text(alloc, bytes)?)
 }
 
 /// Reads the texts of names, in order; without names standard input, as one text by itself. A read of a file that fails is
@@ -277,10 +275,8 @@ pub fn read_inputs<D: Files, I: Read>(
         input.new.failures) }
 {
     if names.is_empty() {
-        return match read_alone(alloc, input) {
-            Ok(read) => Ok(read),
-            Err(fault) => Err(Unread::Input(fault)),
-        };
+        let bytes = read_bytes(alloc, input, INPUT_LIMIT)?;
+        return Ok(Input::of_text(alloc, bytes)?);
     }
     Ok(Input::new(read_each(alloc, files, names, input)?))
 }

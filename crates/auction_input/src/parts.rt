@@ -123,13 +123,6 @@ pub fn without_bytes_before(text: &[u8]) -> &[u8]
     text.split_at(body_end(text)).1
 }
 
-fn add_part<'t>(parts: &mut Vec<Part<'t>>, part: Part<'t>) -> Result<(), AllocError>
-    ensures { OnOk result (parts.new.items ≡ parts.old.items ++ part.entry ∷ []) }
-{
-    parts.push(part)?;
-    Ok(())
-}
-
 // The fault of the part of that number, whose name no command knows.
 fn unknown(part: usize, name: &[u8]) -> PartFault
     ensures { result ≡ unknown_part part name.now }
@@ -165,7 +158,9 @@ fn add_parts<'t>(
             kind,
             bytes: first.bytes,
         };
-        add_part(parts, part)?;
+        if parts.push(part).is_err() {
+            return Err(PartFault::OutOfMemory);
+        }
         rest = first.rest;
     }
     Ok(())

@@ -39,13 +39,6 @@ fn has_price(given: &[GivenPrice], bidder: u16) -> bool
     given.iter().any(|it| it.bidder == bidder)
 }
 
-// The greatest amount, times a denominator.
-fn greatest(denominator: u64) -> u128
-    ensures { result ≡ GREATEST_AMOUNT * denominator }
-{
-    u128::from(GREATEST_AMOUNT) * u128::from(denominator)
-}
-
 // The price that a line at this place gives a winner, after lines whose prices are whole in these parts.
 fn checked_price(
     parts: u64,
@@ -64,7 +57,8 @@ fn checked_price(
     if price.denominator == 0 || price.denominator > MOST_PARTS {
         return Err(PriceFault::DenominatorRange { place });
     }
-    if u128::from(price.numerator) > greatest(price.denominator) {
+    let greatest = u128::from(GREATEST_AMOUNT) * u128::from(price.denominator);
+    if u128::from(price.numerator) > greatest {
         return Err(PriceFault::PriceRange { place });
     }
     if lcm(parts, price.denominator) > MOST_PARTS {

@@ -190,19 +190,16 @@ fn add_forms(forms: &mut Vec<Form>, answers: Vec<Result<Form, FormFault>>) -> Re
 {
     for answer in answers {
         match answer {
-            Ok(form) => add_form(forms, form)?,
+            Ok(form) => {
+                if forms.push(form).is_err() {
+                    return Err(Refusal::OutOfMemory);
+                }
+            }
             Err(fault) => {
                 let form = forms.len() + 1;
                 return Err(Refusal::Form { form, fault });
             }
         }
     }
-    Ok(())
-}
-
-fn add_form(forms: &mut Vec<Form>, form: Form) -> Result<(), AllocError>
-    ensures { OnOk result (forms.new.items ≡ forms.old.items ++ form ∷ []) }
-{
-    forms.push(form)?;
     Ok(())
 }

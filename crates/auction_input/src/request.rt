@@ -34,7 +34,7 @@ impl Target {
 /// What `explain` is asked.
 #[derive(Clone, Copy)]
 pub struct ExplainOptions {
-    /// Whether it tells, of an input without a fault, which bids are in no program.
+    /// Whether it prints, of an input without a fault, which bids are in no program.
     pub bids: bool,
     /// The command as which the input is taken, if one is named.
     pub target: Option<Target>,

@@ -321,7 +321,9 @@ fn fault_of(cause: &Cause) -> RoundFault
 {
     match cause {
         Cause::OutOfMemory => RoundFault::OutOfMemory,
-        _ => RoundFault::WrongAnswer,
+        Cause::StillOpen | Cause::Sessions { .. } | Cause::Differs { .. } => {
+            RoundFault::WrongAnswer
+        }
     }
 }
 
@@ -332,7 +334,12 @@ fn was_open(reply: &Reply) -> bool
 {
     match reply {
         Reply::Closed { was_open } => *was_open,
-        _ => false,
+        Reply::Accepted { .. }
+        | Reply::Withdrawn { .. }
+        | Reply::Shown { .. }
+        | Reply::Stale { .. }
+        | Reply::RoundOver
+        | Reply::CallLimit => false,
     }
 }
 

@@ -1,4 +1,4 @@
-use Rattle.std.proofs.Common.{◌≡◌, ◌<◌, ◌≤◌, ◌+◌, ◌-◌, ◌∷◌, ◌∙◌, [], ℕ, List, Ok, Option, sym, subst, ap, arith, length, length-append}
+use Rattle.std.proofs.Common.{◌≡◌, ◌<◌, ◌≤◌, ◌+◌, ◌-◌, ◌∷◌, ◌++◌, ◌∙◌, [], ℕ, List, Ok, Option, rules, sym, subst, ap, arith, length, length-append}
 use Rattle.std.proofs.lemmas.List.{length-map}
 use Rattle.auction_terms.specs.declared.bids.Choice.{Choice}
 use Rattle.auction_terms.specs.Lines.{bytes_of}
@@ -73,14 +73,15 @@ loop-found-preserved c =
     let within : length all < length w.compiler.now.groups = (let some = next.0 in let sum = made.1 in omega arith) in
     let number : c.len-number.result ≡ length all = (let count = c.len-number.ensures in omega (arith, c.loop-found.all.ok.0)) in
     let tells = subst (λ (n : ℕ). winners_at (sale_of w.compiler.now.book) w.compiler.now.groups texts n ≡ Ok won) number c.in_ok-answer.ensures.0 in
-    let grown : length c.add.new.all.items ≡ length all + 1 = ap (λ (xs : List (List Choice)). length xs) c.in_ok-add.ensures ∙ length-append all (won ∷ []) in
+    let pushed : c.push.new.self.items ≡ all ++ won ∷ [] = search rules in
+    let grown : length c.push.new.self.items ≡ length all + 1 = ap (λ (xs : List (List Choice)). length xs) pushed ∙ length-append all (won ∷ []) in
     record {
       made = (
         made.0 - 1,
         (let some = next.0 in let sum = made.1 in omega arith),
         subst (λ (n : ℕ). MadeFrom w.compiler.now texts n (made.0 - 1) rest) (sym grown) next.2,
       );
-      left = subst (IsLeftFrom w.compiler.now texts) (sym c.in_ok-add.ensures)
+      left = subst (IsLeftFrom w.compiler.now texts) (sym pushed)
           (left-on w.compiler.now texts (as-long w) all won within c.loop-found.invariant.left tells);
     }
 

@@ -1,4 +1,4 @@
-use Rattle.std.proofs.Common.{◌≤◌, ◌+◌, ◌++◌, ◌∷◌, ◌∙◌, [], ℕ, List, ap, arith, length, refl, sym, take}
+use Rattle.std.proofs.Common.{◌≡◌, ◌≤◌, ◌+◌, ◌++◌, ◌∷◌, ◌∙◌, [], ℕ, List, ap, arith, length, refl, rules, sym, take}
 use Rattle.std.proofs.lemmas.List.{length-map, length-take-le, map-append, take_more}
 use Rattle.auction_input.specs.FileTexts.{IsUnreadOf, memory_short, named_files}
 use Rattle.auction_input.specs.declared.input.InputFault.TheVariants as input
@@ -25,14 +25,14 @@ loop-name-preserved g c =
     let next = ap named_files item ∙ map-append (λ name. name.bytes.items) (take i names) (x ∷ [])
     ∙ ap (λ (n : List ℕ). named_files (take i names) ++ n ∷ []) (sym (c.in_ok-text.ensures.name ∙ c.as_str.ensures.value)) in
     let here = so.at ∙ sym (length-map (take i names) (λ name. name.bytes.items) ∙ length-take-le i names (omega arith)) in
-    let added = c.in-Ok.ensures in
+    let added : c.push.new.self.items ≡ old ++ given ∷ [] = search rules in
     let more = read-more content (named_files (take i names)) _ _ _ old given so.read c.in_ok-text.ensures.text in
     let sound = sound-more content (named_files (take i names)) _ _ old given c.loop-name.place (length names) so.read here so.sound
     c.in_ok-text.ensures.sound in
     let small = c.in_ok-text.ensures.within in record {
       read = rw (next, added) more;
       sound = rw added sound;
-      fit = bytes-more old c.add_text.new.texts.items given c.loop-name.room INPUT_LIMIT _ added so.fit (ap length c.bytes.ensures) small;
+      fit = bytes-more old c.push.new.self.items given c.loop-name.room INPUT_LIMIT _ added so.fit (ap length c.bytes.ensures) small;
       unfailed = c.in_ok-text.ensures.unfailed ∙ so.unfailed;
       at = omega arith;
     }
@@ -53,8 +53,8 @@ returns-in_err-text-clause-unread g c =
     (unread-next shelf names i x _ c.loop-name.place c.loop-name.room f _ _ _ _ _ _ c.loop-name.texts.items item c.as_str.ensures.value so.at (omega arith)
     so.unfailed so.read so.sound so.fit c.in_err-text.ensures.unread)
 
-pub returns-in-Err-clause-unread : goal.returns-in-Err-clause-unread
-returns-in-Err-clause-unread g c =
+pub returns-then-is_err-clause-unread : goal.returns-then-is_err-clause-unread
+returns-then-is_err-clause-unread g c =
     let shelf = g.D.Files.shelf c.args.files.now in
     let so = c.loop-name.invariant in
     let names = c.args.names.now in

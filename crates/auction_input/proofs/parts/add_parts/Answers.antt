@@ -18,11 +18,12 @@ loop-rest-preserved c =
     let p = part number first.result.head.now first.result.bytes.now in
     let k = c.in-Some.kind in
     let old = c.loop-rest.parts.items in
-    let new = c.add_part.new.parts.items in
+    let new = c.push.new.self.items in
     let all = parts_in number (cut_lines text) in
     let kind : kind_named asked (part_name first.result.head.now) ≡ Some k = rw c.head_name.ensures at (sym c.kind_named.ensures ∙ c.in-Some.is) in
+    let pushed : new ≡ old ++ record { text = number; kind = k; bytes = first.result.bytes } ∷ [] = search rules in
     let grown : parts_held new ≡ parts_held old ++ p ∷ [] = held-more old new asked (part_name first.result.head.now)
-    (record { text = number; kind = k; bytes = first.result.bytes }) kind c.in_ok-add_part.ensures in (
+    (record { text = number; kind = k; bytes = first.result.bytes }) kind pushed in (
       subst (λ (held : List Part). CheckedAfter asked (parts_held c.args.parts.now.items) all held
           (parts_in number (cut_lines first.result.rest.now))) (sym grown)
           (after-more asked (parts_held c.args.parts.now.items) all (parts_held old) (parts_in number (cut_lines c.loop-rest.rest.now))
