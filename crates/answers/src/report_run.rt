@@ -1,6 +1,6 @@
 //! What the solutions of all groups win.
 
-ghost use Rattle.std.specs.Prelude.{◌≡◌, ◌≤◌, ◌<◌, ◌++◌, ◌∷◌, [], IfErr, IfOk, Ok, OnOk, length, slice_index_or, true};
+ghost use Rattle.std.specs.Prelude.{◌≡◌, ◌≤◌, ◌<◌, [], IfErr, IfOk, Ok, OnOk, length, slice_index_or, true};
 ghost use Rattle.auction_terms.specs.declared.limits.TheConstants.{MOST_WORKERS};
 ghost use Rattle.auction_terms.specs.Groups.{starts_empty};
 ghost use Rattle.bid_desk.specs.Sale.{sale_of};

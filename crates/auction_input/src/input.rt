@@ -1,8 +1,7 @@
 //! Reading the input.
 
-ghost use Rattle.std.specs.Prelude.{◌≡◌, ◌≢◌, ◌≤◌, ◌<◌, ◌++◌, ◌∷◌, [], ℕ, IfErr, IfOk, List, None, OnOk, Option, false, length};
+ghost use Rattle.std.specs.Prelude.{◌≡◌, ◌≢◌, ◌≤◌, ◌<◌, ℕ, IfErr, IfOk, List, None, OnOk, Option, false, length};
 ghost use Rattle.auction_input.specs.FileTexts.{AreRead, AreSound, IsContent, IsInputRead, IsTextOf, IsTextUnread, IsUnread, IsUnreadOf, bytes_in, fault_among, is_standard_input, named_files, refused_at};
-ghost use Rattle.auction_input.specs.Input.{input_of};
 ghost use Rattle.auction_input.specs.inside.FileTexts.{file_unread};
 ghost use Rattle.auction_input.specs.ReadInput.{IsUntaken, IsWhole};
 

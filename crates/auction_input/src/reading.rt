@@ -1,6 +1,6 @@
 //! Reading the parts of the input.
 
-ghost use Rattle.std.specs.Prelude.{◌≡◌, ◌++◌, ◌∷◌, [], All, IfErr, IfOk, Ok, OnOk, length};
+ghost use Rattle.std.specs.Prelude.{◌≡◌, All, IfErr, IfOk, Ok, OnOk, length};
 ghost use Rattle.std.specs.List.{AllZip};
 ghost use Rattle.bid_forms.specs.Offers.{Meets};
 ghost use Rattle.auction_input.specs.Refused.{Refuses};

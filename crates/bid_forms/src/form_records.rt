@@ -1,7 +1,7 @@
 //! The records of a form: its header, and each bid after those before it.
 
-ghost use Rattle.std.specs.Prelude.{◌≡◌, ◌≢◌, ◌≤◌, ◌+◌, ◌++◌, [], ◌∷◌, None, Some, All as AllAre, IfErr, IfOk, MatchOption, OnOk, ⊤};
-ghost use Rattle.std.specs.Prelude.{codes, drop, false, if◌then◌else◌, is_none, length, option_map, option_to_list, true};
+ghost use Rattle.std.specs.Prelude.{◌≡◌, ◌≢◌, ◌≤◌, ◌+◌, ◌++◌, [], ◌∷◌, None, Some, All as AllAre, IfOk, MatchOption, OnOk, ⊤};
+ghost use Rattle.std.specs.Prelude.{codes, drop, false, length, option_map, true};
 ghost use Rattle.std.specs.Bool.{MatchBool};
 ghost use Rattle.csv.specs.Records.{fields_of};
 ghost use Rattle.auction_terms.specs.AllFaults.{accepted_with, or_else};
@@ -13,9 +13,9 @@ ghost use Rattle.auction_terms.specs.RulesText.{field_number};
 ghost use Rattle.auction_terms.specs.Terms.{IsCategory};
 ghost use Rattle.auction_terms.specs.declared.limits.TheConstants.{MOST_CATEGORIES};
 ghost use Rattle.auction_terms.specs.declared.bids.Bid.{Bid};
-ghost use Rattle.bid_forms.specs.FormText.{amount_checks, bid_faults, count_checks, field_faults, form_room_checks};
+ghost use Rattle.bid_forms.specs.FormText.{amount_checks, bid_faults, field_faults};
 ghost use Rattle.bid_forms.specs.FormText.{form_header_checks, is_number_text, is_small_text, package_checks, package_faults, parsed_bid};
-ghost use Rattle.bid_forms.specs.FormText.{quantity_faults, repeat_checks, reserve_checks};
+ghost use Rattle.bid_forms.specs.FormText.{quantity_faults, repeat_checks};
 ghost use Rattle.bid_forms.specs.declared.form_text.FormFault.TheVariants as fault;
 ghost use Rattle.bid_forms.specs.inside.Fingerprints.{AreSeen};
 ghost use Rattle.bid_forms.specs.inside.FormText.{IsAmountOf, reserve_faults};
