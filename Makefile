@@ -1,4 +1,4 @@
-# Installs below DESTDIR and PREFIX, and takes away again: the program as it comes with the tree, the Python package with its
+# Installs below DESTDIR and PREFIX, and takes away again: the programs as they come with the tree, the Python package with its
 # command wdp-office, manual pages, completion, documents and examples. debian/ makes a package of the same.
 PREFIX = /usr/local
 DESTDIR =
@@ -14,7 +14,7 @@ SHELL = /bin/sh
 export PREFIX DESTDIR ZSH PYTHON
 
 # all that is installed, below PREFIX
-INSTALLED = bin/wdp bin/wdp-office lib/wdp share/doc/wdp share/man/man1/wdp.1 share/man/man1/wdp-office*.1 \
+INSTALLED = bin/wdp bin/wdp-desk bin/wdp-office bin/wdp-solve lib/wdp share/doc/wdp share/man/man1/wdp.1 share/man/man1/wdp-office*.1 \
 	share/bash-completion/completions/wdp share/bash-completion/completions/wdp-office "$$ZSH/_wdp" "$$ZSH/_wdp-office" "$$PYTHON/wdp"
 
 help:
@@ -35,13 +35,18 @@ install:
 	made=$$(mktemp -d)
 	trap 'rm -rf "$$made"' EXIT
 	tools/prebuild --check > /dev/null || { echo 'make: prebuilt/ is of other sources, and nothing is installed; tools/prebuild renews it' >&2; exit 1; }
-	gzip -dc prebuilt/wdp.gz > "$$made/wdp"
-	chmod 755 "$$made/wdp"
-	tools/make_manuals "$$made/wdp" "$$made"
+	mkdir "$$made/bin"
+	for packed in prebuilt/*.gz
+	do
+		program=$$made/bin/$$(basename "$$packed" .gz)
+		gzip -dc "$$packed" > "$$program"
+		chmod 755 "$$program"
+	done
+	tools/make_manuals "$$made/bin/wdp" "$$made"
 	mkdir -p "$$DESTDIR$$PREFIX/"
 	to=$$(cd -- "$$DESTDIR$$PREFIX/" && pwd)
 	(cd "$$to" && rm -rf $(INSTALLED))
-	install -D -t "$$to/bin" "$$made/wdp"
+	install -D -t "$$to/bin" "$$made"/bin/*
 	install -D -m 644 -t "$$to/share/doc/wdp/prebuilt" prebuilt/record
 	mkdir -p "$$to/$$PYTHON" "$$to/share/doc/wdp"
 	(cd python/src && tar -c --exclude=__pycache__ wdp) | tar -x --no-same-owner -C "$$to/$$PYTHON"

@@ -1,4 +1,4 @@
-"""What all tests have: the program that is tried, a library that makes its streams or its system fail, and the rule that a test
+"""What all tests have: the programs that are tried, a library that makes its streams or its system fail, and the rule that a test
 that isn't run has failed, unless it lacks one of the libraries of Python that WITHOUT_LIBRARIES hides."""
 
 from __future__ import annotations
@@ -11,29 +11,32 @@ from pathlib import Path
 from typing import Any
 
 import pytest
-from trials.program import ROOT, of_these_sources
+from trials.program import ROOT, list_programs, of_these_sources
 
 NO_PROGRAM = "there is no program of these sources: ./build makes one"
 MAY_LACK = [f"{name} isn't there" for name in os.environ.get("WITHOUT_LIBRARIES", "").split()]
 
 
 def pytest_addoption(parser: pytest.Parser) -> None:
-    about = "the program that is tried; by default the one built here, or else the one in prebuilt/"
-    parser.addoption("--wdp", metavar="PROGRAM", help=about)
+    about = "a program that is tried; by default the one built here, or else the one in prebuilt/"
+    for name in list_programs():
+        parser.addoption(f"--{name}", metavar="PROGRAM", help=about)
 
 
 def pytest_configure(config: pytest.Config) -> None:
-    given = config.option.wdp
-    if given is None:
-        # (processes side by side get what the first one found)
-        folder = tempfile.TemporaryDirectory(prefix="wdp-tried-")
-        config.add_cleanup(folder.cleanup)
-        os.chmod(folder.name, 0o755)
-        given = of_these_sources(folder.name)
-    elif given and (not os.access(given, os.X_OK) or os.path.isdir(given)):
-        raise pytest.UsageError(f"{given}: no program")
-    config.option.wdp = os.path.abspath(given) if given else ""
-    os.environ["WDP"] = config.option.wdp or NO_PROGRAM
+    # (processes side by side get what the first one found)
+    folder = tempfile.TemporaryDirectory(prefix="wdp-tried-")
+    config.add_cleanup(folder.cleanup)
+    os.chmod(folder.name, 0o755)
+    for name in list_programs():
+        option = name.replace("-", "_")
+        given = getattr(config.option, option)
+        if given is None:
+            given = of_these_sources(folder.name, name)
+        elif given and (not os.access(given, os.X_OK) or os.path.isdir(given)):
+            raise pytest.UsageError(f"{given}: no program")
+        setattr(config.option, option, os.path.abspath(given) if given else "")
+        os.environ[option.upper()] = getattr(config.option, option) or NO_PROGRAM
 
 
 @pytest.hookimpl(hookwrapper=True)  # type: ignore[misc]
@@ -61,9 +64,13 @@ def pytest_sessionfinish(session: pytest.Session) -> None:
 
 @pytest.fixture(scope="session")
 def wdp(pytestconfig: pytest.Config) -> str:
-    if not pytestconfig.option.wdp:
+    return find_program(pytestconfig, "wdp")
+
+
+def find_program(config: pytest.Config, option: str) -> str:
+    if not getattr(config.option, option):
         pytest.fail(NO_PROGRAM, pytrace=False)
-    return str(pytestconfig.option.wdp)
+    return str(getattr(config.option, option))
 
 
 @pytest.fixture(scope="session")

@@ -18,7 +18,7 @@ def program(given: str | None) -> str:
         return os.path.abspath(given)
     subprocess.run([WDP, "--version"], stdout=subprocess.DEVNULL, check=True)
     record = Path(ROOT, "prebuilt", "record").read_text()
-    folder = Path(ROOT, "prebuilt", "out", record.partition("program ")[2].partition("\n")[0])
+    folder = Path(ROOT, "prebuilt", "out", record.partition("program wdp ")[2].partition("\n")[0])
     return str(next((path for path in (folder / "built", folder / "wdp") if path.exists()), WDP))
 
 

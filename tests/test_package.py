@@ -37,10 +37,14 @@ def run(*words, **how):
 def copied(root: Path, program: Path) -> Path:
     """A copy of the tree, whose program is the one that is tried."""
     shutil.copytree(ROOT, root, symlinks=True, ignore=shutil.ignore_patterns(*KEPT_OUT))
-    data, sources = program.read_bytes(), run("tools/program_sources", cwd=root, check=True).stdout
-    (root / "prebuilt" / "wdp.gz").write_bytes(gzip.compress(data))
-    told = f"sources {sources}program {sha256(data).hexdigest()}\ntoolchain none\n"
-    (root / "prebuilt" / "record").write_text(told)
+    prebuilt = root / "prebuilt"
+    (prebuilt / "wdp.gz").write_bytes(gzip.compress(program.read_bytes()))
+    lines = [f"sources {run('tools/program_sources', cwd=root, check=True).stdout.strip()}"]
+    for path in sorted(prebuilt.glob("*.gz")):
+        lines.append(
+            f"program {path.stem} {sha256(gzip.decompress(path.read_bytes())).hexdigest()}"
+        )
+    (prebuilt / "record").write_text("\n".join([*lines, "toolchain none\n"]))
     return root
 
 

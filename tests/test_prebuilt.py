@@ -30,7 +30,7 @@ class Tree:
     def put(self, program: bytes, recorded: bytes | None = None, sources: str = "none") -> None:
         (self.root / "prebuilt" / "wdp.gz").write_bytes(gzip.compress(program))
         name = sha256(recorded or program).hexdigest()
-        told = f"sources {sources}\nprogram {name}\ntoolchain none\n"
+        told = f"sources {sources}\nprogram wdp {name}\ntoolchain none\n"
         (self.root / "prebuilt" / "record").write_text(told)
 
     def run(self, *words: str | Path, **more: str) -> tuple[int, bytes, bytes]:
@@ -47,6 +47,7 @@ def tree(tmp_path: Path) -> Tree:
     tree = Tree(tmp_path / "a tree\n", tmp_path / "home")
     (tree.root / "prebuilt").mkdir(parents=True)
     shutil.copy(Path(ROOT, "wdp"), tree.root)
+    shutil.copy(Path(ROOT, "prebuilt", "run"), tree.root / "prebuilt")
     tree.home.mkdir()
     tree.put(PACKED)
     return tree
@@ -114,7 +115,12 @@ def test_what_the_record_says_of(tmp_path: Path) -> None:
     left_out = "out .git cases must-fail *_tests __pycache__ python".split()
     shutil.copytree(ROOT, tree.root, ignore=shutil.ignore_patterns(*left_out))
     program = gzip.decompress((tree.root / "prebuilt/wdp.gz").read_bytes())
-    tree.put(program, sources=tree.run("tools/program_sources")[1].decode().strip())
+    lines = [f"sources {tree.run('tools/program_sources')[1].decode().strip()}"]
+    for path in sorted((tree.root / "prebuilt").glob("*.gz")):
+        lines.append(
+            f"program {path.stem} {sha256(gzip.decompress(path.read_bytes())).hexdigest()}"
+        )
+    (tree.root / "prebuilt/record").write_text("\n".join([*lines, "toolchain none\n"]))
 
     def checks() -> bool:
         return tree.run("tools/prebuild", "--check")[0] == 0
