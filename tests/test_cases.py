@@ -11,6 +11,7 @@ import re
 import pytest
 from commands import ROOT
 from trials import cases, faults
+from trials.cases import list_cases, parse_case, read_case
 from trials.explain_details import NUMBERED, is_line_of
 from trials.program_runs import done, refused, seen
 from wdp import Refused
@@ -21,9 +22,87 @@ TEXTS = ROOT / "fixtures/solvers"
 ANSWERS = dict(line.split(": ", 1) for line in (TEXTS / "answers.txt").read_text().splitlines())
 
 
-@pytest.mark.parametrize("case", cases.names())
-def test_case(wdp, case):
-    assert seen(wdp, cases.words(case), cases.content(case, "stdin")) == cases.wanted(case)
+@pytest.mark.parametrize("name", list_cases())
+def test_case(wdp, name):
+    case = read_case(name)
+    assert seen(wdp, case.words(), case.stdin) == case.wanted()
+
+
+# the parts of a case, which have what a head looks like, a CR, bytes that are no text, and no last LF
+PARTS = {
+    "args": b"explain\n--bids\n",
+    "stdin": b"%form\n=== stdin 3 ===\nabc\r",
+    "stdout": b"\n\xff\x00\n=== status 1 ===\n",
+    "stderr": b"",
+    "status": b"1\n",
+}
+HEADS = {name: b"=== %s %d ===\n" % (name.encode(), len(it)) for name, it in PARTS.items()}
+# the part that comes first names what is wrong with the head after it
+FIRST = {"args": "args", **dict(zip(list(PARTS)[1:], PARTS))}
+
+
+def make_case(**heads: bytes) -> bytes:
+    """The text of the case, with these heads in place of its own."""
+    parts = PARTS.items()
+    return b"".join(heads.get(name, HEADS[name]) + text + b"\n" for name, text in parts)
+
+
+def test_the_parts_of_a_case():
+    case = parse_case(make_case())
+    assert case._asdict() == PARTS
+    assert case.words() == [b"explain", b"--bids"]
+    assert case.wanted() == (1, PARTS["stdout"], b"")
+
+
+@pytest.mark.parametrize("name", PARTS)
+@pytest.mark.parametrize("more", [-2, -1, 1, 2, 40, 10**8])
+def test_a_head_with_another_length(name, more):
+    size = len(PARTS[name])
+    head = b"=== %s %d ===\n" % (name.encode(), max(size + more, 0) or 1)
+    with pytest.raises(ValueError, match=f"^{name} has .* by its head, and {size} in the file$"):
+        parse_case(make_case(**{name: head}))
+
+
+@pytest.mark.parametrize("name", PARTS)
+@pytest.mark.parametrize(
+    "old, new",
+    [
+        (b" ===", b""),
+        (b"=== ", b"== "),
+        (b" ", b"s "),
+        (b" ", b"  "),
+        (b"\n", b"\r\n"),
+        (b" ===", b"x ==="),
+    ],
+)
+def test_a_head_that_is_none(name, old, new):
+    with pytest.raises(ValueError, match=f"^({name}|{FIRST[name]}|.*'=== {name} LENGTH ===')"):
+        parse_case(make_case(**{name: HEADS[name].replace(old, new)}))
+
+
+@pytest.mark.parametrize("name", PARTS)
+def test_a_head_that_comes_twice_or_not_at_all(name):
+    for head in (HEADS[name] * 2, HEADS[name] + PARTS[name] + b"\n" + HEADS[name], b""):
+        with pytest.raises(
+            ValueError, match=f"^({name}|{FIRST[name]}) has|'=== {name} LENGTH ==='"
+        ):
+            parse_case(make_case(**{name: head}))
+
+
+def test_a_case_that_is_cut_or_goes_on():
+    text = make_case()
+    for size in range(len(text)):
+        with pytest.raises(ValueError, match="has|LENGTH"):
+            parse_case(text[:size])
+    with pytest.raises(ValueError, match="^status has 2 bytes by its head, and 3 in the file$"):
+        parse_case(text + b"\n")
+
+
+def test_a_damaged_case_is_named(tmp_path, monkeypatch):
+    monkeypatch.setattr(cases, "CASES", tmp_path)
+    (tmp_path / "one").write_bytes(make_case()[:-1])
+    with pytest.raises(ValueError, match="^cases/one: status has 2 bytes"):
+        read_case("one")
 
 
 @pytest.mark.parametrize("name", sorted({*ANSWERS, *(it.name for it in TEXTS.glob("*.mps"))}))

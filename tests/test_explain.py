@@ -12,7 +12,8 @@ from collections import Counter
 import pytest
 from damage import ACCEPTED, damage_input
 from tied_auctions import input_text, random_auction
-from trials import cases, left_out
+from trials import left_out
+from trials.cases import Case, list_cases, read_case
 from trials.explain_details import is_line_of
 from trials.faulty_inputs import PLANTED, limits, planted
 from trials.program_runs import row, seen
@@ -93,21 +94,22 @@ def expect_all(wdp, text, wanted):
     assert is_line_of(wanted[0] if wanted else "", refusal_of(wdp, text))
 
 
-def is_of_an_input(case):
+def is_of_an_input(case: Case) -> bool:
     """Whether a case has an input that no command is named for; the cases of `--for` have all that is printed."""
-    words = cases.words(case)
+    words = case.words()
     others = {b"help", b"--help", b"-h", b"--version", b"-V"} & set(words)
     others |= {word for word in words if word.startswith(b"--for")}
-    return not others and cases.wanted(case)[0] < 2
+    return not others and case.wanted()[0] < 2
 
 
-@pytest.mark.parametrize("case", filter(is_of_an_input, cases.names()))
-def test_case(wdp, case):
+@pytest.mark.parametrize("name", [it for it in list_cases() if is_of_an_input(read_case(it))])
+def test_case(wdp, name):
     """What is refused for its rules, forms or groups is told; nothing is, where the fault is elsewhere, but of the parts."""
-    (status, _, said), text = cases.wanted(case), cases.content(case, "stdin")
-    refusal = line_of(said) if OF_AUCTIONS.match(line_of(said)) else fault_of_parts(text)
-    is_explained = status == 1 and not said
-    expect_first(wdp, text, refusal_of(wdp, text) if is_explained else refusal)
+    case = read_case(name)
+    line = line_of(case.stderr)
+    refusal = line if OF_AUCTIONS.match(line) else fault_of_parts(case.stdin)
+    is_explained = case.wanted()[0] == 1 and not case.stderr
+    expect_first(wdp, case.stdin, refusal_of(wdp, case.stdin) if is_explained else refusal)
 
 
 @pytest.mark.parametrize("first", range(0, 700, DAMAGES))

@@ -18,7 +18,7 @@ from pathlib import Path
 import pytest
 from damage import ACCEPTED, damage_input
 from tied_auctions import input_text, random_auction
-from trials import cases
+from trials.cases import Case, list_cases, read_case
 from trials.faulty_inputs import PLANTED, limits, planted
 from trials.program_runs import row, seen
 from trials.planted import MOST_LINES
@@ -136,21 +136,22 @@ def words_for(command):
     return ["--for", command] if command else []
 
 
-def is_explained(case):
+def is_explained(case: Case) -> bool:
     """Whether a case is of an input that `explain` takes."""
-    words = cases.words(case)
-    return words[:1] == [b"explain"] and b"--help" not in words and cases.wanted(case)[0] < 2
+    words = case.words()
+    return words[:1] == [b"explain"] and b"--help" not in words and case.wanted()[0] < 2
 
 
-CASES = [case for case in cases.names() if is_explained(case)]
+CASES = [name for name in list_cases() if is_explained(read_case(name))]
 OPTIONS = list(itertools.product(COMMANDS, ([], ["--bids"])))
 
 
-@pytest.mark.parametrize("case", CASES)
-def test_case(wdp, case):
+@pytest.mark.parametrize("name", CASES)
+def test_case(wdp, name):
+    text = read_case(name).stdin
     for command, more in OPTIONS:
         with row(f"for {command} {more}"):
-            expect_same(wdp, words_for(command) + more, cases.content(case, "stdin"))
+            expect_same(wdp, words_for(command) + more, text)
 
 
 def cut_at_heads(text):
@@ -167,9 +168,9 @@ def write_files(folder, texts):
     return names
 
 
-@pytest.mark.parametrize("case", CASES)
-def test_case_in_several_files(wdp, tmp_path, case):
-    names = write_files(tmp_path, cut_at_heads(cases.content(case, "stdin")))
+@pytest.mark.parametrize("name", CASES)
+def test_case_in_several_files(wdp, tmp_path, name):
+    names = write_files(tmp_path, cut_at_heads(read_case(name).stdin))
     for command, more in OPTIONS:
         for last in ([], ["--last-wins"]):
             words = [*words_for(command), *more, *last, "--", *names]
@@ -246,7 +247,7 @@ def test_another_form(wdp, tmp_path, line):
 
 
 def test_the_file_of_the_output_has_the_objects(wdp, tmp_path):
-    text = cases.content("explain_all_faults", "stdin")
+    text = read_case("explain_all_faults").stdin
     printed = seen(wdp, ["explain", "--json"], text)[1]
     assert seen(wdp, ["explain", "--json", "-o", "out"], text, cwd=tmp_path) == (1, b"", b"")
     assert (tmp_path / "out").read_bytes() == printed

@@ -13,6 +13,7 @@ from pathlib import Path
 
 import pytest
 from commands import ROOT, list_files
+from trials.cases import read_case
 from wdp import cli
 
 SYSTEM = "/usr/sbin:/usr/bin:/sbin:/bin"
@@ -138,7 +139,7 @@ def test_what_was_installed_runs_from_another_folder(there, folder, tmp_path):
         done = run(*words, cwd=tmp_path, env={**env, **more})
         return done.returncode, done.stdout
 
-    text = (ROOT / "cases/one_form/stdout").read_text()
+    text = read_case("one_form").stdout.decode()
     assert here("wdp", "text", shown / "one_form.txt") == (0, text)
     rules, forms, faulty, groups = (
         shown / "office" / name for name in ("rules.csv", "forms", "faulty", "groups.txt")

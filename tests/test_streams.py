@@ -12,7 +12,7 @@ from functools import partial
 
 import pytest
 from commands import ROOT, read_text
-from trials import cases
+from trials.cases import read_case
 from trials.program_runs import TIME_LIMIT, done, encoded, refusals, refused, row, seen, written_of
 from trials.worked import FOUR_COLUMNS, GAMMA, NO_COLUMN, ONE_COLUMN, SOLUTION_OF_ALL, WINNERS
 from trials.worked import auction, rules_and
@@ -23,7 +23,8 @@ STACK, LEAST_STACK = 512 << 10, 128 << 10
 
 # Each command with an input and its output; and with the most groups there are, each the empty one: outputs of half a megabyte.
 NAMES = "one_form compile_gamma_and_all check_one_form map_three_winners report_cost_of_beta_by_2".split()
-COMMANDS = {it: (cases.words(it), cases.content(it, "stdin"), cases.wanted(it)[1]) for it in NAMES}
+CASES = {name: read_case(name) for name in NAMES}
+COMMANDS = {name: (it.words(), it.stdin, it.stdout) for name, it in CASES.items()}
 TEXT, NUMBERS = rules_and(GAMMA), range(1, 1025)
 LONG = auction("-\n" * len(NUMBERS))
 LONG_OUTPUT = "".join(f"* program {k} -\n{FOUR_COLUMNS}" for k in NUMBERS)
@@ -262,15 +263,15 @@ verify_two_equal_bids_tie verify_tie_through_a_dropped_bid verify_tie_of_a_broke
 explain_nothing_wrong explain_bids_each_reason"""
 
 
-@pytest.mark.parametrize("case", SMALL.split())
-def test_each_request_is_refused(wdp, failing, tmp_path, case):
+@pytest.mark.parametrize("name", SMALL.split())
+def test_each_request_is_refused(wdp, failing, tmp_path, name):
     """Run n refuses its allocation or thread start n, until runs meet no refusal."""
-    words, text, wanted = cases.words(case), cases.content(case, "stdin"), cases.wanted(case)
+    case = read_case(name)
     number = 0
     for number, is_refused, env in refusals(failing, tmp_path):
-        given = seen(wdp, words, text, env=env)
+        given = seen(wdp, case.words(), case.stdin, env=env)
         with row(f"request {number}"):
-            assert given == wanted or is_refused() and given == OUT_OF_MEMORY
+            assert given == case.wanted() or is_refused() and given == OUT_OF_MEMORY
     assert number > 10, "there were few requests to refuse"
 
 

@@ -20,6 +20,7 @@ import pytest
 import wdp
 import workbooks
 from commands import matches, parse_rows, read_text
+from trials.cases import read_case
 from wdp import example
 
 RULES = [
@@ -261,7 +262,7 @@ def test_the_example_is_of_the_tree() -> None:
     first, *parts = read_text("examples", "verified.txt").split("%certificate\n")
     assert tuple(part[part.index("bound") :] for part in parts) == CERTIFICATES
     assert tuple(first.split("%solution\n")[1:]) == SOLUTIONS
-    unique = read_text("cases", "verify_worked_is_unique", "stdin").split("%unique\n")[1]
+    unique = read_case("verify_worked_is_unique").stdin.decode().split("%unique\n")[1]
     assert unique == example.UNIQUE
 
 

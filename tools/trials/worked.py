@@ -1,6 +1,6 @@
 """The worked auction, its programs, which are those of cases, and texts that the tests change."""
 
-from trials.cases import content
+from trials.cases import read_case
 
 RULES = """rules,1,1,,
 category,A,2,10,1
@@ -15,13 +15,13 @@ GAMMA = "Gamma,A,B\n12,0,1\n"
 
 
 def output(case):
-    return content(case, "stdout").decode()
+    return read_case(case).stdout.decode()
 
 
 # The programs of no form, of Gamma's form alone, as another tool may write that, of the first bid of Alpha's form, of its first
 # two, since the third is dominated, and of all three forms, of which Beta's second bid asks for more than there is.
 NO_COLUMN, ONE_COLUMN = output("no_form"), output("one_form")
-MADE_ELSEWHERE = content("check_made_elsewhere", "stdin").decode()
+MADE_ELSEWHERE = read_case("check_made_elsewhere").stdin.decode()
 ONE_BID_OF_ALPHA = output("dominated_by_smaller_package")
 TWO_BIDS_OF_ALPHA = output("one_form_with_a_dominated_bid")
 FOUR_COLUMNS = output("three_forms")
