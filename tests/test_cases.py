@@ -6,6 +6,7 @@ puts the common ones into docs/REFERENCE.md. If it is of rules, forms or groups,
 name and the cause. The texts of solvers were written back from ours (commands.txt there says how), and answers.txt has what `wdp check` answers.
 """
 
+import json
 import re
 
 import pytest
@@ -15,6 +16,7 @@ from trials.cases import list_cases, parse_case, read_case
 from trials.explain_details import NUMBERED, is_line_of
 from trials.program_runs import done, refused, seen
 from wdp import Refused
+from wdp.office.located_faults import CAUSES
 
 # a refusal's part with its number, and the fault's number and name
 PIECES = re.compile(r"(\w+)(?: ([0-9]+))?: ([0-9]+ [A-Z]\w+)?")
@@ -137,3 +139,7 @@ def test_example_of_a_fault(wdp, words, text, line):
         status, output, said = seen(wdp, ["explain"], text)
         assert (status, said) == (1, b"")
         assert is_line_of(output.decode(errors="replace").split("\n")[0], line)
+        output = seen(wdp, ["explain", "--json"], text)[1]
+        fault = json.loads(output.splitlines()[0])
+        has_words = {"cause", "earlier_bid"} & {*fault} or fault["fault"] in CAUSES
+        assert has_words, f"an office has no words for {fault['fault']}"

@@ -391,6 +391,9 @@ def test_what_pages_name_and_is_not_there(pages, path, old, new, line):
     assert (status, last, errors) == (1, [f"tools/pages: {line}", "0 passed, 1 failed"], b"")
 
 
+# the last fault of groups, and those of rules from number 9 on, as if they were newer than version 2.0.0
+FIVE_NEW = ("fixtures/faults.txt", "groups_text.rt 5", "groups_text.rt 4")
+NINE_NEW = ("fixtures/faults.txt", "rules_text.rt 13", "rules_text.rt 8")
 # a file, what is changed in it, and what is said of the change
 WITHOUT_WORDS = {
     "row": (
@@ -400,10 +403,36 @@ WITHOUT_WORDS = {
         "fixtures/faults.txt: no words say what is wrong at wdp: solution 1: 7 BoundBroken at column K",
     ),
     "script": (
-        "tools/counts",
-        '"""Counts what',
-        'import re\n"""Counts what',
-        "tools/counts doesn't begin with a sentence on what it is for",
+        "tools/try_edits",
+        '"""Tries the',
+        'import re\n"""Tries the',
+        "tools/try_edits doesn't begin with a sentence on what it is for",
+    ),
+    "row of a fault": (
+        "fixtures/faults.txt",
+        "`Beta+Gamma` → `Beta+Beta`: `wdp: groups: 4 RepeatedBidder at line 4`\n",
+        "",
+        "fixtures/faults.txt has no row of groups: 4 RepeatedBidder",
+    ),
+    "value of a new fault": (
+        *FIVE_NEW,
+        "no row of crates/*_tests is refused as groups: 5 TooManyGroups",
+    ),
+    "edit of a new fault": (
+        *FIVE_NEW,
+        "no crate has an edit must-fail/*.too_many_groups_accepted.edit for groups: 5 TooManyGroups",
+    ),
+    "new fault in CHANGELOG": (
+        *FIVE_NEW,
+        "CHANGELOG.md doesn't name groups: 5 TooManyGroups",
+    ),
+    "planted new fault": (
+        *NINE_NEW,
+        "tools/trials/planted.py plants no rules: 9 TooMany",
+    ),
+    "what is checked after a new fault": (
+        *NINE_NEW,
+        "docs/REFERENCE.md doesn't say what is checked after rules: 9 TooMany",
     ),
     "list": (
         "docs/CONTRIBUTING.md",

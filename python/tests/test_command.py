@@ -1,9 +1,10 @@
 """The office's commands as one tree, wdp-office, and what holds for the source: sizes, docstrings,
 and that it installs.
 """
+import argparse
 import ast
+import importlib
 import os
-import re
 import signal
 import subprocess
 import sys
@@ -53,6 +54,18 @@ def test_version_and_help() -> None:
         assert output == ""
         assert messages.count("\n") == 1
         assert messages.startswith(f"wdp-office {name}: error: ")
+
+
+def test_the_value_of_each_option_is_used() -> None:
+    """Some module of the package has an attribute of each option's name, as in options.output."""
+    trees = [ast.parse(path.read_text()) for path in SOURCE.rglob("*.py")]
+    nodes = [node for tree in trees for node in ast.walk(tree)]
+    used = {node.attr for node in nodes if isinstance(node, ast.Attribute)}
+    for name in cli.COMMANDS:
+        command = argparse.ArgumentParser()
+        importlib.import_module(f"wdp.{cli.COMMANDS[name][0]}").add_arguments(command)
+        names = {action.dest for action in command._actions} - {"help"}
+        assert names <= used, (name, names - used)
 
 
 def test_it_is_found_through_a_link_and_in_a_tree_at_a_strange_path(tmp_path: Path) -> None:
@@ -115,48 +128,3 @@ def test_pip_installs_it_without_a_network(tmp_path: Path) -> None:
     )
     assert done.stdout == f"{wdp.__version__} None\n", done.stderr
     assert done.stderr.endswith("wdp.Refused: wdp: program: 8 NoObjective at line 1\n"), done.stderr
-
-
-ONE_OF_EACH = {
-    "__init__.py": "",
-    "_first.py": (
-        "from typing import Any\n"
-        "from package import _second\n"
-        "_a, _b = 1, 2\n"
-        "_c, _d = divmod(7, 2)\n"
-        "def found() -> None: ...\n"
-        "def show(value: Any) -> None: print(*[value])\n"
-        "def _show(value: Any) -> None: _second.add(1, 2, 3, 4)\n"
-    ),
-    "_second.py": (
-        "from package._first import found, show\n"
-        "def add(a: int, b: int, c: int, d: int) -> None: ...\n"
-        "def alone() -> None: add(1, 2, 3, d=4)\n"
-    ),
-}
-COUNTS = {
-    "parallel": 1,
-    "assigned": 2,
-    "star": 1,
-    "participle": 1,
-    "functions": 5,
-    "by place": 1,
-    "cycles": 1,
-    "complex": 0,
-    "Any": 1,
-    "unmarked": 1,
-}
-
-
-def test_what_makes_python_hard_to_read_is_counted(tmp_path: Path) -> None:
-    folder = tmp_path / "package"
-    folder.mkdir()
-    for name, text in ONE_OF_EACH.items():
-        (folder / name).write_text(text)
-    done = finish(start([ROOT / "tools/python_counts", folder]))
-    assert done.status == 0, done.err
-    heading, line = done.out.splitlines()
-    name, *counts = line.split()
-    assert name == "package"
-    assert re.split("  +", heading.strip()) == list(COUNTS)
-    assert [int(count) for count in counts] == list(COUNTS.values())

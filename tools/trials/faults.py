@@ -3,6 +3,7 @@
 from __future__ import annotations
 
 import re
+from collections.abc import Iterator
 from pathlib import Path
 from typing import NamedTuple
 
@@ -14,6 +15,9 @@ NUMBERED = re.compile(r'(?:"|: )([0-9]+ ([A-Z][A-Za-z]+))')
 CODE = re.compile(r'Code::new\(([0-9]+), "([A-Z][A-Za-z]+)"\)')
 VARIANT = re.compile(r"((?: +/// .*\n)+) +([A-Z]\w+)")
 MESSAGE = re.compile(r"FileFault::(?!OutOfMemory)(\w+)\S* => \[(.*?)\]", re.DOTALL)
+# the sections whose faults `explain` prints
+EXPLAINED = ("rules", "forms", "groups")
+AFTER_A_FAULT = "\n### What is checked after a fault\n"
 # a row of the file: a star, if its fault is a common one; words; a change; and the line that refuses the changed text
 ROW = re.compile(
     r"(?P<star>\* )?(?:(?P<words>[^→]+?): )??(?:`(?P<old>[^`]+)` → `(?P<new>[^`]*)`: )?`(?P<line>wdp: [^`]+)`"
@@ -60,10 +64,12 @@ def table_of(heads: list[str], rows: list[list[str]]) -> str:
 
 
 class Section(NamedTuple):
-    """Changes to a text that a command accepts (a file, and perhaps lines after it), each with the line that refuses the outcome."""
+    """Changes to a text that a command accepts (a file, and perhaps lines after it), each with the line that refuses the outcome.
+    The faults of the sources up to the number `known` are those of version 2.0.0."""
 
     name: str
     sources: str
+    known: int
     command: str
     texts: list[str]
     rows: list[Row]
@@ -107,9 +113,51 @@ def sections() -> list[Section]:
     found = []
     for text in Path(ROOT, "fixtures", "faults.txt").read_text().split("\n= ")[1:]:
         head, *rows = text.splitlines()
-        name, sources, command, *texts = head.split(" | ")
-        found.append(Section(name, sources, command, texts, [row_of(row) for row in rows]))
+        name, numbered, command, *texts = head.split(" | ")
+        sources, _, known = numbered.partition(" ")
+        parsed = [row_of(row) for row in rows]
+        found.append(Section(name, sources, int(known or 0), command, texts, parsed))
     return found
+
+
+def texts_below(*patterns: str) -> str:
+    """The texts of all files of the tree that have such paths."""
+    paths = [path for pattern in patterns for path in Path(ROOT).glob(pattern)]
+    return "".join(path.read_text() for path in paths)
+
+
+def is_left_out(section: Section, fault: str) -> Iterator[tuple[bool, str]]:
+    """Whether a fault that is newer than version 2.0.0 lacks a step of a new refusal in docs/CONTRIBUTING.md, for each step that
+    no compiler or prover asks for, and what is missing then."""
+    name = fault.split()[1]
+    named = f"{section.name}: {fault}"
+    values = re.search(rf"Fault::{name}\b", texts_below("crates/*_tests/src/**/*.rt"))
+    yield values is None, f"no row of crates/*_tests is refused as {named}"
+    edit = re.sub(r"(?<!^)(?=[A-Z])", "_", name).lower() + "_accepted"
+    edits = [*Path(ROOT, "crates").glob(f"*/must-fail/*.{edit}.edit")]
+    yield not edits, f"no crate has an edit must-fail/*.{edit}.edit for {named}"
+    yield f"`{fault}`" not in texts_below("CHANGELOG.md"), f"CHANGELOG.md doesn't name {named}"
+    if section.name in EXPLAINED:
+        planted = texts_below("tools/trials/planted.py", "tools/trials/faulty_inputs.py")
+        yield fault not in planted, f"tools/trials/planted.py plants no {named}"
+        _, _, after = texts_below("docs/REFERENCE.md").partition(AFTER_A_FAULT)
+        is_missing = f"`{name}`" not in after.partition("\n### ")[0]
+        yield is_missing, f"docs/REFERENCE.md doesn't say what is checked after {named}"
+
+
+def steps_left_out() -> Iterator[str]:
+    """What is missing of faults: each has a row of fixtures/faults.txt."""
+    every = sections()
+    for section in every:
+        alike = [it for it in every if it.name.split()[0] == section.name.split()[0]]
+        rows = {row.fault() for it in alike for row in it.rows}
+        for fault in section.meanings():
+            if fault not in rows:
+                yield f"fixtures/faults.txt has no row of {section.name}: {fault}"
+            if int(fault.split()[0]) > section.known:
+                yield from (
+                    missing for is_missing, missing in is_left_out(section, fault) if is_missing
+                )
 
 
 def of_files() -> str:

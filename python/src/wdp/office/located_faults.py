@@ -42,7 +42,7 @@ _HINTS += [
 ]
 _MOST_SHOWN = 100  # faults of one file that are printed one by one
 # of the faults that the program finds without a cause
-_CAUSES = {
+CAUSES = {
     "TooLarge": "it has more than 4,194,304 bytes",
     "NoCategory": "there is no category",
     "NoBidder": "there is no bidder",
@@ -88,7 +88,7 @@ def _describe(finding: Finding, row: TableRow | None, bidders: Sequence[str]) ->
     """A finding in words; its row adds what is there."""
     if finding.earlier_bid:
         return f"bid {finding.earlier_bid} has the same package"
-    text = finding.cause or _CAUSES.get(finding.fault) or finding.refusal
+    text = finding.cause or CAUSES.get(finding.fault) or finding.refusal
     if not row or not finding.field or finding.field > len(row.values):
         return text
     value = row.values[finding.field - 1]
