@@ -1,6 +1,7 @@
 """Figures of results made of a few numbers, as no small auction has them: of many winners, of one
 who pays nothing, of nobody.
 """
+import math
 from collections.abc import Mapping, Sequence
 from fractions import Fraction
 from typing import NamedTuple
@@ -19,12 +20,14 @@ DIGEST = "0" * 64
 
 
 class Bidder(NamedTuple):
-    """A bidder, what it bids for the lots that it wins and what it pays for them."""
+    """A bidder, what it bids for the lots that it wins and what it pays for them, which is rounded
+    up.
+    """
 
     name: str
     lots: Sequence[int]
     amount: int = 0
-    price: int | None = None
+    price: int | Fraction | None = None
     reserve: int = 0
     cost: int | None = None
 
@@ -36,7 +39,7 @@ def _make_bidder(bidder: Bidder) -> BidderFigures:
         bids=1,
         bid=1 if any(bidder.lots) else None,
         amount=bidder.amount,
-        price=bidder.price,
+        price=None if bidder.price is None else math.ceil(bidder.price),
         exact_price=None if bidder.price is None else Fraction(bidder.price),
         reserve=bidder.reserve,
         cost=bidder.cost,
@@ -67,10 +70,9 @@ def _make_prices(bidders: Sequence[Bidder], is_by_rule: bool) -> PricesFigures |
     prices = [bidder.price for bidder in bidders if bidder.price is not None]
     if not prices:
         return None
-    total = sum(prices)
     return PricesFigures(
-        total=total,
-        exact_total=Fraction(total),
+        total=sum(map(math.ceil, prices)),
+        exact_total=Fraction(sum(prices)),
         is_by_rule=is_by_rule,
         groups=[],
         reserves=[],

@@ -53,7 +53,7 @@ class Page:
         texts = map(strip_tags, pieces[1::2])
         self.texts = dict(zip(names, texts, strict=True))
         self.tables: dict[str, list[list[Cell]]] = {}
-        for name, table in re.findall(r'<table id="table-(\w+)">(.*?)</table>', html, re.S):
+        for name, table in re.findall(r'<table id="table-(\w+)"[^>]*>(.*?)</table>', html, re.S):
             rows = [_CELL.findall(row) for row in table.split("<tr")[1:]]
             self.tables[name] = [
                 [Cell(tag, scope, strip_tags(cell)) for tag, scope, cell in row] for row in rows

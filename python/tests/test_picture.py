@@ -2,7 +2,7 @@
 import pytest
 from made_figures import Bidder, make_figures
 
-from wdp.publish.picture import FILLS, CategoryBar, Picture, WinnerBar, make_picture
+from wdp.publish.picture import CategoryBar, Fill, Picture, WinnerBar, make_picture
 
 # Alpha bids most, so its amount is the length of all bars
 ALPHA = Bidder("Alpha", [2, 0], amount=200, price=150, reserve=100, cost=120)
@@ -83,28 +83,13 @@ def test_nobody_wins() -> None:
     assert picture.winners == []
 
 
-def make_bidders(count: int, categories: int) -> list[Bidder]:
-    """Bidders of whom number k wins a lot of the first category and of category k, one after the
-    other from the second.
-    """
-    bidders = []
-    for index in range(count):
-        lots = [1] + [int(number == index % (categories - 1)) for number in range(categories - 1)]
-        bidders.append(Bidder(f"B{index}", lots, amount=1))
-    return bidders
+def test_each_winner_has_another_fill() -> None:
+    bidders = [Bidder(f"B{number}", [1], amount=1) for number in range(256)]
+    picture = make_picture(make_figures({"A": 256}, bidders))
+    assert [bar.fill for bar in picture.winners] == list(range(256))
+    assert len(set(picture.fills)) == 256
 
 
-@pytest.mark.parametrize("count, categories", [(6, 3), (40, 32), (40, 7), (40, 3)])
-def test_winners_who_touch_have_other_fills(count: int, categories: int) -> None:
-    """As bidders 0 and 6 do, who are the sixth from another, and touch in category 1 of 7."""
-    supplies = {f"C{number}": count for number in range(categories)}
-    figures = make_figures(supplies, make_bidders(count, categories))
-    for bar in make_picture(figures).categories:
-        fills = [segment.fill for segment in bar.segments]
-        assert set(fills) - {None} <= set(range(FILLS))
-        assert all(fill != following for fill, following in zip(fills, fills[1:], strict=False))
-
-
-def test_the_first_winners_have_a_fill_each() -> None:
-    figures = make_figures({"A": FILLS}, [Bidder(f"B{n}", [1], amount=1) for n in range(FILLS)])
-    assert [bar.fill for bar in make_picture(figures).winners] == list(range(FILLS))
+def test_few_winners_have_the_first_fills() -> None:
+    figures = make_figures(SUPPLIES, [ALPHA, LOSER, BETA])
+    assert make_picture(figures).fills == [Fill("blue"), Fill("sand")]

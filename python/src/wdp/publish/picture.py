@@ -3,18 +3,59 @@ with its price between reserve and amount. Places and widths are percents of a b
 """
 from collections.abc import Sequence
 from dataclasses import dataclass
-from itertools import pairwise
+from itertools import islice, product
 
 from wdp.office.faults import format_count
 from wdp.publish.figures import BidderFigures, CategoryFigures, Figures
 
-FILLS = 6  # how many fills of the page's style tell winners apart
+
+@dataclass(frozen=True)
+class Fill:
+    """What tells a winner's lots from those of others: the ground, one of the page's colours, and
+    `lines`, a `cross` of lines or `dots` on it, turned by an angle, so many pixels apart. A plain
+    fill has no marks.
+    """
+
+    ground: str
+    marks: str | None = None
+    angle: int = 0
+    gap: int = 0
+
+
+# the easiest to tell apart come first
+_FIRST_FILLS = [
+    Fill("blue"),
+    Fill("sand"),
+    Fill("paper", "lines", angle=45, gap=6),
+    Fill("green"),
+    Fill("paper", "dots", gap=6),
+    Fill("paper", "lines", angle=135, gap=4),
+]
+_GAPS = (9, 5, 13, 7)
+# (a cross and dots look the same once they are turned by a right angle)
+_MARKS = [
+    *product(["lines"], [45, 135, 0, 90]),
+    *product(["cross", "dots"], [0, 45]),
+    *product(["lines"], [22, 67, 112, 157]),
+    *product(["cross", "dots"], [22, 67]),
+]
+_GROUNDS = ("blue", "sand", "green", "paper")
+
+
+def make_fills(count: int) -> list[Fill]:
+    """So many fills, no two of which are the same: at most one for each of 256 bidders."""
+    others = (
+        Fill(ground, marks, angle=angle, gap=gap)
+        for gap, (marks, angle), ground in product(_GAPS, _MARKS, _GROUNDS)
+    )
+    return [*_FIRST_FILLS[:count], *islice(others, max(count - len(_FIRST_FILLS), 0))]
 
 
 @dataclass(frozen=True)
 class Segment:
     """A winner's part of a category's bar, or that of the lots that stay unsold, which has no
-    `fill`: how many lots it is and whose in words, where it begins and how wide it is.
+    `fill`: how many lots it is and whose in words, where it begins and how wide it is. A fill is
+    its place among those of the picture.
     """
 
     label: str
@@ -58,15 +99,18 @@ class WinnerBar:
 
 @dataclass(frozen=True)
 class Picture:
-    """The bars of all categories and of all winners, in the order of the rules."""
+    """The bars of all categories and of all winners, in the order of the rules, and the fill of
+    each winner.
+    """
 
     categories: Sequence[CategoryBar]
     winners: Sequence[WinnerBar]
+    fills: Sequence[Fill]
 
 
 def make_picture(figures: Figures) -> Picture:
     """The picture of an award."""
-    fills = _choose_fills(figures)
+    fills = {winner.name: index for index, winner in enumerate(figures.winners)}
     known = [winner.cost for winner in figures.winners if winner.cost is not None]
     highest = max([winner.amount for winner in figures.winners] + known, default=0)
     return Picture(
@@ -78,24 +122,8 @@ def make_picture(figures: Figures) -> Picture:
             _make_winner_bar(winner, figures=figures, fill=fills[winner.name], highest=highest)
             for winner in figures.winners
         ],
+        fills=make_fills(len(fills)),
     )
-
-
-def _choose_fills(figures: Figures) -> dict[str, int]:
-    """The fill of each winner by its name: one after the other, but if possible none that touches
-    the same in the bar of a category.
-    """
-    neighbours: dict[str, set[str]] = {winner.name: set() for winner in figures.winners}
-    for index in range(len(figures.categories)):
-        names = [winner.name for winner in figures.winners if winner.lots[index]]
-        for name, following in pairwise(names):
-            neighbours[following].add(name)
-    fills: dict[str, int] = {}
-    for first, (name, before) in enumerate(neighbours.items()):
-        taken = {fills[each] for each in before}
-        wanted = [(first + step) % FILLS for step in range(FILLS)]
-        fills[name] = next((fill for fill in wanted if fill not in taken), wanted[0])
-    return fills
 
 
 def _format_percent(part: int, whole: int) -> str:

@@ -1,9 +1,9 @@
 """The tables of an auction's results, as people read them on the page and in a text."""
 import re
 from collections.abc import Sequence
-from dataclasses import dataclass
+from dataclasses import dataclass, replace
 
-from wdp.office.faults import CellValue, align_rows, format_lines
+from wdp.office.faults import CellValue, align_rows, format_count, format_lines, format_number
 from wdp.publish.figures import (
     AwardFigures,
     BidderFigures,
@@ -18,6 +18,14 @@ _NONE_WON = "none won"
 _NO_BIDS = "no bids"
 BLANKS = (_NOT_ASKED_FOR, _NONE_WON, _NO_BIDS)  # in the place of a number that there isn't
 _MOST_BOUND = 4  # groups that are named as binding a price
+_MOST_LOSERS = 5  # bidders that win nothing and have a row each
+# how many characters a row of a table may have by its size; the page's style has how wide a screen
+# must be for these
+_SIZES = {"small": 68, "medium": 92, "large": 124}
+# what a name and another text have at least of these characters, of which both may be broken
+_WIDTH_OF_NAME = 18
+_WIDTH_OF_TEXT = 12
+_BETWEEN_COLUMNS = 2
 # why a bid is in no program, as the program says it, up to the category's name
 _ASKED_FOR = re.compile(r"^(bid [0-9]+ asks for [0-9]+ of )(\w+)")
 
@@ -25,20 +33,48 @@ _ASKED_FOR = re.compile(r"^(bid [0-9]+ asks for [0-9]+ of )(\w+)")
 @dataclass(frozen=True)
 class DisplayTable:
     """A table for people, by the name that the page has for it; below its rows are `sums`, if it
-    has any.
+    has any, and then a `note`.
     """
 
     name: str
     headings: Sequence[str]
     rows: Sequence[Sequence[CellValue]]
     sums: Sequence[CellValue] = ()
+    note: str = ""
 
     def format_text(self) -> str:
         """The table as lines with aligned columns."""
-        rows = [self.headings, *self.rows]
-        if self.sums:
-            rows.append(self.sums)
-        return format_lines(align_rows(rows))
+        lines = align_rows(self._list_all_rows())
+        if self.note:
+            lines.append(self.note)
+        return format_lines(lines)
+
+    @property
+    def size(self) -> str:
+        """How wide a screen has to be for the table, whose figures aren't broken: `small`, `medium`,
+        `large`, or `huge` if its rows are lists of cells on any screen and on paper.
+        """
+        _, *columns = zip(*self._list_all_rows(), strict=True)
+        width = _WIDTH_OF_NAME + sum(map(_measure_column, columns))
+        return next((name for name, most in _SIZES.items() if width <= most), "huge")
+
+    def _list_all_rows(self) -> list[Sequence[CellValue]]:
+        """The headings, the rows, and the sums if there are any."""
+        return [self.headings, *self.rows, *([self.sums] if self.sums else [])]
+
+
+def _measure_column(cells: Sequence[CellValue]) -> int:
+    """How many characters wide a column has to be: a text can be broken, a word of its heading or a
+    number can't, but before its fraction.
+    """
+    heading, *values = cells
+    pieces = str(heading).split()
+    for value in values:
+        if value is not None and not isinstance(value, str):
+            pieces += format_number(value).split()
+        elif value:
+            pieces.append(value[:_WIDTH_OF_TEXT])
+    return max(map(len, pieces)) + _BETWEEN_COLUMNS
 
 
 @dataclass(frozen=True)
@@ -74,7 +110,7 @@ def _make_table(name: str, columns: Sequence[_Column]) -> DisplayTable:
 
 
 def make_tables(figures: Figures) -> list[DisplayTable]:
-    """All tables that have a row, in the order of the page."""
+    """All tables that have a row or a note, in the order of the page."""
     tables = [
         make_ties_table(figures),
         _make_bidders_table(figures),
@@ -84,7 +120,7 @@ def make_tables(figures: Figures) -> list[DisplayTable]:
         _make_groups_table(figures),
         _make_left_out_table(figures),
     ]
-    return [table for table in tables if table.rows]
+    return [table for table in tables if table.rows or table.note]
 
 
 def _format_unit(figures: Figures) -> str:
@@ -107,9 +143,11 @@ def _format_bid(bidder: BidderFigures) -> CellValue:
 def _make_bidders_table(figures: Figures) -> DisplayTable:
     """What each bidder wins, pays and costs."""
     unit = _format_unit(figures)
-    bidders = figures.bidders
+    losers = [bidder for bidder in figures.bidders if not bidder.is_winner]
+    is_long = len(losers) > _MOST_LOSERS
+    bidders = figures.winners if is_long else figures.bidders
     sold = [category.sold for category in figures.categories]
-    return _make_table(
+    table = _make_table(
         "bidders",
         [
             _Column("Bidder", [figures.format_name(each.name) for each in bidders]),
@@ -125,6 +163,16 @@ def _make_bidders_table(figures: Figures) -> DisplayTable:
             ),
         ],
     )
+    return replace(table, note=_format_losers(losers, figures)) if is_long else table
+
+
+def _format_losers(losers: Sequence[BidderFigures], figures: Figures) -> str:
+    """Which bidders win nothing, and which of them had no bid."""
+    pays = " and pay nothing" if figures.prices else ""
+    names = figures.join_names([bidder.name for bidder in losers])
+    note = f"{format_count(len(losers), 'bidder')} win nothing{pays}: {names}."
+    silent = [bidder.name for bidder in losers if not bidder.bids]
+    return f"{note} Without bids: {figures.join_names(silent)}." if silent else note
 
 
 def make_prices_table(figures: Figures) -> DisplayTable:
