@@ -42,7 +42,6 @@ install:
 		gzip -dc "$$packed" > "$$program"
 		chmod 755 "$$program"
 	done
-	tools/make_manuals "$$made/bin/wdp" "$$made"
 	mkdir -p "$$DESTDIR$$PREFIX/"
 	to=$$(cd -- "$$DESTDIR$$PREFIX/" && pwd)
 	(cd "$$to" && rm -rf $(INSTALLED))
@@ -55,9 +54,9 @@ install:
 	find "$$to/share/doc/wdp" -name '*.md' -exec sed -i -e '/^```/,/^```/s#\./wdp#wdp#g' -e 's#\(man \)*docs/wdp\.1#man wdp#g' \
 		-e 's#\[\([^]]*\)\]([./]*crates/[^)]*)#\1#g' {} +
 	ln -s "../$$PYTHON/wdp/__main__.py" "$$to/bin/wdp-office"
-	install -D -m 644 -t "$$to/share/man/man1" "$$made"/man/*
-	install -D -m 644 -t "$$to/share/bash-completion/completions" "$$made"/bash/*
-	install -D -m 644 -t "$$to/$$ZSH" "$$made"/zsh/*
+	install -D -m 644 -t "$$to/share/man/man1" docs/wdp.1 manuals/man/*
+	install -D -m 644 -t "$$to/share/bash-completion/completions" manuals/bash/*
+	install -D -m 644 -t "$$to/$$ZSH" manuals/zsh/*
 
 # Folders that others use too stay.
 uninstall:

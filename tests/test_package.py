@@ -60,6 +60,25 @@ def tree(wdp, folder):
     return copied(folder / "a 'tree'", Path(wdp))
 
 
+@pytest.fixture(scope="module")
+def bare(folder):
+    """A folder with the commands that `make` and Debian's smallest system bring, without Python: a fresh machine's path."""
+    commands = "sh make gzip mktemp chmod mkdir rm install tar find sed ln readlink dirname sha256sum sort xargs cut cat env".split()
+    path = folder / "bare"
+    path.mkdir()
+    for name in commands:
+        (path / name).symlink_to(shutil.which(name, path=SYSTEM))
+    return path
+
+
+def test_a_fresh_machine_installs_it(tree, bare, tmp_path):
+    """No tool that makes manuals is needed, and no library."""
+    done = run("make", "install", f"DESTDIR={tmp_path}", cwd=tree, env={"PATH": str(bare)})
+    assert (done.returncode, done.stdout + done.stderr) == (0, "")
+    program = tmp_path / "usr/local/bin/wdp"
+    assert run(program, "--version").stdout.startswith("wdp ")
+
+
 def make(tree, *words):
     done = run("make", *words, "PREFIX=", cwd=tree, env={"PATH": SYSTEM})
     return done.returncode, done.stdout + done.stderr
@@ -188,6 +207,14 @@ def test_completion_and_pages_have_each_option_of_each_command(there, program):
         texts = zsh.read_text(), page.read_text().replace("\\-", "-")
         assert options and completed(name, "--") >= options and f'"{name}:' in texts[0]
         assert all(option in text for option in options for text in texts)
+
+
+def test_the_manuals_of_the_tree_are_what_is_made(wdp, tmp_path):
+    """(`tools/make_manuals` renews them.)"""
+    run("tools/make_manuals", wdp, tmp_path, cwd=ROOT, check=True)
+    made, kept = (list_files(folder) for folder in (tmp_path, ROOT / "manuals"))
+    assert made == kept
+    assert not [it for it in kept if (tmp_path / it).read_text() != (ROOT / "manuals" / it).read_text()]
 
 
 def test_the_pages_have_each_part_of_an_input():
