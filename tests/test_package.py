@@ -214,7 +214,9 @@ def test_the_manuals_of_the_tree_are_what_is_made(wdp, tmp_path):
     run("tools/make_manuals", wdp, tmp_path, cwd=ROOT, check=True)
     made, kept = (list_files(folder) for folder in (tmp_path, ROOT / "manuals"))
     assert made == kept
-    assert not [it for it in kept if (tmp_path / it).read_text() != (ROOT / "manuals" / it).read_text()]
+    assert not [
+        it for it in kept if (tmp_path / it).read_text() != (ROOT / "manuals" / it).read_text()
+    ]
 
 
 def test_the_pages_have_each_part_of_an_input():

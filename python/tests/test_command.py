@@ -3,15 +3,28 @@ and that it installs.
 """
 import argparse
 import ast
+import gzip
+import hashlib
 import importlib
 import os
+import shutil
 import signal
 import subprocess
 import sys
 from pathlib import Path
 
 import wdp
-from commands import ROOT, WORKED, OfficeFolder, finish, list_files, read_text, run, start
+from commands import (
+    ROOT,
+    WORKED,
+    CommandResult,
+    OfficeFolder,
+    finish,
+    list_files,
+    read_text,
+    run,
+    start,
+)
 from wdp import cli
 
 TOOL = ROOT / "wdp-office"
@@ -110,21 +123,69 @@ def test_public_functions_have_docstrings() -> None:
         assert node.name.startswith("_") or ast.get_docstring(node), node.name
 
 
-def test_pip_installs_it_without_a_network(tmp_path: Path) -> None:
-    subprocess.run(["cp", "-r", ROOT / "python", tmp_path / "python"], check=True)
-    words = "-m pip install -q --no-build-isolation --no-index --no-compile --target".split()
-    how = {"PATH": "/usr/bin:/bin", "PIP_DISABLE_PIP_VERSION_CHECK": "1", "HOME": str(tmp_path)}
-    made = start([sys.executable, *words, tmp_path / "to", tmp_path / "python"], env=how)
-    assert finish(made).status == 0
-    assert list_files(tmp_path / "to" / "wdp") == list_files(SOURCE)
-    text = "import wdp, wdp.program; print(wdp.__version__, wdp.program._find_tree())\n"
-    text += "wdp.Auction.from_text('').check('ENDATA')"
+def copy_sources(folder: Path) -> Path:
+    """Copies what the wheel is made of: the package, and the program that is tried as the one that
+    comes with the tree.
+    """
+    ignore = shutil.ignore_patterns("__pycache__", "build")
+    shutil.copytree(ROOT / "python", folder / "python", ignore=ignore)
+    data = Path(os.environ["WDP"]).read_bytes()
+    (folder / "prebuilt").mkdir()
+    (folder / "prebuilt" / "wdp.gz").write_bytes(gzip.compress(data))
+    (folder / "prebuilt" / "record").write_text(f"program wdp {hashlib.sha256(data).hexdigest()}\n")
+    return folder
+
+
+# the package finds the program that was installed with it, and nothing else is on its path
+SCRIPT = """
+import wdp, wdp.program
+print(wdp.__version__, wdp.program._find_tree(), wdp.program.find_program())
+wdp.Auction.from_text('').check('ENDATA')
+"""
+
+
+def install(sources: Path, python: Path | str, *options: object) -> CommandResult:
+    """Has pip install the package, with nothing of the network's or of another package's."""
+    words = [python, *"-m pip install -q --no-index --no-compile".split(), *options]
+    home = str(sources)
+    how = {"PATH": "/usr/bin:/bin", "PIP_DISABLE_PIP_VERSION_CHECK": "1", "HOME": home}
+    return finish(start([*words, sources / "python"], env=how))
+
+
+def check_program(python: Path | str, folder: Path, program: Path, **env: str) -> None:
+    """The package runs this program."""
     done = subprocess.run(
-        [sys.executable, "-B", "-c", text],
+        [python, "-B", "-c", SCRIPT],
         capture_output=True,
         text=True,
-        cwd=tmp_path,
-        env={**os.environ, "PYTHONPATH": str(tmp_path / "to")},
+        cwd=folder,
+        env={"PATH": "/usr/bin:/bin", **env},
     )
-    assert done.stdout == f"{wdp.__version__} None\n", done.stderr
+    assert done.stdout == f"{wdp.__version__} None {program}\n", done.stderr
     assert done.stderr.endswith("wdp.Refused: wdp: program: 8 NoObjective at line 1\n"), done.stderr
+
+
+def test_pip_installs_it_in_a_plain_environment(tmp_path: Path) -> None:
+    """One of Debian's, which has neither wheel nor a new setuptools, and reaches no network."""
+    plain = tmp_path / "plain"
+    subprocess.run([sys.executable, "-m", "venv", plain], check=True)
+    result = install(copy_sources(tmp_path), plain / "bin/python")
+    assert result.status == 0, result.err
+    check_program(plain / "bin/python", tmp_path, plain / "bin/wdp")
+    assert finish(start([plain / "bin/wdp-office", "--version"])).status == 0
+
+
+def test_pip_installs_it_into_a_folder(tmp_path: Path) -> None:
+    to = tmp_path / "to"
+    assert install(copy_sources(tmp_path), sys.executable, "--target", to).status == 0
+    assert list_files(to / "wdp") == list_files(SOURCE)
+    check_program(sys.executable, tmp_path, to / "bin/wdp", PYTHONPATH=str(to))
+
+
+def test_pip_installs_no_program_that_was_not_recorded(tmp_path: Path) -> None:
+    sources = copy_sources(tmp_path)
+    (sources / "prebuilt" / "wdp.gz").write_bytes(gzip.compress(b"#!/bin/sh\n"))
+    result = install(sources, sys.executable, "--target", tmp_path / "to")
+    assert result.status == 1
+    assert "isn't the program that prebuilt/record names" in result.err
+    assert not (tmp_path / "to").exists()

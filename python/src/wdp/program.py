@@ -34,11 +34,11 @@ def _find_tree() -> str | None:
 
 def _find_beside() -> str:
     """The path that the program has in the tree of this package, or where it was installed with
-    it.
+    it: below the folder that has the package's `lib`, or else beside the package.
     """
     if tree := _find_tree():
         return os.path.join(tree, "wdp")
-    prefix = _PACKAGE.rpartition(f"{os.sep}lib{os.sep}")[0]
+    prefix = _PACKAGE.rpartition(f"{os.sep}lib{os.sep}")[0] or os.path.dirname(_PACKAGE)
     return os.path.join(prefix, "bin", "wdp")
 
 
