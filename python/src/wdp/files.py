@@ -19,6 +19,7 @@ _KINDS = {
     stat.S_IFCHR: "a device",
     stat.S_IFBLK: "a device",
 }
+_PIECE = 65_536  # bytes
 WRITING = ".writing-"  # what is being written, until it is complete
 
 
@@ -77,11 +78,22 @@ def read_rest(file: BinaryIO, path: str, most: int) -> bytes:
     One that has too much by its size isn't read; Unreadable has the path.
     """
     before = os.fstat(file.fileno())
-    data: bytes | None = file.read(most + 1) if before.st_size <= most else b""
-    if data is None:
+    too_long = Unreadable(path, f"it has more than {most:,} bytes")
+    if before.st_size > most:
+        raise too_long
+    pieces: list[bytes] = []
+    length = 0
+    # (room is asked for by the file's size; a pipe has none, and a file may grow)
+    wanted = max(before.st_size + 1, _PIECE)
+    while piece := file.read(min(wanted, most + 1 - length)):
+        pieces.append(piece)
+        length += len(piece)
+        if length > most:
+            raise too_long
+        wanted = _PIECE
+    if piece is None:
         raise Unreadable(path, "it is no file that can be read to its end")
-    if max(before.st_size, len(data)) > most:
-        raise Unreadable(path, f"it has more than {most:,} bytes")
+    data = b"".join(pieces)
     after = os.fstat(file.fileno())
     if stat.S_ISREG(after.st_mode) and before.st_mtime_ns != after.st_mtime_ns:
         raise Unreadable(path, "it changed while it was read")

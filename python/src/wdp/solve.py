@@ -10,11 +10,12 @@ import shlex
 import shutil
 import signal
 import sys
+from collections.abc import Mapping, Sequence
 from pathlib import Path
 
 from wdp import files, steps
 from wdp.program import Limits, ProcessResult, format_signal, run_process
-from wdp.texts.refusals import NotFound, NotSolved, Refused, WrongArgument, need
+from wdp.texts.refusals import NotFound, NotSolved, Refused, WrongArgument, need_all
 from wdp.texts.zero_one import ZeroOne, format_solution, read_program, read_solution
 
 # the statuses of `wdp-office solve`
@@ -24,6 +25,8 @@ TIME_OUT = 4
 _KILLED = 5
 MOST_OF_ANSWER = 32 * 1024 * 1024  # bytes of any file that a solver writes
 MOST_OF_PROGRAM = 1024 * 1024 * 1024
+# the modules that this solver needs
+NEEDS: Mapping[str, Sequence[str]] = {"HiGHS": ("numpy", "scipy")}
 _FILES = {"mps": "program.mps", "free": "free.mps", "out": "solution.txt"}
 _PLACE = re.compile(r"\{([^{}]*)\}")  # of these files, and of the `seconds`
 # (in these programs cbc's cuts and its own preprocessing take longer than the nodes they save)
@@ -97,17 +100,32 @@ def find_point(
             raise NotSolved(f"there is no solution: {fault}", NO_POINT)
         return b""
     if solver == "highs":
-        need("HiGHS", "numpy", "scipy")
+        need_all(NEEDS)
     with files.temporary_folder("solve.") as folder:
         output = log or folder / "printed.txt"
         answer = _run_solver(text, solver, seconds=seconds, folder=folder, log=output)
     source = f"the answer of {_name_solver(solver)}"
-    return format_solution(read_solution(answer, program, source), program)
+    try:
+        return format_solution(read_solution(answer, program, source), program)
+    except Refused as refused:
+        raise Refused(f"{refused.text}{_explain_answer(solver)}") from None
 
 
 def _name_solver(solver: str) -> str:
     """What messages call a solver."""
     return "HiGHS" if solver == "highs" else os.path.basename(_split_command(solver)[0])
+
+
+def _explain_answer(solver: str) -> str:
+    """What a message adds if the answer of a solver isn't a solution: how its command gives one."""
+    if solver in ("cbc", "highs"):
+        return ""
+    name = _name_solver(solver)
+    hint = "the command has to print lines NAME VALUE"
+    if "{out}" not in solver:
+        hint += ", or to write them to {out}"
+    own = f"; --solver {name} calls {name} itself" if name == "cbc" else ""
+    return f"; {hint}{own}"
 
 
 def find_empty_solution(text: bytes) -> bytes:

@@ -2,13 +2,15 @@
 
 The modules below need numpy, scipy and swiglpk; they are read once a certificate is asked for.
 """
+from collections.abc import Mapping, Sequence
 from typing import TYPE_CHECKING
 
 from wdp.certify.outcomes import Optimum, Uniqueness
 from wdp.progress import Say, say_nothing
-from wdp.texts.refusals import need
+from wdp.texts.refusals import need_all
 
 __all__ = [
+    "NEEDS",
     "Optimum",
     "Uniqueness",
     "check_libraries",
@@ -17,13 +19,16 @@ __all__ = [
     "read_problem",
 ]
 
+# the modules that a certificate needs
+NEEDS: Mapping[str, Sequence[str]] = {"a certificate": ("numpy", "scipy", "swiglpk")}
+
 if TYPE_CHECKING:
     from wdp.certify.problem import Problem
 
 
 def check_libraries() -> None:
     """Raises Missing without numpy, scipy and swiglpk."""
-    need("a certificate", "numpy", "scipy", "swiglpk")
+    need_all(NEEDS)
 
 
 def read_problem(text: bytes) -> "Problem":

@@ -1,8 +1,10 @@
 """Arguments that several commands take, and the types of their values."""
 import argparse
-from collections.abc import Callable
+import contextlib
+from collections.abc import Callable, Sequence
 from dataclasses import fields
 from functools import partial
+from pathlib import Path
 from typing import TypeVar
 
 from wdp import files
@@ -10,7 +12,7 @@ from wdp.office.reading_choices import Choices
 from wdp.program import Limits, ask, find_program
 from wdp.publish.names import LONGEST, is_line
 from wdp.solve import MOST_OF_ANSWER, MOST_OF_PROGRAM
-from wdp.texts.refusals import Refused
+from wdp.texts.refusals import Refused, WrongArgument, shorten
 
 _Value = TypeVar("_Value")
 
@@ -23,12 +25,12 @@ def make_type(
     """
 
     def parse(text: str) -> _Value:
-        value = read(text)
-        if not is_right(value):
-            raise ValueError
-        return value
+        with contextlib.suppress(ValueError):
+            value = read(text)
+            if is_right(value):
+                return value
+        raise argparse.ArgumentTypeError(f"it takes a {name}, not '{shorten(text, 40)}'")
 
-    parse.__name__ = name
     return parse
 
 
@@ -43,9 +45,17 @@ def make_line_type(name: str) -> Callable[[str], str]:
 
 
 parse_award_number = make_type("number of an award", int, lambda number: number >= 1)
-parse_seconds = make_type(
-    "number of seconds, 1 at least,", int, lambda number: 1 <= number < 10**8
-)
+parse_seconds = make_type("number of seconds, 1 or more", int, lambda number: 1 <= number < 10**8)
+_SOLVERS = ("cbc", "highs")
+
+
+def _parse_solver(text: str) -> str:
+    """The name of a solver that is known."""
+    if text not in _SOLVERS:
+        known = " or ".join(_SOLVERS)
+        other = "any other solver goes by --solver-command (docs/OFFICE.md, Another solver)"
+        raise argparse.ArgumentTypeError(f"it takes {known}, not '{shorten(text, 40)}'; {other}")
+    return text
 
 
 def parse_names(text: str) -> list[str]:
@@ -56,11 +66,39 @@ def parse_names(text: str) -> list[str]:
     return names
 
 
+def take_folder(path: Path, command: str) -> Path:
+    """The folder of an auction; WrongArgument, which says what to give the command, if this is a
+    file, as the audit in the folder.
+    """
+    if path.is_file():
+        line = f"wdp-office {command} {path.parent}"
+        raise WrongArgument(f"{path} is a file: {command} takes the folder of an auction: {line}")
+    return path
+
+
 def parse_path(text: str) -> str:
     """A path; an empty one, as of a variable that isn't set, isn't the same as none."""
     if not text:
         raise argparse.ArgumentTypeError("the name of the file is missing")
     return text
+
+
+def add_rule_of_groups(parser: argparse.ArgumentParser) -> None:
+    """Adds the option that makes groups by a rule."""
+    winners = "each winner of FILE's first group, a report or what `wdp map` prints"
+    parser.add_argument(
+        "--groups",
+        nargs="+",
+        metavar="RULE",
+        default=[],
+        help=f"in place of GROUPS: nobody, then each (bidder alone), or winners FILE ({winners})",
+    )
+
+
+def check_rule(rule: Sequence[str]) -> None:
+    """Raises WrongArgument if groups can't be made by a rule."""
+    if rule and (rule[0], len(rule)) not in (("each", 1), ("winners", 2)):
+        raise WrongArgument("--groups takes each, or winners FILE")
 
 
 def add_choices(parser: argparse.ArgumentParser) -> None:
@@ -107,7 +145,8 @@ def add_solver_options(parser: argparse.ArgumentParser) -> None:
     solvers = parser.add_mutually_exclusive_group()
     solvers.add_argument(
         "--solver",
-        choices=["cbc", "highs"],
+        choices=_SOLVERS,
+        type=_parse_solver,
         help="cbc, which is the usual one if it is installed, or HiGHS, as scipy has it",
     )
     places = "{out} for that of its answer, lines `NAME VALUE`, and {seconds} for the time limit"

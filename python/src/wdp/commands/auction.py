@@ -6,6 +6,7 @@ finds a better one.
 """
 import argparse
 import os
+from collections.abc import Sequence
 from dataclasses import replace
 from functools import partial
 from pathlib import Path
@@ -23,6 +24,7 @@ from wdp.office.new_forms import check_new_forms, read_new_forms
 from wdp.program import find_program
 from wdp.publish.changes import make_changes_table
 from wdp.publish.judging import judge
+from wdp.publish.results import NEEDS as NEEDS_OF_PAGE
 from wdp.reporter import ConsoleReporter
 from wdp.runs.contents import Goals
 from wdp.runs.means import Means
@@ -39,7 +41,7 @@ from wdp.runs.reports import AUDIT, REPORT, UNCERTIFIED, Page
 from wdp.runs.run import Run
 from wdp.texts import accepted
 from wdp.texts.parts import MOST_OF_INPUT
-from wdp.texts.refusals import WrongArgument
+from wdp.texts.refusals import WrongArgument, need_all
 
 _EPILOG = """Exit status: 0 everything is there; 1 something is refused or missing, and the next run
 goes on from there; 2 the options are wrong; 3 without certificates, figures that contradict each
@@ -53,7 +55,7 @@ def add_shared_arguments(parser: argparse.ArgumentParser) -> None:
     add_solver_options(parser)
     parser.add_argument(
         "--jobs",
-        type=make_type("number of jobs, 1 to 1000,", int, lambda jobs: 1 <= jobs <= _MOST_JOBS),
+        type=make_type("number of jobs, 1 to 1000", int, lambda jobs: 1 <= jobs <= _MOST_JOBS),
         default=len(os.sched_getaffinity(0)),
         metavar="N",
         help="how many groups are done at a time; by default one per processor",
@@ -171,14 +173,21 @@ def make_run(
     folder: Path | None,
     reporter: ConsoleReporter,
     page: Page = Page(),
+    makes_page: bool = True,
 ) -> Run:
     """What the options ask for, in a folder or a temporary one; Refused before the work begins if
-    something is missing.
+    something is missing, for the page, too, if that is made.
     """
     program = find_program(options.program)
     solver = solve.find_solver(options.solver)
+    needs: dict[str, Sequence[str]] = {}
     if goals.is_certified:
-        certify.check_libraries()
+        needs |= certify.NEEDS
+    if solver == "highs":
+        needs |= solve.NEEDS
+    if folder is not None and makes_page:
+        needs |= NEEDS_OF_PAGE
+    need_all(needs)
     means = Means(
         program=program,
         solver=solver,
@@ -240,6 +249,7 @@ def run(options: argparse.Namespace) -> int:
         folder=options.folder,
         reporter=ConsoleReporter(command="auction", is_quiet=options.quiet),
         page=Page(options.title, options.currency),
+        makes_page=options.step in (None, "report"),
     )
     if not options.folder:
         if _needs_folder(options):

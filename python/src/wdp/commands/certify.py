@@ -1,7 +1,8 @@
 """Certifies that a solution of a 0-1 program is optimal, or with --unique the only optimal one.
 
 The program is a text in free MPS. Whole numbers decide. If the solution isn't optimal the search
-goes on to an optimal one, which goes to --solution-output, and certifies that.
+goes on to an optimal one, which goes to --solution-output, and certifies that. Without SOLUTION and
+--solution-output, the output has both, as the parts %solution and %certificate of an audit.
 Exit status: 0 the certificate is written; 1 a text is refused, or a package is missing; 2 the
 options are wrong; 3 the solution isn't optimal, and --solution-output isn't given; 4 the time is
 over; 5 with --unique: a tie, another point is as good.
@@ -67,6 +68,11 @@ def _certify_optimal(
 ) -> int:
     """Writes the certificate that a solution is optimal, or a better one with its certificate."""
     optimum = certify.find_optimum(program, solution, seconds=options.time_limit, say=say)
+    if not options.solution and not options.solution_output:
+        parts = {"solution": optimum.solution, "certificate": optimum.certificate}
+        text = b"".join(b"%%%b\n%b" % (kind.encode(), text) for kind, text in parts.items())
+        files.put(text, options.output)
+        return 0
     if optimum.gain:
         say(f"the solution isn't optimal: its objective is {optimum.gain} above the least")
         if not options.solution_output:

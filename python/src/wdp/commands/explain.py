@@ -2,16 +2,18 @@
 
 INPUT is one input as wdp reads it, or `-` for standard input; each fault then ends with the line by
 which wdp refuses it.
-RULES FORMS_DIR [GROUPS] are the files that gather joins, with the same options. If nothing is
-wrong, --bids prints which bids of each form can't be in any program, and why.
+RULES FORMS_DIR [GROUPS] are the files that gather joins, with the same options; what gather would
+write isn't written. RULES FORM is one form alone, as a bidder checks it. If nothing is wrong, --bids
+prints which bids of each form can't be in any program, and why.
 
 Exit status: 0 nothing is wrong; 1 something is; 2 the options are wrong.
 """
 import argparse
+import os
 from collections.abc import Sequence
 from dataclasses import dataclass
 
-from wdp.commands.arguments import add_choices, read_choices
+from wdp.commands.arguments import add_choices, add_rule_of_groups, check_rule, read_choices
 from wdp.files import Unreadable, put, read
 from wdp.office.auction_files import AuctionFiles
 from wdp.office.faults import Fault, format_count, format_lines, format_total
@@ -23,13 +25,18 @@ from wdp.texts import accepted
 from wdp.texts.parts import MOST_OF_INPUT
 from wdp.texts.refusals import WrongArgument
 
+_FILES = "RULES FORMS_DIR|FORM [GROUPS]"
 _THEN = "the forms and groups are read once the parts and the rules are right"
 
 
 def add_arguments(parser: argparse.ArgumentParser) -> None:
     """Adds the arguments of the command."""
-    parser.add_argument("paths", metavar="INPUT | RULES FORMS_DIR [GROUPS]", nargs="+")
+    parser.add_argument("paths", metavar=f"INPUT | {_FILES}", nargs="+")
     parser.add_argument("--bids", action="store_true", help="print which bids are in no program")
+    add_rule_of_groups(parser)
+    for option, metavar in (("--output", "FILE"), ("--receipt", "FILE"), ("--parts", "DIR")):
+        about = "taken as gather takes it; nothing is written"
+        parser.add_argument(option, metavar=metavar, dest="unwritten", help=about)
     add_choices(parser)
 
 
@@ -85,7 +92,8 @@ def _explain_files(options: argparse.Namespace, program: str) -> _Explanation:
     """What is wrong with an auction's files."""
     rules, folder, *groups = options.paths
     files = AuctionFiles(program, read_choices(options))
-    files.read_all(rules, folder, groups)
+    is_one_form = os.path.isfile(folder)
+    files.read_all(rules, folder, options.groups or groups, is_one_form=is_one_form)
     counts = {name: form.bids or 0 for name, form in files.forms.items()}
     return _Explanation(
         faults=files.faults,
@@ -105,8 +113,11 @@ def run(options: argparse.Namespace) -> int:
     """Prints what is wrong; the status."""
     is_one_input = len(options.paths) == 1
     if len(options.paths) > 3:
-        raise WrongArgument("give INPUT, or RULES FORMS_DIR [GROUPS]")
-    if is_one_input and read_choices(options).has_any():
+        raise WrongArgument(f"give INPUT, or {_FILES}")
+    check_rule(options.groups)
+    if options.groups and len(options.paths) == 3:
+        raise WrongArgument("give GROUPS or --groups, one of them")
+    if is_one_input and (options.groups or read_choices(options).has_any()):
         raise WrongArgument("one input has no files to choose from")
     explain_paths = _explain_input if is_one_input else _explain_files
     explanation = explain_paths(options, find_program(options.program))

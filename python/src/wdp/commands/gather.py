@@ -16,7 +16,13 @@ import argparse
 import os
 from collections.abc import Sequence
 
-from wdp.commands.arguments import add_choices, parse_path, read_choices
+from wdp.commands.arguments import (
+    add_choices,
+    add_rule_of_groups,
+    check_rule,
+    parse_path,
+    read_choices,
+)
 from wdp.files import put, tell, write_all, write_folder
 from wdp.office.auction_files import AuctionFiles
 from wdp.office.faults import format_lines, format_total
@@ -32,14 +38,7 @@ def add_arguments(parser: argparse.ArgumentParser) -> None:
     parser.add_argument("rules", metavar="RULES", help="the file of the rules")
     parser.add_argument("forms", metavar="FORMS_DIR", help="the folder with the bidders' forms")
     parser.add_argument("groups_file", metavar="GROUPS", nargs="?", help="the file of the groups")
-    winners = "each winner of FILE's first group, a report or what `wdp map` prints"
-    parser.add_argument(
-        "--groups",
-        nargs="+",
-        metavar="RULE",
-        default=[],
-        help=f"in place of GROUPS: nobody, then each (bidder alone), or winners FILE ({winners})",
-    )
+    add_rule_of_groups(parser)
     parser.add_argument(
         "--output", metavar="FILE", type=parse_path, help="write the input to this file"
     )
@@ -63,8 +62,7 @@ def _check_arguments(options: argparse.Namespace) -> None:
     is read.
     """
     rule = options.groups
-    if rule and (rule[0], len(rule)) not in (("each", 1), ("winners", 2)):
-        raise WrongArgument("--groups takes each, or winners FILE")
+    check_rule(rule)
     if options.receipt == "-":
         raise WrongArgument("--receipt -: standard error has the receipt anyway; name a file")
     if bool(rule) == bool(options.groups_file):

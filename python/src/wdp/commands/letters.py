@@ -12,7 +12,7 @@ import argparse
 from pathlib import Path
 
 from wdp import files
-from wdp.commands.arguments import make_line_type, parse_award_number
+from wdp.commands.arguments import make_line_type, parse_award_number, take_folder
 from wdp.folder import Folder
 from wdp.program import find_program
 from wdp.reporter import ConsoleReporter
@@ -62,7 +62,7 @@ def run(options: argparse.Namespace) -> None:
     if options.drawn and options.receipts:
         raise WrongArgument("--drawn goes with letters about an award, and not with --receipts")
     writer = LetterRun(
-        folder=Folder(options.folder),
+        folder=Folder(take_folder(options.folder, "letters")),
         program=find_program(options.program),
         reporter=ConsoleReporter(command="letters", is_quiet=False),
         page=Page(options.title, options.currency),

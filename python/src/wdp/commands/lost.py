@@ -11,7 +11,7 @@ there; 2 the options are wrong.
 import argparse
 from pathlib import Path
 
-from wdp.commands.arguments import make_type
+from wdp.commands.arguments import make_type, take_folder
 from wdp.commands.auction import add_shared_arguments, make_run
 from wdp.reporter import TableReporter
 from wdp.runs.contents import Goals
@@ -46,7 +46,8 @@ def run(options: argparse.Namespace) -> int:
     whole = make_run(
         options,
         Goals(),
-        folder=options.folder,
+        folder=take_folder(options.folder, "lost"),
+        makes_page=False,
         reporter=TableReporter(command="lost", is_quiet=options.quiet),
     )
     finder = LostRun(whole.folder, whole.means, jobs=whole.jobs)

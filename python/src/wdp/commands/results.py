@@ -1,7 +1,8 @@
 """Makes what can be published of an auction: tables as CSV and JSON, and an HTML page that loads
 nothing.
 
-In place of INPUT and REPORT an audit may come alone, which `wdp verify` reads: it has both.
+In place of INPUT and REPORT an audit may come alone, which `wdp verify` reads: it has both. The
+folder of an auction is taken for the audit in it.
 
 INPUT is the auction's input, without solutions, and REPORT is what `wdp report` printed; wdp has to
 print it again from the winners in it. DIR gets bidders.csv, categories.csv, pools.csv, groups.csv,
@@ -22,6 +23,7 @@ Exit status: 0 the files are written; 1 a text is refused or a package is missin
 wrong.
 """
 import argparse
+import os
 
 from wdp.audits import MOST_OF_AUDIT, is_audit
 from wdp.commands.arguments import make_line_type, parse_award_number, parse_path
@@ -32,6 +34,7 @@ from wdp.publish.making import make_results
 from wdp.publish.names import TITLE, PageOptions
 from wdp.publish.sentences import describe_certificates
 from wdp.publish.signing import Signer
+from wdp.runs.reports import AUDIT
 from wdp.texts.parts import MOST_OF_INPUT
 from wdp.texts.refusals import WrongArgument
 
@@ -39,7 +42,9 @@ from wdp.texts.refusals import WrongArgument
 def add_arguments(parser: argparse.ArgumentParser) -> None:
     """Adds the arguments of the command."""
     parser.add_argument(
-        "input", metavar="INPUT", help="the input of the auction; or its audit, without REPORT"
+        "input",
+        metavar="INPUT",
+        help="the input of the auction; or its audit or its folder, without REPORT",
     )
     parser.add_argument("report", metavar="REPORT", nargs="?", help="what `wdp report` printed")
     parser.add_argument(
@@ -97,6 +102,8 @@ def _check_arguments(options: argparse.Namespace) -> None:
 
 def _read_sources(options: argparse.Namespace) -> Sources:
     """Reads the files that results are made of."""
+    if options.report is None and os.path.isdir(options.input):
+        options.input = os.path.join(options.input, AUDIT)
     if options.report is None:
         text = read(options.input, MOST_OF_AUDIT)
         if not is_audit(text):

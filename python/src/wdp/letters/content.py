@@ -103,15 +103,20 @@ class CountedForm:
 def make_receipt(form: CountedForm, rules: AcceptedRules, naming: Naming) -> Letter:
     """The receipt of a form, which its bidder confirms before the award."""
     confirm = "Please confirm that this is your form, and that no bid is missing or wrong."
-    ask = "This command prints the same of the auction's input, which has every form."
+    ask = "wdp forms prints the same of the auction's input, which has every form."
     checks = [Check(f"wdp forms input.txt | grep '^%form {form.bidder} '", form.line)]
+    about = _describe_digest(form)
+    if form.digest is not None:
+        file = f"{form.bidder}.csv"
+        about.append(f"The file {file} beside this receipt is the form as it counts.")
+        checks.insert(0, Check(f"sha256sum {file}", f"{form.digest}  {file}"))
     return Letter(
         title=naming.title,
         name=naming.format_bidder(form.bidder),
         sections=[
             Section("Receipt of your form", sentences=[confirm]),
             _make_form_section("The form that counts", form, rules, naming=naming),
-            Section("How to check it", sentences=[*_describe_digest(form), ask], checks=checks),
+            Section("How to check it", sentences=[*about, ask], checks=checks),
         ],
     )
 

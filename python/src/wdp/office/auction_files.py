@@ -64,7 +64,9 @@ class AuctionFiles:
                 self.rules = parse_rules(file.rows)
         return not self.faults
 
-    def read_all(self, rules: str, folder: str, groups: Sequence[str]) -> None:
+    def read_all(
+        self, rules: str, folder: str, groups: Sequence[str], *, is_one_form: bool = False
+    ) -> None:
         """Reads all files: that of the rules, those of a folder of forms, and one of groups, or
         groups by a rule.
         """
@@ -76,7 +78,7 @@ class AuctionFiles:
                 self.groups = read_groups(groups, self.rules.bidders, allowed)
                 self.faults += self.groups.faults
         faults_of_groups = self.faults
-        self.folder = FormFolder(self.rules, self.choices)
+        self.folder = FormFolder(self.rules, self.choices, is_one_form=is_one_form)
         self.folder.read(folder)
         self.faults = self.folder.faults
         self.text = self._join(has_groups=bool(groups))
@@ -86,7 +88,8 @@ class AuctionFiles:
         for number, form in enumerate(self.folder.counting, 1):
             self._check_form(form, findings["form", number], is_all=not explained.more)
         self._check_choices()
-        self._check_missing(folder)
+        if not is_one_form:
+            self._check_missing(folder)
         if self.choices.expect:
             self._check_counts(self.choices.expect)
         path = groups[-1] if groups else ""

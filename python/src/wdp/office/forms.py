@@ -43,6 +43,8 @@ class FormFolder:
 
     rules: AcceptedRules
     choices: Choices
+    # whether a bidder's own form is read alone, in place of a folder
+    is_one_form: bool = False
     # the forms that count, in the order of the input: by their bidders' numbers, then those of
     # unknown bidders
     counting: list[File] = field(default_factory=list)
@@ -51,6 +53,8 @@ class FormFolder:
     passed_over: list[str] = field(default_factory=list)
     # bidders whose files can't be read
     unread: list[str] = field(default_factory=list)
+    # files whose names name another bidder than their first rows
+    _misnamed: set[str] = field(default_factory=set)
     faults: list[Fault] = field(default_factory=list)
 
     @property
@@ -70,7 +74,9 @@ class FormFolder:
                         # (whose first row is wrong isn't also missing)
                         self.unread += self._guess_bidders(path)
         for name in dict.fromkeys([*self.rules.bidders, *forms]):
-            self.counting += self._choose_last(forms[name])
+            # (a file that names another bidder, which is said of it, isn't also one of several)
+            named = [form for form in forms[name] if form.path not in self._misnamed]
+            self.counting += self._choose_last(named or forms[name])
 
     def _add_fault(self, place: str, text: str) -> None:
         self.faults.append(Fault(place, text))
@@ -90,6 +96,8 @@ class FormFolder:
         """The files that are taken for forms; the receipt names hidden ones, locks, and those that
         end in ~.
         """
+        if self.is_one_form:
+            return [folder]
         with map_errors(folder):
             names = sorted(os.listdir(folder))
         paths = []
@@ -138,6 +146,9 @@ class FormFolder:
             why = f"the file's name names {others} beside {whose}"
         elif others:
             why = f"the file's name doesn't name {whose}, but {others}"
+            self._misnamed.add(form.path)
+            # (whether these bid isn't asked while it isn't known whose form it is)
+            self.unread += named
         elif not named and not self.choices.any_file_name:
             why = f"the file's name doesn't name {whose}; say --any-file-name if it is right"
         if why and bidder in self.rules.bidders:

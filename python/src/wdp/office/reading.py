@@ -24,6 +24,7 @@ _MOST_OF_A_TITLE = 20  # rows, of which one may be the first row of the table
 _FIRST_GROUP = re.compile(rf"(?:group 1 .*\n)?{WON}")
 _NO_WINNERS = "it doesn't begin with winners and a total, as reports do; perhaps it was cut off"
 _NOBODY_FIRST = "the first line has to be -, the group of nobody: costs are measured against it"
+_WHOLE_INPUT = "it is a whole input of wdp, and not its rules alone"
 _UNENDED = "has no line end, as in a file that was cut off"
 
 
@@ -63,6 +64,8 @@ def _check_first_row(file: File, heads: Collection[str], wanted: str) -> None:
 def read_rules_file(path: str, sheet: str | None = None, *, regular: bool = True) -> File:
     """The rows of the rules, each with the fields that the version wants. Raises Unreadable."""
     file = _read_table(path, _MOST_OF_RULES, heads=["rules"], sheet=sheet, regular=regular)
+    if file.rows and file.rows[0].values[0].strip() == "%rules":
+        raise Unreadable(path, f"{_WHOLE_INPUT}; wdp-office explain {path} takes it")
     _check_first_row(file, ["rules"], "rules begin with rules")
     first = file.rows[0].values if file.rows else []
     width = 5 if first[1:2] == ["1"] else 6

@@ -2,6 +2,7 @@
 judged them.
 """
 from collections.abc import Mapping, Sequence
+from dataclasses import dataclass
 
 from wdp.office.findings import LeftOutBid
 from wdp.office.explaining import explain
@@ -24,35 +25,61 @@ from wdp.texts.refusals import Refused, WrongArgument
 from wdp.texts.tables import compute_digest
 
 
-def make_results(program: str, sources: Sources, options: PageOptions) -> Results:
-    """The results of an auction, judged by the proved program, wdp, at this path.
+@dataclass(frozen=True)
+class Judged:
+    """What results are made of, once the program, wdp, at this path judged it: the input with its
+    bids in no program, and the award.
+    """
 
-    Raises Refused if the program refuses the input or the audit, if the report isn't what it prints
-    of them, or if a name can't be published, and WrongArgument if an award can't have been drawn.
+    program: str
+    sources: Sources
+    auction: Accepted
+    left_out: Sequence[LeftOutBid]
+    award: PublishedAward
+
+    def make_results(self, options: PageOptions) -> Results:
+        """The results; Refused if a name can't be published."""
+        names: dict[str, str] = {}
+        if options.names_path:
+            names = read_names(
+                options.names_path, self.auction.rules, regular=options.regular_names
+            )
+        made = _make_figures(
+            self.auction,
+            self.award,
+            sources=self.sources,
+            options=options,
+            names=names,
+            left_out=self.left_out,
+            version=read_version(self.program),
+        )
+        return Results(made, self.award.audit)
+
+
+def make_results(program: str, sources: Sources, options: PageOptions) -> Results:
+    """The results of an auction, judged by the program; raises what `judge_sources` does, and
+    Refused if a name can't be published.
+    """
+    return judge_sources(program, sources).make_results(options)
+
+
+def judge_sources(program: str, sources: Sources) -> Judged:
+    """Has the proved program, wdp, at this path judge what results are made of.
+
+    Raises Refused if the program refuses the input or the audit, or if the report isn't what it
+    prints of them, and WrongArgument if an award can't have been drawn.
     """
     left_out = _explain_input(program, sources.input)
     auction = accepted.read(sources.input.text, sources.input.name)
     if not auction.groups or auction.groups[0]:
         raise Refused(f"{sources.input.name}: its first group isn't the empty one, -")
-    names: dict[str, str] = {}
-    if options.names_path:
-        names = read_names(options.names_path, auction.rules, regular=options.regular_names)
     if sources.audit is not None:
         award = judge_audit(program, sources, sources.audit, left_out=left_out)
     elif sources.report is not None:
         award = judge_report(program, sources, sources.report, auction=auction)
     else:
         raise WrongArgument(f"{sources.input.name}: results need a report or an audit")
-    made = _make_figures(
-        auction,
-        award,
-        sources=sources,
-        options=options,
-        names=names,
-        left_out=left_out,
-        version=read_version(program),
-    )
-    return Results(made, award.audit)
+    return Judged(program, sources, auction=auction, left_out=left_out, award=award)
 
 
 def _explain_input(program: str, source: Source) -> Sequence[LeftOutBid]:

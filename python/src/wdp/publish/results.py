@@ -1,6 +1,7 @@
 """An auction's results as they are published: a page, tables as CSV and JSON, and the audit."""
 import json
 import os
+from collections.abc import Mapping, Sequence
 from dataclasses import dataclass
 from fractions import Fraction
 from pathlib import Path
@@ -13,8 +14,10 @@ from wdp.publish.picture import make_picture
 from wdp.publish.sentences import make_sentences
 from wdp.publish.signing import NAMESPACE, SIGNATURE, SUMS, Signer, format_sums
 from wdp.publish.tables import BLANKS, make_tables
-from wdp.texts.refusals import need
+from wdp.texts.refusals import need_all
 
+# the modules that the page needs
+NEEDS: Mapping[str, Sequence[str]] = {"the page": ("jinja2",)}
 _AUDIT = "audit.txt"
 _TEMPLATE = Path(__file__).with_name("page.html.jinja")
 
@@ -76,7 +79,7 @@ def _format_json(figures: Figures) -> bytes:
 
 def _make_page(figures: Figures, *, is_signed: bool) -> bytes:
     """The page; Missing without jinja2."""
-    need("the page", "jinja2")
+    need_all(NEEDS)
     from jinja2 import StrictUndefined, Template
 
     template = Template(

@@ -4,6 +4,7 @@ form that counts.
 from collections.abc import Mapping, Sequence
 from dataclasses import dataclass
 from functools import partial
+from types import MappingProxyType
 
 from wdp import files
 from wdp.folder import INPUT, Folder
@@ -24,6 +25,7 @@ from wdp.runs.places import AWARDS
 from wdp.runs.reports import AUDIT, REPORT, Page
 from wdp.texts import accepted
 from wdp.texts.accepted import Accepted
+from wdp.texts.parts import parse_parts
 from wdp.texts.refusals import Refused
 from wdp.texts.tables import compute_digest
 
@@ -108,7 +110,7 @@ class LetterRun:
                 form.bidder: make_receipt(form, auction.rules, naming)
                 for form in self._list_forms(text, auction)
             }
-            self._write(RECEIPTS, letters)
+            self._write(RECEIPTS, letters, _list_parts(text))
 
     def write_letters(self, drawn: int | None = None) -> None:
         """Writes a letter about the award to each bidder; about another award than the first if
@@ -195,9 +197,16 @@ class LetterRun:
         )
         return make_results(self.program, sources, options).figures
 
-    def _write(self, kind: str, letters: Mapping[str, Letter]) -> None:
-        """Writes letters by the names of their bidders, as pages and as texts."""
-        texts = {}
+    def _write(
+        self,
+        kind: str,
+        letters: Mapping[str, Letter],
+        forms: Mapping[str, bytes] = MappingProxyType({}),
+    ) -> None:
+        """Writes letters by the names of their bidders, as pages and as texts, and forms beside
+        them.
+        """
+        texts = {f"{name}.csv": form for name, form in forms.items()}
         for name, letter in letters.items():
             texts[f"{name}.html"] = format_page(letter)
             texts[f"{name}.txt"] = format_text(letter)
@@ -205,3 +214,9 @@ class LetterRun:
         files.write_folder(str(path), texts)
         thing = kind.removesuffix("s")
         self.reporter.say(f"{format_count(len(letters), thing)} in {path}")
+
+
+def _list_parts(data: bytes) -> dict[str, bytes]:
+    """The bytes of each bidder's form in an input that the program accepted, of the last one."""
+    parts = [part for part in parse_parts(data) if part.kind == "form"]
+    return {accepted.parse_form(part.rows())[0]: part.text for part in parts}

@@ -8,7 +8,7 @@ from wdp import files
 from wdp.folder import INPUT, Folder
 from wdp.publish.figures import Figures
 from wdp.publish.judging import AuditSource, Source, Sources, find_contradiction, judge
-from wdp.publish.making import make_results
+from wdp.publish.making import Judged, judge_sources
 from wdp.publish.names import LONGEST, TITLE, PageOptions, is_line
 from wdp.publish.sentences import describe_awards_of_run, describe_proof_of_prices
 from wdp.publish.tables import DisplayTable, make_prices_table, make_ties_table
@@ -108,11 +108,12 @@ class Publisher:
             is_certified=is_certified,
         )
         audit = self.contents.format_audit() if is_certified else None
-        self._write_results(make_sources(data, report, audit))
+        judged = judge_sources(self.means.program, make_sources(data, report, audit))
         if audit is None:
             self._leave({UNCERTIFIED: report})
         else:
             self._leave({AUDIT: audit, REPORT: report})
+        self._write_results(judged)
 
     def _leave(self, texts: dict[str, bytes]) -> None:
         """Leaves these files in the place of all of an earlier run, if they aren't the same."""
@@ -124,7 +125,7 @@ class Publisher:
         for name, text in texts.items():
             folder.leave(name, text)
 
-    def _write_results(self, sources: Sources) -> None:
+    def _write_results(self, judged: Judged) -> None:
         """Makes the tables and the page."""
         names = self.folder.path(_NAMES)
         options = PageOptions(
@@ -133,7 +134,7 @@ class Publisher:
             names_path=str(names) if names.exists() else None,
             regular_names=True,
         )
-        results = make_results(self.means.program, sources, options)
+        results = judged.make_results(options)
         if self.writes_results:
             results.write_files(str(self.folder.path(_RESULTS)))
         self._tell_prices(results.figures)

@@ -3,6 +3,7 @@ this package.
 """
 import importlib
 import re
+from collections.abc import Mapping, Sequence
 
 _LONGEST_TEXT = 500  # characters of a text that a message shows
 
@@ -144,12 +145,29 @@ def need(purpose: str, *modules: str) -> None:
     """Raises Missing, which says how to install them, if some of the modules that a purpose needs
     aren't there.
     """
-    missing = []
-    for module in modules:
-        try:
-            importlib.import_module(module)
-        except ImportError:
-            missing.append(f"python3-{module}")
+    need_all({purpose: modules})
+
+
+def need_all(purposes: Mapping[str, Sequence[str]]) -> None:
+    """Raises Missing, which says in one line how to install them, if some of the modules aren't
+    there that these purposes need.
+    """
+    wants = []
+    missing: list[str] = []
+    for purpose, modules in purposes.items():
+        lacking = [f"python3-{module}" for module in modules if not _is_there(module)]
+        if lacking:
+            wants.append(f"{purpose} needs Debian's packages {' '.join(lacking)}")
+            missing += lacking
     if missing:
-        names = " ".join(missing)
-        raise Missing(f"{purpose} needs Debian's packages {names}: apt-get install -y {names}")
+        install = " ".join(["apt-get install -y", *dict.fromkeys(missing)])
+        raise Missing(f"{', '.join(wants)}: {install}")
+
+
+def _is_there(module: str) -> bool:
+    """Whether a module can be imported."""
+    try:
+        importlib.import_module(module)
+    except ImportError:
+        return False
+    return True
