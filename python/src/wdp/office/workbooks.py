@@ -4,6 +4,7 @@ A sheet is read as a spreadsheet shows it, or refused with the cell: what is hid
 out of order is a fault. Whole numbers come from cells of numbers, and from nothing else.
 """
 import datetime
+import functools
 import posixpath
 import re
 import zipfile
@@ -13,8 +14,8 @@ from collections.abc import Collection, Iterator, Mapping, Sequence
 from dataclasses import dataclass, field
 from io import BytesIO
 from itertools import islice
-from typing import NamedTuple
-from xml.parsers import expat
+from xml.etree import ElementTree
+from xml.etree.ElementTree import Element
 
 from wdp.files import Unreadable
 from wdp.office.faults import format_count, quote
@@ -25,10 +26,6 @@ from wdp.texts.tables import TableRow
 _MOST_ENTRIES = 4_096  # of the archive
 _MOST_UNPACKED = 64 * 1024 * 1024  # bytes of all that a workbook holds, unpacked
 _MOST_OF_A_PART = 16 * 1024 * 1024  # bytes of what is read of it: one XML text
-_CHUNK = 64 * 1024  # bytes that the parser gets at once
-_LONGEST_PIECE = (
-    64 * 1024
-)  # bytes of a comment or a tag, which the parser begins anew with every chunk
 _MOST_ELEMENTS = 1_000_000  # of a part
 _MOST_NESTED = 64  # elements within each other
 _MOST_CELLS = 1_000  # of a row
@@ -40,14 +37,14 @@ _LAST_COLUMN = 16_384
 _MOST_OF_A_TITLE = 20  # rows of another sheet, of which one may be the first row of a form
 _SMALLEST = 1  # what a height in points or a width in characters has to be for anything to be seen
 
-_MAIN = (
-    "http://schemas.openxmlformats.org/spreadsheetml/2006/main ",
-    "http://purl.oclc.org/ooxml/spreadsheetml/main ",
+_NAMESPACES = (
+    "{http://schemas.openxmlformats.org/spreadsheetml/2006/main}",
+    "{http://purl.oclc.org/ooxml/spreadsheetml/main}",
+    "{http://schemas.openxmlformats.org/package/2006/relationships}",
 )
-_RELATIONS = "http://schemas.openxmlformats.org/package/2006/relationships "
 _LINKS = (
-    "http://schemas.openxmlformats.org/officeDocument/2006/relationships ",
-    "http://purl.oclc.org/ooxml/officeDocument/relationships ",
+    "{http://schemas.openxmlformats.org/officeDocument/2006/relationships}id",
+    "{http://purl.oclc.org/ooxml/officeDocument/relationships}id",
 )
 _NUMBER = re.compile(r"[+-]?(?=\.?[0-9])[0-9]{0,400}(?:\.[0-9]{0,400})?(?:[eE][+-]?[0-9]{1,4})?")
 _INDEX = re.compile("[0-9]{1,9}")
@@ -72,90 +69,48 @@ class _BadWorkbook(Exception):
         self.cell = cell
 
 
-class _Element(NamedTuple):
-    """The beginning of an element with its attributes, or its end with the text since the tag
-    before. Names are without the namespace of workbooks; those of others have theirs before them.
-    """
+class _Builder(ElementTree.TreeBuilder):
+    """Builds the tree of an XML text that isn't larger than any spreadsheet writes."""
 
-    is_begin: bool
-    name: str
-    attributes: Mapping[str, str]
-    text: str = ""
-
-
-def _strip_namespace(name: str, namespaces: tuple[str, ...]) -> str:
-    """A name without its namespace, if that is one of these."""
-    for namespace in namespaces:
-        if name.startswith(namespace):
-            return name.removeprefix(namespace)
-    return name
-
-
-class _XmlParser:
-    """The elements of an XML text, as the parser finds them."""
-
-    def __init__(self, namespaces: tuple[str, ...]) -> None:
-        self.namespaces = namespaces
-        self.local_names: dict[str, str] = {}
-        self.found: list[_Element] = []
-        self.texts: list[str] = []
+    def __init__(self) -> None:
+        super().__init__()
         self.count = 0
         self.depth = 0
-        self.parser = expat.ParserCreate(namespace_separator=" ")
-        self.parser.buffer_text = True
-        self.parser.StartElementHandler = self.begin
-        self.parser.EndElementHandler = self.end
-        self.parser.CharacterDataHandler = self.texts.append
-        self.parser.StartDoctypeDeclHandler = self.refuse_type
 
-    def begin(self, name: str, attributes: dict[str, str]) -> None:
-        """Takes the beginning of an element; the parser calls this, and what follows."""
+    def start(self, tag: str, attrs: dict[str, str]) -> Element:
+        """Begins an element."""
         self.count += 1
         self.depth += 1
         if self.count > _MOST_ELEMENTS or self.depth > _MOST_NESTED:
             most = f"{_MOST_ELEMENTS:,} elements, or {_MOST_NESTED} within each other"
             raise _BadWorkbook(f"its XML has more than {most}")
-        self.texts.clear()
-        local_name = self.find_local_name(name)
-        self.found.append(_Element(is_begin=True, name=local_name, attributes=attributes))
+        return super().start(_strip_namespace(tag), attrs)
 
-    def end(self, name: str) -> None:
-        """Takes the end of an element."""
+    def end(self, tag: str) -> Element:
+        """Ends an element."""
         self.depth -= 1
-        text = "".join(self.texts)
-        self.texts.clear()
-        local_name = self.find_local_name(name)
-        self.found.append(_Element(is_begin=False, name=local_name, attributes={}, text=text))
+        return super().end(_strip_namespace(tag))
 
-    def find_local_name(self, name: str) -> str:
-        """The name of an element without its namespace, which is looked up once for each name."""
-        if name not in self.local_names:
-            self.local_names[name] = _strip_namespace(name, self.namespaces)
-        return self.local_names[name]
-
-    def refuse_type(self, *_: object) -> None:
+    def doctype(self, *_: object) -> None:
         """Refuses a document type, by which a small text may become a large one."""
         raise _BadWorkbook("its XML has a document type, as no spreadsheet writes")
 
-    def elements(self, data: bytes) -> Iterator[_Element]:
-        try:
-            for begin in range(0, len(data), _CHUNK):
-                chunk = data[begin : begin + _CHUNK]
-                self.parser.Parse(chunk, False)
-                if begin + len(chunk) - self.parser.CurrentByteIndex > _LONGEST_PIECE:
-                    most = f"{_LONGEST_PIECE:,} bytes"
-                    raise _BadWorkbook(f"its XML has a tag or a comment of more than {most}")
-                yield from self.found
-                self.found.clear()
-            self.parser.Parse(b"", True)
-            yield from self.found
-        except expat.ExpatError as error:
-            raise _BadWorkbook(f"its XML is broken: {error}") from None
+
+@functools.cache
+def _strip_namespace(name: str) -> str:
+    """A name without its namespace, if that is one of workbooks."""
+    return next((name.removeprefix(each) for each in _NAMESPACES if name.startswith(each)), name)
 
 
-def _parse_xml(data: bytes, namespaces: tuple[str, ...] = _MAIN) -> Iterator[_Element]:
-    """The elements of an XML text, as they begin and end."""
-    return _XmlParser(namespaces).elements(data)
+def _parse_xml(data: bytes) -> Element:
+    """The tree of an XML text."""
+    parser = ElementTree.XMLParser(target=_Builder())
+    try:
+        parser.feed(data)
+        root: Element = parser.close()
+    except ElementTree.ParseError as error:
+        raise _BadWorkbook(f"its XML is broken: {error}") from None
+    return root
 
 
 class _Archive:
@@ -201,10 +156,7 @@ class _Archive:
         folder, file = posixpath.split(name)
         data = self.read(posixpath.join(folder, "_rels", f"{file}.rels"))
         links: dict[str, tuple[str, str]] = {}
-        for element in _parse_xml(data, (_RELATIONS,)):
-            if element.name != "Relationship" or not element.is_begin:
-                continue
-            attributes = element.attributes
+        for attributes in (each.attrib for each in _parse_xml(data).iter("Relationship")):
             link = attributes.get("Id", "")
             if link in links:
                 raise _BadWorkbook(f"its archive has the link {quote(link)} twice")
@@ -232,25 +184,11 @@ class _Sheet:
     is_hidden: bool
 
 
-class _TextPieces:
-    """Gathers a text of pieces, without what only says how they are pronounced."""
-
-    def __init__(self) -> None:
-        self.pieces: list[str] = []
-        self.is_spoken = False
-
-    def take(self, element: _Element) -> None:
-        """Takes the beginning or the end of an element of the text."""
-        if element.name == "rPh":
-            self.is_spoken = element.is_begin
-        elif element.name == "t" and not element.is_begin and not self.is_spoken:
-            self.pieces.append(element.text)
-
-    def finish(self) -> str:
-        """The text of the pieces so far; another one begins."""
-        text = "".join(self.pieces)
-        self.pieces.clear()
-        return text
+def _join_text(element: Element) -> str:
+    """The text of a cell, without what only says how it is pronounced."""
+    if element.tag == "t":
+        return element.text or ""
+    return "".join(_join_text(each) for each in element if each.tag != "rPh")
 
 
 class _Styles:
@@ -258,46 +196,22 @@ class _Styles:
     cells, if it has one.
     """
 
-    def __init__(self) -> None:
-        self.of_cells: list[NumberFormat] = []
-        self.of_conditions: list[NumberFormat | None] = []
-        self.codes: dict[str, str] = {}
-        self.numbers: list[str] = []
-        self.list_name = ""
-        self.lists_begun: set[str] = set()
-
-    def take(self, element: _Element) -> None:
-        """Takes the beginning or the end of an element."""
-        if element.name in ("numFmts", "cellXfs", "dxfs"):
-            self.list_name = element.name if element.is_begin else ""
-            if element.is_begin and element.name in self.lists_begun:
-                raise _BadWorkbook(f"its styles have the list {quote(element.name)} twice")
-            self.lists_begun.add(element.name)
-        elif element.is_begin:
-            self.take_style(element)
-
-    def take_style(self, element: _Element) -> None:
-        """Takes the beginning of an element within a list."""
-        attributes = element.attributes
-        code = attributes.get("formatCode", "")
-        match self.list_name, element.name:
-            case "numFmts", "numFmt":
-                number = attributes.get("numFmtId", "")
-                if number in self.codes:
-                    raise _BadWorkbook(f"its format of numbers {quote(number)} is there twice")
-                self.codes[number] = code
-            case "cellXfs", "xf":
-                self.numbers.append(attributes.get("numFmtId", "0"))
-            case "dxfs", "dxf":
-                self.of_conditions.append(None)
-            case "dxfs", "numFmt":
-                self.of_conditions[-1:] = [NumberFormat(code)]
-
-    def finish(self) -> None:
-        """Gives each style of cells its format."""
-        codes = BUILT_IN | self.codes
-        formats = {number: NumberFormat(codes.get(number, GENERAL)) for number in set(self.numbers)}
-        self.of_cells = [formats[number] for number in self.numbers] or [NumberFormat(GENERAL)]
+    def __init__(self, root: Element) -> None:
+        lists = _collect_once(root, ("numFmts", "cellXfs", "dxfs"))
+        codes: dict[str, str] = {}
+        for each in lists["numFmts"].iter("numFmt"):
+            number = each.get("numFmtId", "")
+            if number in codes:
+                raise _BadWorkbook(f"its format of numbers {quote(number)} is there twice")
+            codes[number] = each.get("formatCode", "")
+        codes = BUILT_IN | codes
+        numbers = [each.get("numFmtId", "0") for each in lists["cellXfs"].iter("xf")]
+        formats = {number: NumberFormat(codes.get(number, GENERAL)) for number in set(numbers)}
+        self.of_cells = [formats[number] for number in numbers] or [NumberFormat(GENERAL)]
+        found = (each.find("numFmt") for each in lists["dxfs"].iter("dxf"))
+        self.of_conditions = [
+            None if each is None else NumberFormat(each.get("formatCode", "")) for each in found
+        ]
 
     def find_format(self, style: str) -> NumberFormat | None:
         """The format of a style of cells, by its number; None if there is no such style."""
@@ -312,6 +226,15 @@ class _Styles:
         return self.of_conditions[int(style)]
 
 
+def _collect_once(root: Element, names: Sequence[str]) -> dict[str, Element]:
+    """The lists of these names, each there once at most, and empty if it isn't there."""
+    lists = {name: root.findall(f".//{name}") for name in names}
+    for name, found in lists.items():
+        if len(found) > 1:
+            raise _BadWorkbook(f"its styles have the list {quote(name)} twice")
+    return {name: found[0] if found else Element(name) for name, found in lists.items()}
+
+
 class _Workbook:
     """A workbook: its sheets of cells, its texts, and the formats of numbers."""
 
@@ -323,18 +246,17 @@ class _Workbook:
         self.links = self.package.links(part)
         self.is_of_1904 = False
         self.sheets: list[_Sheet] = []
-        for element in _parse_xml(self.package.read(part)):
-            if element.is_begin and element.name == "sheet":
-                self.add_sheet(element.attributes)
-            elif element.is_begin and element.name == "workbookPr":
-                self.is_of_1904 = element.attributes.get("date1904", "0") not in _OFF
-        self.texts = self.read_texts()
-        self.styles = self.read_styles()
+        root = _parse_xml(self.package.read(part))
+        for element in root.iter("sheet"):
+            self.add_sheet(element.attrib)
+        for element in root.iter("workbookPr"):
+            self.is_of_1904 = element.get("date1904", "0") not in _OFF
+        self.texts = [_join_text(each) for each in self.read_part("sharedStrings").iter("si")]
+        self.styles = _Styles(self.read_part("styles"))
 
     def add_sheet(self, attributes: Mapping[str, str]) -> None:
         """Adds what the workbook says of a sheet, if that is one of cells."""
-        values = attributes.items()
-        links = (value for name, value in values if _strip_namespace(name, _LINKS) == "id")
+        links = (attributes[name] for name in _LINKS if name in attributes)
         kind, part = self.links.get(next(links, ""), ("", ""))
         name = attributes.get("name", "")
         if name.lower() in {sheet.name.lower() for sheet in self.sheets}:
@@ -345,25 +267,10 @@ class _Workbook:
             is_hidden = attributes.get("state", "visible") != "visible"
             self.sheets.append(_Sheet(name, part, is_hidden=is_hidden))
 
-    def read_texts(self) -> list[str]:
-        """The texts that cells name by their numbers."""
-        part = _find_part(self.links, "sharedStrings")
-        texts: list[str] = []
-        pieces = _TextPieces()
-        for element in _parse_xml(self.package.read(part)) if part else ():
-            pieces.take(element)
-            if element.name == "si" and not element.is_begin:
-                texts.append(pieces.finish())
-        return texts
-
-    def read_styles(self) -> _Styles:
-        """The formats of numbers."""
-        part = _find_part(self.links, "styles")
-        styles = _Styles()
-        for element in _parse_xml(self.package.read(part)) if part else ():
-            styles.take(element)
-        styles.finish()
-        return styles
+    def read_part(self, kind: str) -> Element:
+        """The part of a kind, which is empty if there is none."""
+        part = _find_part(self.links, kind)
+        return _parse_xml(self.package.read(part)) if part else Element(kind)
 
 
 def _format_column(column: int) -> str:
@@ -402,6 +309,36 @@ class _Cell:
     style: str | None
     value: str | None = None
     is_formula: bool = False
+    has_value: bool = False
+
+    def take_value(self, text: str, *, is_inline: bool) -> None:
+        """Takes the value."""
+        if self.has_value or is_inline != (self.kind == "inlineStr"):
+            raise _BadWorkbook("its value isn't understood, or it has two", self.place)
+        if text.strip(_BLANK) or self.kind in _TEXTS and text:
+            self.has_value = True
+            self.value = text
+        if self.value is not None and self.column > _MOST_CELLS:
+            why = f"it is beyond the first {_MOST_CELLS:,} cells of its row"
+            raise _BadWorkbook(why, self.place)
+
+
+def _list_known(element: Element) -> list[Element]:
+    """What is in an element but its extensions, which show nothing."""
+    return [each for each in element if each.tag != "extLst"]
+
+
+def _join_value(element: Element) -> str:
+    """The text of a value, which has nothing in it, or of an inline text."""
+    for each in element.iter():
+        if "}" in each.tag or element.tag == "v" and each is not element:
+            raise _BadWorkbook(f"there is {quote(each.tag)}, which isn't understood")
+    return element.text or "" if element.tag == "v" else _join_text(element)
+
+
+def _refuse_element(name: str, place: str) -> _BadWorkbook:
+    shown = quote(name.strip("{").replace("}", " "))
+    return _BadWorkbook(f"there is {shown}, which isn't understood", place)
 
 
 @dataclass
@@ -505,100 +442,72 @@ class _SheetReader:
     remarks: _Remarks = field(default_factory=_Remarks)
     # the columns that have a value in each row
     columns: dict[int, list[int]] = field(default_factory=dict)
-    merged: int = 0
     row: int = 0
     column: int = 0
     cells: list[_Cell] = field(default_factory=list)
-    pieces: _TextPieces = field(default_factory=_TextPieces)
-    within: list[str] = field(default_factory=list)
-    is_begun: bool = False
-    # the cells to which conditions give a format
-    cells_of_conditions: str = ""
 
     def rows(self) -> Iterator[TableRow]:
         """The rows that have a value."""
-        last = 0
-        for element in _parse_xml(self.book.package.read(self.sheet.part)):
-            if element.is_begin:
-                self.begin(element)
-                self.within.append(element.name)
+        root = _parse_xml(self.book.package.read(self.sheet.part))
+        if root.tag != "worksheet":
+            raise _BadWorkbook(f"the sheet {quote(self.sheet.name)} is no sheet of cells")
+        is_begun = False
+        for element in root:
+            if element.tag != "sheetData":
+                self.take(element, is_begun=is_begun)
                 continue
-            self.within.pop()
-            self.pieces.take(element)
-            self.end(element)
-            if element.name == "row" and self.within == ["worksheet", "sheetData"] and self.cells:
-                self.file.empty += self.row - last - 1
-                last = self.row
-                yield self.make_row()
-            elif self.reads_rows_alone and self.is_begun and self.within == ["worksheet"]:
+            if is_begun:
+                raise _BadWorkbook(f"the sheet {quote(self.sheet.name)} is there twice")
+            is_begun = True
+            yield from self.read_rows(element)
+            if self.reads_rows_alone:
                 return
-        if not self.is_begun:
+        if not is_begun:
             raise _BadWorkbook("it has no rows")
 
-    def begin(self, element: _Element) -> None:
-        """Takes the beginning of an element."""
-        attributes = element.attributes
-        match self.within, element.name:
-            case [], name:
-                if name != "worksheet":
-                    raise _BadWorkbook(f"the sheet {quote(self.sheet.name)} is no sheet of cells")
-            case ["worksheet"], "sheetData":
-                if self.is_begun:
-                    raise _BadWorkbook(f"the sheet {quote(self.sheet.name)} is there twice")
-                self.is_begun = True
-            case ["worksheet"], name:
-                self.check_place(name)
-                self.layout.take_sizes(attributes)
-                self.cells_of_conditions = attributes.get("sqref", "")
-            case ["worksheet", "cols"], "col":
-                self.layout.take_columns(attributes)
-            case ["worksheet", "mergeCells"], "mergeCell":
-                self.check_merged(attributes.get("ref", ""))
-            case ["worksheet", "conditionalFormatting"], "cfRule":
-                self.check_condition(self.book.styles.find_condition(attributes.get("dxfId", "")))
-            case ["worksheet", "sheetData", *within], _:
-                self.begin_within(within, element)
-            case _, "numFmt":
-                self.check_condition(NumberFormat(attributes.get("formatCode", "")))
-
-    def check_place(self, name: str) -> None:
-        """Raises _BadWorkbook if an element, which isn't the rows, may change how they are read
-        where it is.
+    def take(self, element: Element, *, is_begun: bool) -> None:
+        """Takes an element that isn't the rows. Raises _BadWorkbook if it may change how these are
+        read where it is.
         """
-        if " " in name and not self.is_begun:
-            raise _BadWorkbook(f"before its rows it has {quote(name)}, which isn't understood")
-        if name in _BEFORE_ROWS and self.is_begun:
+        name = element.tag
+        if "}" in name and not is_begun:
+            shown = quote(name.strip("{").replace("}", " "))
+            raise _BadWorkbook(f"before its rows it has {shown}, which isn't understood")
+        if name in _BEFORE_ROWS and is_begun:
             raise _BadWorkbook(f"after its rows it has {quote(name)}, which has to be before them")
+        self.layout.take_sizes(element.attrib)
+        for column in element.findall("col") if name == "cols" else ():
+            self.layout.take_columns(column.attrib)
+        merged = element.findall("mergeCell") if name == "mergeCells" else []
+        for count, each in enumerate(merged, 1):
+            self.check_merged(each.get("ref", ""), count)
+        for rule in element.iter("cfRule"):
+            style = self.book.styles.find_condition(rule.get("dxfId", ""))
+            self.check_condition(style, element.get("sqref", ""))
+        for each in element.iter("numFmt"):
+            self.check_condition(NumberFormat(each.get("formatCode", "")), element.get("sqref", ""))
 
-    def check_condition(self, number_format: NumberFormat | None) -> None:
+    def check_condition(self, number_format: NumberFormat | None, cells: str) -> None:
         """Raises _BadWorkbook if a condition gives cells a format of numbers."""
         if number_format is None or not number_format.is_odd(1):
             return
         code = quote(number_format.code)
-        cell = _CELL.match(self.cells_of_conditions)
+        cell = _CELL.match(cells)
         why = f"a condition may show its number by the format {code}; remove the condition"
         raise _BadWorkbook(why, cell[0] if cell else "")
 
-    def begin_within(self, within: list[str], element: _Element) -> None:
-        """Takes the beginning of an element among the rows."""
-        match within, element.name:
-            case [], "row":
-                self.begin_row(element.attributes)
-            case ["row"], "c":
-                self.begin_cell(element.attributes)
-            case ["row", "c"], "f":
-                self.cells[-1].is_formula = True
-            case ["row", "c"], "v" | "is":
-                self.pieces.take(element)
-            case ["row", "c", "is", *_], name if " " not in name:
-                self.pieces.take(element)
-            case [*_, "extLst" | "ext"], _:
-                pass
-            case ["row", *_], "extLst":
-                pass
-            case _:
-                place = self.cells[-1].place if self.cells else f"A{self.row or 1}"
-                raise _BadWorkbook(f"there is {quote(element.name)}, which isn't understood", place)
+    def read_rows(self, data: Element) -> Iterator[TableRow]:
+        """The rows that have a value, with the number of those between them that have none."""
+        last = 0
+        for row in data:
+            if row.tag != "row":
+                raise _refuse_element(row.tag, f"A{self.row or 1}")
+            self.begin_row(row.attrib)
+            self.cells = [cell for cell in map(self.read_cell, _list_known(row)) if cell]
+            if self.cells:
+                self.file.empty += self.row - last - 1
+                last = self.row
+                yield self.make_row()
 
     def begin_row(self, attributes: Mapping[str, str]) -> None:
         """Takes the number of a row, and whether it is shown."""
@@ -613,15 +522,16 @@ class _SheetReader:
             raise _BadWorkbook(why, f"A{number}")
         self.row = int(number)
         self.column = 0
-        self.cells = []
         self.layout.take_row(attributes)
 
-    def begin_cell(self, attributes: Mapping[str, str]) -> None:
-        """Takes the place of a cell, and the kind of its value."""
-        name = attributes.get("r", f"{_format_column(self.column + 1)}{self.row}")
-        cell = _CELL.fullmatch(name)
-        column = _parse_column(cell[1]) if cell else 0
-        if not cell or int(cell[2]) != self.row or column > _LAST_COLUMN:
+    def read_cell(self, element: Element) -> _Cell | None:
+        """A cell of the row, or None if it has nothing."""
+        name = element.get("r", f"{_format_column(self.column + 1)}{self.row}")
+        if element.tag != "c":
+            raise _refuse_element(element.tag, f"A{self.row}")
+        match = _CELL.fullmatch(name)
+        column = _parse_column(match[1]) if match else 0
+        if not match or int(match[2]) != self.row or column > _LAST_COLUMN:
             why = f"in this row there is {quote(name)}, which is no cell of it"
             raise _BadWorkbook(why, f"A{self.row}")
         if column == self.column:
@@ -629,43 +539,16 @@ class _SheetReader:
         if column < self.column:
             before = f"{_format_column(self.column)}{self.row}"
             raise _BadWorkbook(f"it comes after {before}, and cells have to be in order", name)
-        self.drop_empty()
         self.column = column
-        self.cells.append(
-            _Cell(
-                column=column,
-                place=name,
-                kind=attributes.get("t", "n"),
-                style=attributes.get("s"),
-            )
-        )
-
-    def drop_empty(self) -> None:
-        """Drops the last cell if it has nothing."""
-        if self.cells and self.cells[-1].value is None and not self.cells[-1].is_formula:
-            self.cells.pop()
-
-    def end(self, element: _Element) -> None:
-        """Takes the end of an element."""
-        match self.within, element.name:
-            case ["worksheet", "sheetData", "row", "c"], "v":
-                self.set_value(element.text, is_inline=False)
-            case ["worksheet", "sheetData", "row", "c"], "is":
-                self.set_value(self.pieces.finish(), is_inline=True)
-            case ["worksheet", "sheetData"], "row":
-                self.drop_empty()
-
-    def set_value(self, text: str, *, is_inline: bool) -> None:
-        """Gives the last cell its value."""
-        cell = self.cells[-1]
-        if cell.value is not None or is_inline != (cell.kind == "inlineStr"):
-            raise _BadWorkbook("its value isn't understood, or it has two", cell.place)
-        if text.strip(_BLANK) or cell.kind in _TEXTS and text:
-            cell.value = text
-        if cell.value is not None and cell.column > _MOST_CELLS:
-            raise _BadWorkbook(
-                f"it is beyond the first {_MOST_CELLS:,} cells of its row", cell.place
-            )
+        cell = _Cell(column, name, kind=element.get("t", "n"), style=element.get("s"))
+        for each in _list_known(element):
+            if each.tag == "f":
+                cell.is_formula = True
+            elif each.tag in ("v", "is"):
+                cell.take_value(_join_value(each), is_inline=each.tag == "is")
+            else:
+                raise _refuse_element(each.tag, name)
+        return cell if cell.value is not None or cell.is_formula else None
 
     def make_row(self) -> TableRow:
         """The row of the cells that were read."""
@@ -742,12 +625,11 @@ class _SheetReader:
             formats.append(number_format)
         return next((each for each in formats if each.is_odd(number)), formats[0])
 
-    def check_merged(self, ref: str) -> None:
+    def check_merged(self, ref: str, count: int) -> None:
         """A value that merged cells cover is a fault of its cell."""
-        self.merged += 1
         names = ref.split(":")
         cells = [cell for cell in map(_CELL.fullmatch, names) if cell]
-        if not 1 <= len(names) == len(cells) <= 2 or self.merged > _MOST_MERGED:
+        if not 1 <= len(names) == len(cells) <= 2 or count > _MOST_MERGED:
             why = f"its merged cells {quote(ref)} aren't understood, or are too many"
             raise _BadWorkbook(why)
         left = _parse_column(cells[0][1])
