@@ -1,138 +1,130 @@
-"""Formats of numbers in workbooks: whether a cell shows its number as it is, as another one, as a
-date, or not at all.
+"""Formats of numbers in workbooks: those that are known to show a cell's number as it is, and those
+that show it as a date. Of every other format nothing is known.
 """
 import re
-from collections.abc import Sequence
-from dataclasses import dataclass
 from functools import cached_property
 
 GENERAL = "General"
+_LONGEST = 255  # characters of a format
 # the formats that workbooks name by their numbers alone; most of the dates are those of a language
-BUILT_IN = {"9": "0%", "10": "0.00%"}
+BUILT_IN = {
+    "0": GENERAL,
+    "1": "0",
+    "2": "0.00",
+    "3": "#,##0",
+    "4": "#,##0.00",
+    "9": "0%",
+    "10": "0.00%",
+    "11": "0.00E+00",
+    "12": "# ?/?",
+    "13": "# ??/??",
+    "37": "#,##0;-#,##0",
+    "38": "#,##0;[Red]-#,##0",
+    "39": "#,##0.00;-#,##0.00",
+    "40": "#,##0.00;[Red]-#,##0.00",
+    "48": "##0.0E+0",
+    "49": "@",
+}
+_CURRENCIES = {"5": "$#,##0", "6": "$#,##0", "7": "$#,##0.00", "8": "$#,##0.00"}
+_CURRENCIES |= {"41": "#,##0", "42": "$#,##0", "43": "#,##0.00", "44": "$#,##0.00"}
 _DATE_NUMBERS = (*range(14, 23), *range(27, 37), *range(45, 48), *range(50, 59))
-BUILT_IN |= {str(number): "yyyy-mm-dd" for number in _DATE_NUMBERS}
-# what is shown as it is written there: a text in quotes, and a character after a backslash; then
-# what leaves room or fills it, what is in brackets, and a character with a meaning of its own
-_PIECE = re.compile(
-    r'"(?P<text>[^"]*)"|\\(?P<character>.)|[_*].|\[(?P<bracket>[^\]]*)\]|(?P<sign>.)', re.DOTALL
-)
+# which of them a workbook may say itself, since they differ by language
+OF_LANGUAGE = _CURRENCIES | {str(number): "yyyy-mm-dd" for number in _DATE_NUMBERS}
+_MOST_IN_GENERAL = 10**11  # from which on General shows the first digits alone
+MOST_SHOWN = 10**15  # from which on any format shows the first 15 digits alone
+
+# languages that write numbers with the digits 0 to 9, as words and as the numbers of Windows
+_LANGUAGES = "bg|cs|cy|da|de|el|en|es|et|fi|fr|ga|he|hr|hu|is|it|ja|ko|lt|lv|mt|nb|nl|nn|no|pl|pt"
+_LANGUAGES += "|ro|ru|sk|sl|sr|sv|tr|uk|zh"
+_PRIMARY = "02|04|05|06|07|08|09|0A|0B|0C|0D|0E|0F|10|11|12|13|14|15|16|18|19|1A|1B|1D|1F"
+_PRIMARY += "|22|24|25|26|27|3A|3C|52"
+_CODES = rf"(?i:[0-4]?[0-9A-F]?(?:{_PRIMARY}))"
+_LANGUAGE = rf"-(?:[12]|x-euro[12]?|(?:{_LANGUAGES})(?:-[A-Z]{{2}})?|{_CODES})"
+_SIGNS = "[$£€¥₣₤₦₩₪₫₱₴₹₺₽]|[A-Z]{1,3}[$£]|kr\\.?|zł|Kč|Ft|[Ff]r\\.?|lei|лв\\.?|R"
+_ISO = "AUD|BGN|BRL|CAD|CHF|CNY|CZK|DKK|EUR|GBP|HKD|HUF|ILS|INR|ISK|JPY|KRW|MXN|NOK|NZD|PLN|RON|RUB"
+_ISO += "|SEK|SGD|TRY|UAH|USD|ZAR"
+_WORDS = "pounds?|euros?|dollars?|sterling"
+_CURRENCY = f"(?:{_SIGNS}|{_ISO}|{_WORDS})"
+_BLANK = "[ \u00a0\u202f]"
+# what may be before and after a number: a currency, blanks, room for a character, and a fill of
+# blanks
+_BESIDE = rf"""(?:
+    "{_BLANK}*{_CURRENCY}?{_BLANK}*" | \[\${_BLANK}*{_CURRENCY}?{_BLANK}*(?:{_LANGUAGE})?\]
+    | \\?[$£€¥] | \\?{_BLANK} | _. | \*{_BLANK}
+)*"""
+_DIGITS = r"""(?:
+    General | (?: [#?0]+ | (?:[#?]+,)+[#?]*0{0,3} ) (?:\.[#?0]*)? | \#[ ]\?{1,3}/\?{1,3}
+)"""
+_NUMBER = re.compile(f"{_BESIDE}{_DIGITS}{_BESIDE}", re.VERBOSE | re.DOTALL)
+# how accountants write 0
+_ZERO = re.compile(rf'{_BESIDE}(?:"[-–—]?"|\\?[-–—])?\?*{_BESIDE}', re.VERBOSE | re.DOTALL)
+_TEXT = re.compile(f"{_BESIDE}(?:@|General){_BESIDE}", re.VERBOSE | re.DOTALL)
+# what is shown as it is written there, what is in brackets, what leaves room or fills it
+_PIECE = re.compile(r'"[^"]*"|\\.|[_*].|\[(?P<bracket>[^\]]*)\]|(?P<sign>.)', re.DOTALL)
 _ELAPSED = re.compile("h+|m+|s+", re.IGNORECASE)
-_CONDITION = re.compile("[<>=]")
-_CURRENCY = re.compile(r"\$([^-]*)")
 _OF_DATES = re.compile("[dmyhs]", re.IGNORECASE)
-_SCALE = re.compile("[0#?],+(?![0#?,])|%")
-_OF_NUMBERS = re.compile("[0#?@]|general|standard", re.IGNORECASE)
-_PLACE = re.compile("[0#?]")  # of a digit of the number
-_DIGIT = re.compile("[0-9]")
-_DIGIT_BUT_0 = re.compile("[1-9]")
-_MINUS = re.compile("[-(−–]")  # accountants write (5) for -5
-_POINTS = (".", ",")
-
-
-@dataclass(frozen=True)
-class _Section:
-    """A section of a format: what depends on the number, the texts that are shown as they are, and
-    what is shown before the number's first digit.
-    """
-
-    pattern: str
-    texts: Sequence[str]
-    before: str
-
-    def is_date(self) -> bool:
-        """Whether it shows a number as a date or a time."""
-        is_date = bool(_OF_DATES.search(self.pattern))
-        return is_date and not self.pattern.lower().startswith("standard")
-
-    def shows(self) -> bool:
-        """Whether it shows a number at all."""
-        return bool(_OF_NUMBERS.search(self.pattern))
-
-    def alters(self, number: float) -> bool:
-        """Whether it shows a number, which isn't below 0, as another one."""
-        texts = "".join(self.texts)
-        if not number:
-            return bool(_DIGIT_BUT_0.search(self.pattern + texts))
-        return bool(
-            _SCALE.search(self.pattern)
-            or _DIGIT_BUT_0.search(self.pattern)
-            or _DIGIT.search(texts)
-            or _MINUS.search(self.before)
-            or any(point in self.texts for point in _POINTS)
-        )
 
 
 class NumberFormat:
     """A format by its code.
 
-    Its first section is that of numbers above 0 and its third one, if it has one, that of 0, unless
-    there are conditions.
+    Its first section is that of numbers above 0, its third one, if it has one, that of 0, and its
+    fourth one that of texts.
 
-    >>> codes = ("#,##0", "#,##0,", '0"000"', "0%", "-0", "[$1]0", "0;-0;")
-    >>> [NumberFormat(code).alters(300) for code in codes]
-    [False, True, True, True, True, True, False]
-    >>> [NumberFormat(code).alters(0) for code in ("#,##0,", "[$1]0", '0;-0;"-"', '0;-0;"5"')]
-    [False, True, False, True]
-    >>> [NumberFormat(code).hides(300) for code in ("0", "0;;;@", ";;;", '"many"')]
-    [False, False, True, True]
+    >>> codes = ("General", "#,##0", "0.00", "[$£-809]#,##0", '#,##0" EUR"', "0;-0;;@", "# ?/?")
+    >>> [NumberFormat(code).shows(300) for code in codes]
+    [True, True, True, True, True, True, True]
+    >>> codes = ("#,##0,", "0%", '0"k"', "0*0", "-0", "[$1]0", "0.00E+00", ";;;", "[White]0", "0;0;5")
+    >>> [NumberFormat(code).shows(300) and NumberFormat(code).shows(0) for code in codes]
+    [False, False, False, False, False, False, False, False, False, False]
     """
 
     def __init__(self, code: str) -> None:
         self.code = code
 
+    def shows(self, number: float) -> bool:
+        """Whether it is known to show a number, which isn't below 0, as it is."""
+        if not number:
+            return self._shows_zero
+        is_general = GENERAL in self.code or "@" in self.code
+        return self._shows_numbers and not (is_general and number >= _MOST_IN_GENERAL)
+
+    @cached_property
+    def shows_texts(self) -> bool:
+        """Whether it is known to show a text as it is."""
+        if len(self._sections) > 3:
+            return len(self._sections) == 4 and bool(_TEXT.fullmatch(self._sections[3]))
+        return "@" not in self.code or self.code == "@"
+
     @cached_property
     def is_date(self) -> bool:
         """Whether it shows a number as a date or a time."""
-        if any(_ELAPSED.fullmatch(bracket) for bracket in self._brackets):
+        pieces = list(_PIECE.finditer(self.code[:_LONGEST]))
+        if any(_ELAPSED.fullmatch(piece["bracket"] or "") for piece in pieces):
             return True
-        return any(section.is_date() for section in self._sections)
-
-    def hides(self, number: float) -> bool:
-        """Whether it doesn't show a number; one that isn't 0."""
-        return bool(number) and not all(section.shows() for section in self._choose(number))
-
-    def alters(self, number: float) -> bool:
-        """Whether it shows another number than this one: scaled, in percent, below 0, or with digits
-        of its own.
-        """
-        return any(section.alters(number) for section in self._choose(number))
-
-    def is_odd(self, number: float) -> bool:
-        """Whether it shows anything but this number."""
-        return self.is_date or self.hides(number) or self.alters(number)
-
-    def _choose(self, number: float) -> Sequence[_Section]:
-        """The sections that may show a number, which isn't below 0."""
-        if any(_CONDITION.match(bracket) for bracket in self._brackets):
-            return self._sections
-        if not number and len(self._sections) > 2:
-            return self._sections[2:3]
-        return self._sections[:1]
+        signs = "".join(piece["sign"] or "" for piece in pieces)
+        return bool(_OF_DATES.search(signs.replace(GENERAL, "")))
 
     @cached_property
-    def _brackets(self) -> list[str]:
-        """What is in brackets."""
-        found = (piece["bracket"] for piece in _PIECE.finditer(self.code))
-        return [bracket for bracket in found if bracket]
-
-    @cached_property
-    def _sections(self) -> list[_Section]:
-        sections: list[_Section] = []
-        pattern = before = ""
-        texts: list[str] = []
-        for piece in [*_PIECE.finditer(self.code), None]:
-            if piece is None or piece["sign"] == ";":
-                sections.append(_Section(pattern, texts=tuple(texts), before=before))
-                pattern = before = ""
-                texts.clear()
-                continue
-            sign = piece["sign"] or ""
-            text = piece["text"] or piece["character"] or ""
-            if currency := _CURRENCY.match(piece["bracket"] or ""):
-                text = currency[1]
-            pattern += sign
-            if text:
-                texts.append(text)
-            if not _PLACE.search(pattern):
-                before += sign + text
+    def _sections(self) -> list[str]:
+        sections = [""]
+        for piece in _PIECE.finditer(self.code):
+            if piece["sign"] == ";":
+                sections.append("")
+            else:
+                sections[-1] += piece[0]
         return sections
+
+    @cached_property
+    def _shows_numbers(self) -> bool:
+        if self.code in (GENERAL, "@"):
+            return True
+        is_short = len(self.code) <= _LONGEST and len(self._sections) <= 4
+        return is_short and bool(_NUMBER.fullmatch(self._sections[0]))
+
+    @cached_property
+    def _shows_zero(self) -> bool:
+        if len(self._sections) < 3:
+            return self._shows_numbers
+        section = self._sections[2]
+        return self._shows_numbers and bool(_NUMBER.fullmatch(section) or _ZERO.fullmatch(section))

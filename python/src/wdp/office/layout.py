@@ -1,0 +1,114 @@
+"""What a sheet says of its rows and columns: which of them nobody sees, how large they are, and
+their styles.
+"""
+import re
+from collections.abc import Iterator
+from dataclasses import dataclass, field
+from xml.etree.ElementTree import Element
+
+from wdp.office.archives import BadWorkbook, XmlPart
+from wdp.office.cells import format_column
+from wdp.office.looks import NUMBER, Look, is_on
+
+MOST_CELLS = 256  # of a row
+_LOWEST = 6  # points of a row, below which nothing is seen of it
+_NARROWEST = 1  # characters of a column, below which nothing is seen of it
+_USUAL_WIDTH = 8.0
+_HINT = "show what counts, and delete the rest"
+IN_COLLAPSED_GROUP = f"its row is in a group, of which one is collapsed; {_HINT}"
+_NUMBER_OF_COLUMN = re.compile("[1-9][0-9]{0,4}")
+
+
+def _parse_size(text: str | None, usual: float | None) -> float | None:
+    """A height or a width, the usual one if there is none; 0 if it isn't understood."""
+    if text is None:
+        return usual
+    return float(text) if NUMBER.fullmatch(text) else 0.0
+
+
+@dataclass
+class Layout:
+    """The rows and columns of a sheet, as far as they are read."""
+
+    hidden: dict[int, str] = field(default_factory=dict)
+    widths: dict[int, float] = field(default_factory=dict)
+    usual_width: float = _USUAL_WIDTH
+    usual_height: float | None = None
+    # the styles of columns that have one, and that of the row
+    styles: dict[int, str] = field(default_factory=dict)
+    row_style: str | None = None
+    height: float | None = None
+    is_row_hidden: bool = False
+    has_collapsed_row: bool = False
+    grouped_rows: list[int] = field(default_factory=list)
+
+    def take_sheet(self, part: XmlPart) -> None:
+        """Takes what comes before the rows: sizes of which nothing else is said, and columns."""
+        for element in part.root:
+            name = part.name(element.tag)
+            if name == "sheetFormatPr":
+                width = _parse_size(element.get("defaultColWidth"), _USUAL_WIDTH)
+                self.usual_width = width or 0.0
+                self.usual_height = _parse_size(element.get("defaultRowHeight"), None)
+            elif name == "cols":
+                self._take_columns(list(element))
+
+    def _take_columns(self, columns: list[Element]) -> None:
+        """Takes what is said of columns."""
+        last = 0
+        has_collapsed = any(is_on(column.get("collapsed")) for column in columns)
+        for column in columns:
+            texts = column.get("min", ""), column.get("max", "")
+            if not all(_NUMBER_OF_COLUMN.fullmatch(text) for text in texts):
+                raise BadWorkbook("its columns aren't understood")
+            begin, end = map(int, texts)
+            if not last < begin <= end:
+                place = f"{format_column(begin)}1"
+                raise BadWorkbook("its column isn't in order, or is there twice", place)
+            last = end
+            width = _parse_size(column.get("width"), self.usual_width)
+            reason = ""
+            if is_on(column.get("hidden")) or width is not None and width < _NARROWEST:
+                reason = f"its column is hidden; {_HINT}"
+            elif has_collapsed and column.get("outlineLevel", "0") != "0":
+                reason = f"its column is in a group, of which one is collapsed; {_HINT}"
+            for number in range(begin, min(end, MOST_CELLS) + 1):
+                self.widths[number] = width or 0.0
+                if reason:
+                    self.hidden[number] = reason
+                if style := column.get("style"):
+                    self.styles[number] = style
+
+    def take_row(self, row: Element, number: int) -> None:
+        """Takes what is said of the next row."""
+        self.height = _parse_size(row.get("ht"), self.usual_height)
+        self.is_row_hidden = is_on(row.get("hidden"))
+        self.row_style = row.get("s")
+        self.has_collapsed_row |= is_on(row.get("collapsed"))
+        if row.get("outlineLevel", "0") != "0":
+            self.grouped_rows.append(number)
+
+    def list_styles(self, column: int) -> list[str]:
+        """The styles that a cell of this row may have if it names none: spreadsheets differ."""
+        styles = ["0", self.row_style, self.styles.get(column)]
+        return [style for style in styles if style is not None]
+
+    def find_reason(self, column: int, look: Look) -> str:
+        """Why a cell of this row isn't seen; nothing if it is."""
+        if self.is_row_hidden or self.height is not None and self.height < _LOWEST:
+            return f"its row is hidden; {_HINT}"
+        if self.height is not None and self.height < look.size / 2:
+            return f"its row is lower than half its font; {_HINT}"
+        if column not in self.widths and self.usual_width < _NARROWEST:
+            return f"its column is hidden; {_HINT}"
+        return self.hidden.get(column, "")
+
+    def has_room(self, column: int, number: float) -> bool:
+        """Whether a column is as wide as the digits of a number."""
+        width = self.widths.get(column, self.usual_width)
+        return number < float(10 ** min(int(width), 20))
+
+    def rows_in_collapsed_groups(self) -> Iterator[int]:
+        """The rows that are in a group, if one of the groups is collapsed."""
+        if self.has_collapsed_row:
+            yield from self.grouped_rows
