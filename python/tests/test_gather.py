@@ -219,7 +219,7 @@ def test_a_workbook_is_read_by_its_sheets_and_cells(
 
 HARM = [
     (b"<sheetData>", b"<sheetData>" + b" " * 2**27, ": of more than 67,108,864 bytes, unpacked"),
-    (b'r="C4"', b'r="XFD4"', ":Bids!XFD4: it is beyond the first 1,000 cells of its row"),
+    (b'r="C4"', b'r="XFD4"', ":Bids!XFD4: it is beyond the first 256 cells of its row"),
     (b"<v>5000</v>", b"<v>x</v>", f":Bids!A2: 'x' {NO_DIGITS}"),
     (b"<v>5000</v>", b"<v>1_0</v>", f":Bids!A2: '1_0' {NO_DIGITS}"),
     (b"<sheetData>", b"<sheetData", ": its XML is broken: not well-formed"),

@@ -14,7 +14,7 @@ from io import BytesIO
 from xml.etree.ElementTree import Element, ParseError, XMLPullParser
 
 from wdp.office.faults import quote
-from wdp.office.known import find_unknown
+from wdp.office.known import find_unknown, find_unknown_attributes
 
 NO_WORKBOOK = "it is no workbook that can be read"
 MAIN = (
@@ -42,8 +42,8 @@ _PASSWORD = "it is an old workbook, or one with a password; save it as .xlsx wit
 _MOST_ENTRIES = 4_096  # of the archive
 _MOST_UNPACKED = 64 * 1024 * 1024  # bytes of all that a workbook holds, unpacked
 _MOST_OF_A_PART = 16 * 1024 * 1024  # bytes of what is read of it: one XML text
-_MOST_UNITS = 1_500_000  # elements and attributes of all parts that are read
-_MOST_KEPT = 150_000  # elements and attributes of one part that are kept until it is read
+_MOST_TAGS = 1_500_000  # of all parts that are read, where an element begins and where it ends
+_MOST_KEPT = 150_000  # elements and attributes of a part, beside those of its rows
 _MOST_NESTED = 64  # elements within each other
 _LONGEST_PIECE = 64 * 1024  # bytes from one tag to the next: of a text, a comment, or a tag
 _CHUNK = 64 * 1024  # bytes that the parser gets at once
@@ -78,15 +78,15 @@ def _map_library_errors() -> Iterator[None]:
 
 @dataclass
 class Budget:
-    """How many elements and attributes may still be read of a workbook."""
+    """How many tags may still be read of a workbook."""
 
-    units: int = _MOST_UNITS
+    tags: int = _MOST_TAGS
 
     def spend(self, count: int) -> None:
         """Raises BadWorkbook if that is too many."""
-        self.units -= count
-        if self.units < 0:
-            raise BadWorkbook(f"its XML has more than {_MOST_UNITS:,} elements and attributes")
+        self.tags -= count
+        if self.tags < 0:
+            raise BadWorkbook(f"its XML has more than {_MOST_TAGS:,} tags")
 
 
 def _check_text(data: bytes) -> None:
@@ -96,8 +96,8 @@ def _check_text(data: bytes) -> None:
         raise BadWorkbook("its XML isn't in UTF-8, as spreadsheets write it")
     if b"<!DOCTYPE" in data:
         raise BadWorkbook("its XML has a document type, as no spreadsheet writes")
-    if data.count(b"<") > 2 * _MOST_UNITS:
-        raise BadWorkbook(f"its XML has more than {_MOST_UNITS:,} elements and attributes")
+    if data.count(b"<") > _MOST_TAGS:
+        raise BadWorkbook(f"its XML has more than {_MOST_TAGS:,} tags")
     last = 0
     while last + _LONGEST_PIECE < len(data):
         following = data.rfind(b"<", last + 1, last + 1 + _LONGEST_PIECE)
@@ -133,31 +133,34 @@ class XmlPart:
 
     def iterate(self, container: str | None, tag: str) -> Iterator[Element]:
         """The elements of this name, one by one, that are in the root, or in a container of it."""
-        depth = 1 if container is None else 2
+        level = 1 if container is None else 2
         path: list[Element] = []
-        kept = in_last = 0
+        depth = kept = 0
+        is_within = False
         for event, found in self._parse():
-            if event == "start":
-                if not path:
-                    self._begin(found)
-                if len(path) == depth:
-                    in_last = 0
+            if event == "end":
+                depth -= 1
+                if depth <= level:
+                    path.pop()
+                    is_found = is_within and depth == level
+                    is_within = is_within and not is_found
+                    if is_found:
+                        yield found
+                        path[-1].remove(found)
+                continue
+            depth += 1
+            if is_within and depth <= _MOST_NESTED:
+                continue
+            if depth == 1:
+                self._begin(found)
+            kept += 1 + len(found.keys())
+            if kept > _MOST_KEPT or depth > _MOST_NESTED:
+                most = f"{_MOST_KEPT:,} elements and attributes beside its rows"
+                raise BadWorkbook(f"its XML has more than {most}, or {_MOST_NESTED} levels")
+            if depth <= level + 1:
+                is_in = container is None or self.name(path[-1].tag) == container if path else False
                 path.append(found)
-                units = 1 + len(found.keys())
-                self.budget.spend(units)
-                kept += units
-                in_last += units
-                if kept > _MOST_KEPT or len(path) > _MOST_NESTED:
-                    most = f"{_MOST_KEPT:,} elements and attributes beside its rows"
-                    raise BadWorkbook(f"its XML has more than {most}, or {_MOST_NESTED} levels")
-                continue
-            path.pop()
-            if len(path) != depth or self.name(found.tag) != tag:
-                continue
-            if container is None or self.name(path[-1].tag) == container:
-                kept -= in_last
-                yield found
-                path[-1].remove(found)
+                is_within = depth == level + 1 and is_in and self.name(found.tag) == tag
 
     def _parse(self) -> Iterator[tuple[str, Element]]:
         """The beginnings and ends of elements, as the parser finds them."""
@@ -169,12 +172,13 @@ class XmlPart:
                 if begin + _CHUNK > len(self.data):
                     parser.close()
                 events = list(parser.read_events())
-            for event, found in events:
-                if event != "start-ns":
+            self.budget.spend(len(events))
+            for event in events:
+                if event[0] != "start-ns":
                     is_begun = True
-                    yield event, found
+                    yield event
                 elif not is_begun:
-                    self._namespaces[found[0]] = found[1]
+                    self._namespaces[event[1][0]] = event[1][1]
 
     def _begin(self, root: Element) -> None:
         """Takes the root: its namespace is that of the part, and it names others that a reader
@@ -204,6 +208,19 @@ class XmlPart:
         for holder, why in find_unknown(element, self):
             is_cell = cell and self.name(holder.tag) == "c"
             raise BadWorkbook(why, holder.get("r", cell)[:10] if is_cell else cell)
+
+    def check_attributes(self, element: Element, cell: str) -> None:
+        """Raises BadWorkbook, with a cell, if an attribute of an element isn't known."""
+        for why in find_unknown_attributes(element, self):
+            raise BadWorkbook(why, cell)
+
+    def refuse(self, element: Element, within: str, cell: str) -> None:
+        """Raises BadWorkbook, with a cell, for an element that isn't known, unless it means nothing
+        to a reader that doesn't know it.
+        """
+        if not self.is_ignorable(element.tag):
+            name = quote(element.tag.removeprefix("{").replace("}", " "))
+            raise BadWorkbook(f"in {within!r} there is {name}, which isn't understood", cell)
 
     def is_ignorable(self, name: str) -> bool:
         """Whether a name is one that a reader ignores if it doesn't know its namespace."""

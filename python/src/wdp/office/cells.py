@@ -1,12 +1,12 @@
 """Cells and areas of a sheet by their names, and the cells of a sheet that have a value."""
 import re
 from bisect import bisect_left, bisect_right
-from collections import Counter
+from collections import Counter, defaultdict
 from collections.abc import Iterable, Iterator
 from dataclasses import dataclass, field
 from functools import cache
 
-from wdp.office.looks import Colour, Look, is_near
+from wdp.office.looks import Colour, Look
 
 LAST_ROW = 1_048_576  # of any sheet
 LAST_COLUMN = 16_384
@@ -79,32 +79,26 @@ ALL = Area(1, 1, LAST_ROW, LAST_COLUMN)
 
 @dataclass
 class _Column:
-    """The cells of a column that have a value: their rows, their looks, and whether they are a
-    bid's.
-    """
+    """The cells of a column that have a value: their rows, and their looks."""
 
     rows: list[int] = field(default_factory=list)
     looks: list[Look] = field(default_factory=list)
-    are_bids: list[bool] = field(default_factory=list)
 
 
 @dataclass
 class Values:
-    """The cells of a sheet that have a value, by their columns."""
+    """The cells of a sheet that have a value, by their columns; those of the first row are the heads
+    of the others.
+    """
 
-    columns: dict[int, _Column] = field(default_factory=dict)
-    fonts: set[Colour] = field(default_factory=set)
+    columns: defaultdict[int, _Column] = field(default_factory=lambda: defaultdict(_Column))
+    first_row: int = 0
 
-    def __bool__(self) -> bool:
-        return bool(self.columns)
-
-    def add(self, row: int, column: int, look: Look, *, is_bid: bool) -> None:
+    def add(self, row: int, column: int, look: Look) -> None:
         """Adds a cell, which is below all others of its column."""
-        cells = self.columns.setdefault(column, _Column())
+        cells = self.columns[column]
         cells.rows.append(row)
         cells.looks.append(look)
-        cells.are_bids.append(is_bid)
-        self.fonts.add(look.font)
 
     def _find(self, area: Area) -> Iterator[tuple[int, _Column, range]]:
         """The columns of an area that have a value there, with the places of the values."""
@@ -142,10 +136,10 @@ class Values:
         """The first cell of an area whose font can't be told from one of these colours; nothing if
         there is none.
         """
-        near = {font for font in self.fonts if any(is_near(font, colour) for colour in colours)}
-        for column, cells, places in self._find(area) if near else ():
-            for place in places:
-                if cells.looks[place].font in near:
+        for column, cells, places in self._find(area) if colours else ():
+            near = {look for look in set(cells.looks) if look.is_near_any(colours)}
+            for place in places if near else ():
+                if cells.looks[place] in near:
                     return f"{format_column(column)}{cells.rows[place]}"
         return ""
 
@@ -153,12 +147,12 @@ class Values:
         """The bids' cells that look in another way than most of their column, with how they do."""
         found = []
         for column, cells in self.columns.items():
-            bids = [place for place, is_bid in enumerate(cells.are_bids) if is_bid]
-            count = Counter(cells.looks[place].traits for place in bids)
-            if len(count) < 2:
-                continue
-            usual = count.most_common(1)[0][0]
-            for place in bids:
+            bids = range(cells.rows[0] == self.first_row, len(cells.rows))
+            count: Counter[frozenset[str]] = Counter()
+            for look, times in Counter(cells.looks[place] for place in bids).items():
+                count[look.traits] += times
+            usual = count.most_common(1)[0][0] if count else frozenset()
+            for place in bids if len(count) > 1 else ():
                 traits = cells.looks[place].traits
                 if traits != usual:
                     how = ", ".join(sorted(traits)) or "plain"

@@ -210,14 +210,28 @@ def find_unknown(element: Element, part: PartNames) -> Iterator[tuple[Element, s
     """What in an element, and in what it has, isn't in the table: where that is, and why it isn't
     understood.
     """
-    within = part.name(element.tag)
-    known = KNOWN.get(within)
+    known = KNOWN.get(part.name(element.tag))
     if known is None:
         return
+    yield from ((element, why) for why in find_unknown_attributes(element, part))
+    yield from ((element, why) for why in _find_unknown_elements(element, known, part))
+    for child in element:
+        if part.name(child.tag) in known.elements:
+            yield from find_unknown(child, part)
+
+
+def find_unknown_attributes(element: Element, part: PartNames) -> Iterator[str]:
+    """Which attributes of an element aren't in the table."""
+    within = part.name(element.tag)
     for attribute in element.keys():
         name = part.name(attribute)
-        if name not in known.attributes and not part.is_ignorable(attribute):
-            yield element, f"its {within!r} has the attribute {_show(name)}, which isn't understood"
+        if name not in KNOWN[within].attributes and not part.is_ignorable(attribute):
+            yield f"its {within!r} has the attribute {_show(name)}, which isn't understood"
+
+
+def _find_unknown_elements(element: Element, known: _Known, part: PartNames) -> Iterator[str]:
+    """Which elements in another one aren't in the table, or not where they have to be."""
+    within = part.name(element.tag)
     last = -1
     seen: set[str] = set()
     for child in element:
@@ -225,15 +239,16 @@ def find_unknown(element: Element, part: PartNames) -> Iterator[tuple[Element, s
         place = known.elements.get(name)
         if place is None:
             if not part.is_ignorable(child.tag):
-                yield element, f"in {within!r} there is {_show(name)}, which isn't understood"
+                yield f"in {within!r} there is {_show(name)}, which isn't understood"
+            continue
+        if name.startswith("mc:"):
             continue
         if name in seen and name not in known.repeated:
-            yield element, f"in {within!r} there is {name!r} twice"
-        elif within in ORDERED and place < last and not name.startswith("mc:"):
-            yield element, f"in {within!r} there is {name!r} out of its order"
+            yield f"in {within!r} there is {name!r} twice"
+        elif within in ORDERED and place < last:
+            yield f"in {within!r} there is {name!r} out of its order"
         seen.add(name)
-        last = max(last, 0 if name.startswith("mc:") else place)
-        yield from find_unknown(child, part)
+        last = max(last, place)
 
 
 def _show(name: str) -> str:

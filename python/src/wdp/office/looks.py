@@ -5,7 +5,7 @@ and its colours may hide the value or repeat it.
 """
 import colorsys
 import re
-from collections.abc import Iterator, Mapping, Sequence
+from collections.abc import Iterable, Iterator, Mapping, Sequence
 from dataclasses import dataclass, field, replace
 from typing import TypeVar
 from xml.etree.ElementTree import Element
@@ -124,7 +124,7 @@ def mix(one: Colour, other: Colour) -> Iterator[Colour]:
         yield red, green, blue
 
 
-@dataclass(frozen=True)
+@dataclass(frozen=True, eq=False)
 class Look:
     """How a style shows a cell: `hides` says why its value isn't known to be seen, `turns` why a
     number isn't. `traits` are what differs from a plain cell and hides nothing.
@@ -136,6 +136,10 @@ class Look:
     font: Colour = _BLACK
     size: float = _USUAL_SIZE
     traits: frozenset[str] = frozenset()
+
+    def is_near_any(self, colours: Iterable[Colour]) -> bool:
+        """Whether its font can't be told from one of these colours."""
+        return any(is_near(self.font, colour) for colour in colours)
 
     def find_reason(self, number: float | None) -> str:
         """Why a number, or a text, isn't known to be shown as it is; nothing if it is."""
@@ -209,7 +213,9 @@ class Palette:
             match = _RGB.fullmatch(value)
             colour = _parse_colour(match[1]) if match else None
         elif INDEX.fullmatch(value):
-            colours = self.theme if kinds == ["theme"] else self.indexed
+            colours: Sequence[Colour | None] = self.indexed
+            if kinds == ["theme"]:
+                colours = self.theme
             colour = colours[int(value)] if int(value) < len(colours) else None
         return None if colour is None else _tint(colour, element.get("tint", "0"))
 

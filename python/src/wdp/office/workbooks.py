@@ -15,6 +15,7 @@ from wdp.files import Unreadable
 from wdp.office.archives import NO_WORKBOOK, Archive, BadWorkbook, XmlPart, find_part
 from wdp.office.cells import LAST_COLUMN, LAST_ROW, Area, Values, format_column, parse_cell
 from wdp.office.faults import quote
+from wdp.office.known import KNOWN
 from wdp.office.layout import IN_COLLAPSED_GROUP, MOST_CELLS, Layout
 from wdp.office.looks import INDEX, NUMBER, Look, Palette, Styles, is_on
 from wdp.office.remarks import Remarks
@@ -122,7 +123,7 @@ class _Workbook:
         return Styles(self.archive.parse(name) if name is not None else None, palette)
 
 
-@dataclass
+@dataclass(slots=True)
 class _Cell:
     """A cell as it is read: where it is, the kind of its value, its style, and what is in it."""
 
@@ -179,6 +180,9 @@ class _SheetReader:
     row: int = 0
     column: int = 0
     cells: list[_Cell] = field(default_factory=list)
+    # the attributes of rows and cells that are known
+    known_of_row: set[str] = field(default_factory=lambda: set(KNOWN["row"].attributes))
+    known_of_cell: set[str] = field(default_factory=lambda: set(KNOWN["c"].attributes))
 
     def rows(self) -> Iterator[TableRow]:
         """The rows that have a value."""
@@ -188,7 +192,6 @@ class _SheetReader:
             if not self.row:
                 self.layout.take_sheet(self.part)
             self._begin_row(row)
-            self.part.check(row, f"A{self.row}")
             self.cells = [cell for cell in map(self._read_cell, row) if cell]
             if self.cells:
                 self.file.empty += self.row - last - 1
@@ -231,24 +234,28 @@ class _SheetReader:
             raise BadWorkbook(why, f"A{number}")
         self.row = int(number)
         self.column = 0
+        if not self.known_of_row.issuperset(row.keys()):
+            self.part.check_attributes(row, f"A{number}")
+            self.known_of_row.update(row.keys())
         self.layout.take_row(row, self.row)
 
     def _read_cell(self, element: Element) -> _Cell | None:
         """A cell of the row, or None if it has nothing."""
-        name = element.get("r") or f"{format_column(self.column + 1)}{self.row}"
-        place = parse_cell(name)
-        if place is None or place[0] != self.row or place[1] > LAST_COLUMN:
-            why = f"in this row there is {quote(name)}, which is no cell of it"
-            raise BadWorkbook(why, f"A{self.row}")
-        column = place[1]
-        if column == self.column:
-            raise BadWorkbook("it is there twice", name)
-        if column < self.column:
-            before = f"{format_column(self.column)}{self.row}"
-            raise BadWorkbook(f"it comes after {before}, and cells have to be in order", name)
-        self.column = column
-        cell = _Cell(column, name, kind=element.get("t", "n"), style=element.get("s"))
-        for each in element:
+        following = f"{format_column(self.column + 1)}{self.row}"
+        name = element.get("r", following)
+        if self.part.name(element.tag) != "c":
+            self.part.refuse(element, "row", f"A{self.row}")
+            return None
+        self.column = self.column + 1 if name == following else self._parse_place(name)
+        cell = _Cell(self.column, name, kind=element.get("t", "n"), style=element.get("s"))
+        values = list(element)
+        is_plain = self.known_of_cell.issuperset(element.keys()) and len(values) == 1
+        if is_plain and self.part.name(values[0].tag) == "v" and not values[0].keys():
+            if len(values[0]) == 0:
+                cell.take_value(values[0].text or "", is_inline=False)
+                return cell if cell.value is not None else None
+        self.part.check(element, name)
+        for each in values:
             match self.part.name(each.tag):
                 case "f":
                     cell.is_formula = True
@@ -258,6 +265,19 @@ class _SheetReader:
                 case "is":
                     cell.take_value(_join_text(each, self.part), is_inline=True)
         return cell if cell.value is not None or cell.is_formula else None
+
+    def _parse_place(self, name: str) -> int:
+        """The column of a cell of this row that comes after the others."""
+        place = parse_cell(name)
+        if place is None or place[0] != self.row or place[1] > LAST_COLUMN:
+            why = f"in this row there is {quote(name)}, which is no cell of it"
+            raise BadWorkbook(why, f"A{self.row}")
+        if place[1] == self.column:
+            raise BadWorkbook("it is there twice", name)
+        if place[1] < self.column:
+            before = f"{format_column(self.column)}{self.row}"
+            raise BadWorkbook(f"it comes after {before}, and cells have to be in order", name)
+        return place[1]
 
     def _take_range(self, formula: Element, place: str) -> None:
         """Takes the cells that have values of a formula."""
@@ -272,65 +292,60 @@ class _SheetReader:
         """The row of the cells that were read."""
         width = self.cells[-1].column
         values = [""] * width
-        places = _Places(self.sheet.name, self.row, width)
-        is_bid = bool(self.values)
         for cell in self.cells:
-            place = f"{self.sheet.name}!{cell.place}"
-            value, number = self._format_cell(cell)
-            values[cell.column - 1] = value
-            if self.rows_alone:
-                continue
-            if cell.is_formula:
-                self.remarks.formulas.append(cell.place)
-                if cell.value is None:
-                    self.file.add_fault(place, NOT_STORED)
+            value, number = self._parse_value(cell)
             look = self._find_look(cell, number)
-            self._check_look(cell, look, number if value.isdecimal() else None)
-            self.values.add(self.row, cell.column, look, is_bid=is_bid)
-            if is_bid and cell.kind in _TEXTS and value.strip().isdecimal():
-                text = f"{quote(value)} is a text; turn it into a number"
-                self.file.add_fault(place, text)
-        return TableRow(values, self.row, places)
+            if number is not None and look.number_format.is_date:
+                value = _format_date(number, is_of_1904=self.book.is_of_1904) or value
+            values[cell.column - 1] = value
+            if not self.rows_alone:
+                self._check_cell(cell, value, number if value.isdecimal() else None, look)
+        return TableRow(values, self.row, _Places(self.sheet.name, self.row, width))
 
-    def _check_look(self, cell: _Cell, look: Look, number: float | None) -> None:
-        """Adds why a cell's value isn't known to be seen as it is: a text, or a whole number."""
+    def _check_cell(self, cell: _Cell, value: str, number: float | None, look: Look) -> None:
+        """Adds what is wrong with a cell, which has a text or a whole number."""
+        if cell.is_formula:
+            self.remarks.formulas.append(cell.place)
+            if cell.value is None:
+                self.file.add_fault(f"{self.sheet.name}!{cell.place}", NOT_STORED)
+        self.values.first_row = self.values.first_row or self.row
+        is_head = self.row == self.values.first_row
+        if not is_head and cell.kind in _TEXTS and value.strip().isdecimal():
+            text = f"{quote(value)} is a text; turn it into a number"
+            self.file.add_fault(f"{self.sheet.name}!{cell.place}", text)
         hidden = self.layout.find_reason(cell.column, look)
         if reason := hidden or look.find_reason(number):
             self.remarks.add_fault(cell.place, reason)
         if number is not None and not self.layout.has_room(cell.column, number):
             self.remarks.narrow.append(cell.place)
+        self.values.add(self.row, cell.column, look)
 
-    def _format_cell(self, cell: _Cell) -> tuple[str, float | None]:
+    def _parse_value(self, cell: _Cell) -> tuple[str, float | None]:
         """A cell's value as a field, and its number if it has one; what is no whole number stays
         what it is, for the program to refuse.
         """
-        value = cell.value
-        if value is None:
-            return "", None
+        value = cell.value or ""
         match cell.kind:
-            case "n" if NUMBER.fullmatch(value):
+            case "n" if not value or not NUMBER.fullmatch(value):
+                if not value.strip(_BLANK).isdecimal():
+                    return value, None
+            case "n":
                 number = float(value)
-                return self._format_number(cell, value, number), number
+                is_exact = number.is_integer() and abs(number) < 2**53
+                return str(int(number)) if is_exact else str(number), number
             case "s" if INDEX.fullmatch(value) and int(value) < len(self.book.texts):
                 return self.book.texts[int(value)], None
             case "b" if value in _TRUTHS:
                 return _TRUTHS[value], None
-            case "str" | "inlineStr":
-                return value, None
             case "e" if _ERROR.fullmatch(value):
                 return value, None
             case "d" if _DATE.fullmatch(value):
                 return value, None
-        if cell.kind == "n" and not value.strip(_BLANK).isdecimal():
-            return value, None
+            case "str" | "inlineStr":
+                return value, None
+        if cell.value is None:
+            return "", None
         raise BadWorkbook(f"its value {quote(value)} isn't understood", cell.place)
-
-    def _format_number(self, cell: _Cell, text: str, number: float) -> str:
-        """The number of a cell as a field: a date if it is shown as one."""
-        if self._find_look(cell, number).number_format.is_date:
-            return _format_date(number, is_of_1904=self.book.is_of_1904) or text
-        is_exact = number.is_integer() and abs(number) < 2**53
-        return str(int(number)) if is_exact else str(number)
 
     def _find_look(self, cell: _Cell, number: float | None) -> Look:
         """The look that a cell has; if it names no style, one that isn't known to show its value,
@@ -343,6 +358,8 @@ class _SheetReader:
             if look is None:
                 raise BadWorkbook(f"its style {quote(style)} isn't there", cell.place)
             looks.append(look)
+        if len(looks) == 1:
+            return looks[0]
         return next((look for look in looks if look.find_reason(number)), looks[0])
 
 
