@@ -24,7 +24,7 @@ COMMANDS = {
 }
 # what the tests of the office's sample type themselves
 INPUT_SHA256 = "167bec43956090a360273a3de95029333b24a0769715c1e611987133781f09f9"
-GATHER = "--last-wins name --allow-unended Wren --allow-missing Teal --output input.txt".split()
+GATHER = "--allow-unended Wren --allow-missing Teal --output input.txt".split()
 OTHERS = {"bin/other", "share/man/man1/other.1", "share/man/man1/wdpx.1", "lib/other"}
 OTHERS |= {"share/zsh/site-functions/_other"}
 STALE = {"lib/wdp/stale.py", "share/man/man1/wdp-office-stale.1", "share/doc/wdp/stale"}
@@ -163,7 +163,7 @@ def test_what_was_installed_runs_from_another_folder(there, folder, tmp_path):
     rules, forms, faulty, groups = (
         shown / "office" / name for name in ("rules.csv", "forms", "faulty", "groups.txt")
     )
-    assert here("wdp-office", "gather", rules, forms, groups, *GATHER)[0] == 0
+    assert here("wdp-office", "gather", rules, forms, groups, "--use", forms / "form-heron-2.csv", *GATHER)[0] == 0
     assert sha256((tmp_path / "input.txt").read_bytes()).hexdigest() == INPUT_SHA256
     status, told = here("wdp-office", "explain", rules, faulty, groups, "--allow-missing", "Teal")
     assert (status, told.splitlines()[-1].split()[-1]) == (1, "faults")

@@ -5,9 +5,35 @@ import re
 import zipfile
 
 _ATTRIBUTE = re.compile(rb'="[^"]*"')
-_ODD = [b"", b"0", b"-1", b" 1", b"1e9", b"99999999999999999999", b"true", b"A1:B", b"\xff", b"&#0;", b"%", b"NaN"]
+_ODD = [
+    b"",
+    b"0",
+    b"-1",
+    b" 1",
+    b"1e9",
+    b"99999999999999999999",
+    b"true",
+    b"A1:B",
+    b"\xff",
+    b"&#0;",
+    b"%",
+    b"NaN",
+]
 _ENCODINGS = [b"nonsense", b"shift_jis", b"utf-7", b"utf-16", b"gb18030", b"cp037", b""]
-_PIECES = [b"<row/>", b"<c/>", b"</c>", b"<", b">", b"&amp;", b"<!DOCTYPE x>", b"\0", b"<!--", b"]]>", b"<x:y/>", b"<mc:Choice/>"]
+_PIECES = [
+    b"<row/>",
+    b"<c/>",
+    b"</c>",
+    b"<",
+    b">",
+    b"&amp;",
+    b"<!DOCTYPE x>",
+    b"\0",
+    b"<!--",
+    b"]]>",
+    b"<x:y/>",
+    b"<mc:Choice/>",
+]
 
 
 def _change_bytes(data: bytes, draw: random.Random) -> bytes:

@@ -122,7 +122,7 @@ def test_each_fault_of_each_file(office: OfficeFolder) -> None:
 NAMES = (
     "Heron.csv|Heron (2).csv|Wren.csv.bak|Teal|teal.csv|Aster-Wren.csv|x.csv|Linnet.xlsx|a\nb.csv"
 )
-WORDS = ["", "--last-wins name", "--last-wins time --any-file-name", "--allow-empty Wren"]
+WORDS = ["", "--last-wins time", "--last-wins time --any-file-name", "--allow-empty Wren"]
 
 
 def damage_folder(draw: random.Random, folder: Path) -> None:
@@ -157,7 +157,7 @@ def test_a_damaged_folder(tmp_path: Path, seed: int) -> None:
     forms = tmp_path / "forms"
     shutil.copytree(sample / "forms", forms)
     damage_folder(draw, forms)
-    usual = "--last-wins name --allow-missing Teal --allow-unended Wren"
+    usual = "--last-wins time --allow-missing Teal --allow-unended Wren"
     options = (usual if draw.random() < 0.7 else draw.choice(WORDS)).split()
     if draw.random() < 0.2:
         options += ["--expect", str(sample / "counts.csv")]

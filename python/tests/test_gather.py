@@ -14,7 +14,6 @@ from pathlib import Path
 import openpyxl
 import pytest
 
-import wdp
 import workbooks
 from commands import (
     BIDDERS,
@@ -28,7 +27,7 @@ from commands import (
 )
 from wdp.files import Unreadable
 from wdp.office.sheets import parse_table
-from wdp.office.versions import find_last, format_time
+from wdp.office.versions import format_time
 
 DIGITS = "; write digits alone"
 
@@ -292,23 +291,6 @@ def test_another_sheet_may_have_what_is_no_form(
     merged = '<mergeCells><mergeCell ref="A1:B1"/></mergeCells>'
     two_sheets([["Notes", "covered"], ["for Fox"]], merged)
     assert office.gather().out == BY_HAND
-
-
-PAIRS = parse_rows(read_text("fixtures", "office", "versions.txt"))
-
-
-@pytest.mark.parametrize(
-    "bidder, one, other, wanted", PAIRS, ids=[" ".join(it[1:3]) for it in PAIRS]
-)
-def test_which_of_two_files_is_the_last_one_by_their_names(
-    bidder: str, one: str, other: str, wanted: str
-) -> None:
-    try:
-        found = str(1 + find_last([one, other], bidder, "name").place)
-    except wdp.Refused:
-        found = "?"
-    assert found == wanted
-    assert len(PAIRS) >= 200
 
 
 def test_rules_may_be_a_workbook(office: OfficeFolder, tmp_path: Path) -> None:

@@ -104,10 +104,17 @@ def check_rule(rule: Sequence[str]) -> None:
 def add_choices(parser: argparse.ArgumentParser) -> None:
     """Adds the options by which an office says something of its files, beside their paths."""
     parser.add_argument(
+        "--use",
+        metavar="FILE",
+        type=parse_path,
+        action="append",
+        default=[],
+        help="of a bidder's files this one counts",
+    )
+    parser.add_argument(
         "--last-wins",
-        choices=("name", "time"),
-        help="of a bidder's files the last one counts, by the end of its name or its time of "
-        "change",
+        choices=("time",),
+        help="of a bidder's files the one that was changed last counts",
     )
     parser.add_argument(
         "--any-file-name", action="store_true", help="a file's name needn't name a bidder"

@@ -14,7 +14,7 @@ Exit status: 0 the input is written; 1 something is wrong; 2 the options are wro
 """
 import argparse
 import os
-from collections.abc import Sequence
+from collections.abc import Callable, Sequence
 
 from wdp.commands.arguments import (
     add_choices,
@@ -28,6 +28,7 @@ from wdp.office.auction_files import AuctionFiles
 from wdp.office.faults import format_lines, format_total
 from wdp.office.receipt import format_receipt
 from wdp.program import find_program
+from wdp.progress import Progress, Times, is_at_terminal, say_nothing
 from wdp.texts.refusals import Refused, WrongArgument
 
 _RULES_PART = "%rules.csv"
@@ -97,14 +98,27 @@ def _make_parts(auction: AuctionFiles) -> dict[str, bytes]:
     return {_RULES_PART: auction.rules_file.text, **forms}
 
 
+def _make_watch() -> Callable[[int, int], None]:
+    """Prints at a terminal how many files were read; elsewhere the receipt is all that is printed."""
+    progress = Progress(0, left=0, times=Times(), say=say_nothing, thing="file")
+
+    def watch(count: int, most: int) -> None:
+        progress.count = progress.left = most
+        progress(count, [])
+
+    return watch
+
+
 def run(options: argparse.Namespace) -> int:
     """Joins the files, and writes what is asked for; the status."""
     if options.output == "-":
         options.output = None
     _check_arguments(options)
     program = find_program(options.program)
-    auction = AuctionFiles(program, read_choices(options))
+    auction = AuctionFiles(program, read_choices(options), watch=_make_watch())
     auction.read_all(options.rules, options.forms, options.groups or [options.groups_file])
+    if is_at_terminal():
+        tell("\r\x1b[K")
     if auction.faults:
         tell(format_lines(auction.faults))
         why = f"{format_total(auction.faults)}; nothing is written"

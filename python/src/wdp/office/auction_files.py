@@ -3,14 +3,14 @@
 They are joined into one input, in which the program finds the faults; here is what only files have.
 """
 import re
-from collections.abc import Iterator, Mapping, Sequence
+from collections.abc import Callable, Iterator, Mapping, Sequence
 from contextlib import contextmanager
 from dataclasses import dataclass, field
 
 from wdp.files import Unreadable
 from wdp.office.reading_choices import Choices
 from wdp.office.faults import Fault, format_count, quote, suggest_name
-from wdp.office.forms import FormFolder
+from wdp.office.forms import FormFolder, ignore_progress
 from wdp.office.findings import Finding, LeftOutBid
 from wdp.office.explaining import explain
 from wdp.office.located_faults import explain_value, limit_faults, make_faults, make_input_fault
@@ -40,6 +40,8 @@ class AuctionFiles:
     faults: list[Fault] = field(default_factory=list)
     left_out: list[LeftOutBid] = field(default_factory=list)
     text: bytes = b""
+    # takes how many files of forms were read, of how many
+    watch: Callable[[int, int], None] = ignore_progress
 
     def __post_init__(self) -> None:
         self.folder = FormFolder(self.rules, self.choices)
@@ -78,7 +80,9 @@ class AuctionFiles:
                 self.groups = read_groups(groups, self.rules.bidders, allowed)
                 self.faults += self.groups.faults
         faults_of_groups = self.faults
-        self.folder = FormFolder(self.rules, self.choices, is_one_form=is_one_form)
+        self.folder = FormFolder(
+            self.rules, self.choices, is_one_form=is_one_form, watch=self.watch
+        )
         self.folder.read(folder)
         self.faults = self.folder.faults
         self.text = self._join(has_groups=bool(groups))
@@ -100,8 +104,10 @@ class AuctionFiles:
             fault = make_input_fault(explained.findings[0], self.text, "the joined input")
             self.faults.append(fault)
         if explained.more:
-            text = f"{format_count(explained.more, 'more fault')} in these files"
-            self.faults.append(Fault(folder, text, count=explained.more))
+            is_least = any(form.is_cut for form in self.folder.counting)
+            least = "at least " if is_least else ""
+            text = f"{least}{format_count(explained.more, 'more fault')} in these files"
+            self.faults.append(Fault(folder, text, count=explained.more, is_least=is_least))
 
     def _add_fault(self, place: str, text: str) -> None:
         self.faults.append(Fault(place, text))
@@ -135,7 +141,7 @@ class AuctionFiles:
         faults = [
             fault for fault in faults if fault.place not in blank or not fault.text.startswith("''")
         ]
-        self.faults += form.faults + limit_faults(faults, form.path)
+        self.faults += form.faults + limit_faults(faults, form.path, is_least=form.is_cut)
         if not form.faults:
             self.faults += check_end(form, form.bidder, self.choices.allow_unended)
         if not findings and not form.faults and is_all:

@@ -18,13 +18,14 @@ _BYTES = re.compile(r"\\\\|((?:\\x[89a-f][0-9a-f])+)")
 @dataclass(frozen=True)
 class Fault:
     """A fault at a place as `forms/Aster.csv:3:1`, the program's line for it without `wdp: `, and
-    how many faults it is for.
+    how many faults it is for: at least so many, if not all of the file was read.
     """
 
     place: str
     text: str
     refusal: str | None = None
     count: int = 1
+    is_least: bool = False
 
     def __str__(self) -> str:
         return f"{self.place}: {self.text}"
@@ -60,8 +61,10 @@ def format_count(number: int, thing: str) -> str:
 
 
 def format_total(faults: Iterable[Fault]) -> str:
-    """How many faults there are in all."""
-    return format_count(sum(fault.count for fault in faults), "fault")
+    """How many faults there are in all, or at least."""
+    counted = list(faults)
+    count = format_count(sum(fault.count for fault in counted), "fault")
+    return f"at least {count}" if any(fault.is_least for fault in counted) else count
 
 
 def suggest_name(value: str, names: Iterable[str]) -> str:

@@ -4,17 +4,17 @@ counts.
 import os
 import re
 from collections import defaultdict
-from collections.abc import Iterable, Iterator, Sequence
+from collections.abc import Callable, Iterable, Iterator, Mapping, Sequence
 from contextlib import contextmanager
 from dataclasses import dataclass, field
 from pathlib import PurePath
 
 from wdp.files import Unreadable, map_errors
 from wdp.office.reading_choices import Choices
-from wdp.office.faults import Fault
+from wdp.office.faults import Fault, quote
 from wdp.office.reading import read_form_file
 from wdp.office.sheets import MOST_OF_A_FILE, File
-from wdp.office.versions import find_last
+from wdp.office.versions import describe_times, find_last, find_used
 from wdp.texts.accepted import AcceptedRules
 from wdp.texts.parts import MOST_OF_INPUT
 from wdp.texts.refusals import Refused
@@ -25,7 +25,12 @@ _LOCK = "~$"
 _LOCKED = " (a spreadsheet's lock: the workbook is open, or was)"
 _OTHER_WORKBOOK = "it is a workbook {}, which isn't read; save it as .xlsx or CSV"
 _NO_FORM = f"its name doesn't end in {', '.join(_FORMS)}; remove it if it is no form"
+_WHICH_COUNTS = "say --use FILE for the one that counts, or --last-wins time"
 _MOST_OF_FORMS = 2 * MOST_OF_INPUT  # bytes of all together: what an input may have, as UTF-16
+
+
+def ignore_progress(count: int, most: int) -> None:
+    """Takes progress that nobody wants to know of."""
 
 
 @dataclass(frozen=True)
@@ -56,6 +61,8 @@ class FormFolder:
     # files whose names name another bidder than their first rows
     _misnamed: set[str] = field(default_factory=set)
     faults: list[Fault] = field(default_factory=list)
+    # takes how many files were read, of how many
+    watch: Callable[[int, int], None] = ignore_progress
 
     @property
     def by_bidder(self) -> dict[str, File]:
@@ -65,8 +72,11 @@ class FormFolder:
     def read(self, folder: str) -> None:
         """Reads the forms."""
         forms = defaultdict[str, list[File]](list)
+        paths: list[str] = []
         with self._collect(unread=self.rules.bidders):
-            for path in self._list_paths(folder):
+            paths = self._list_paths(folder)
+            for count, path in enumerate(paths):
+                self.watch(count, len(paths))
                 with self._collect(unread=self._guess_bidders(path)):
                     form = self._read_form(path)
                     forms[form.bidder].append(form)
@@ -77,6 +87,7 @@ class FormFolder:
             # (a file that names another bidder, which is said of it, isn't also one of several)
             named = [form for form in forms[name] if form.path not in self._misnamed]
             self.counting += self._choose_last(named or forms[name])
+        self._check_used(paths, forms)
 
     def _add_fault(self, place: str, text: str) -> None:
         self.faults.append(Fault(place, text))
@@ -162,18 +173,39 @@ class FormFolder:
         if len(forms) < 2 or forms[0].bidder not in self.rules.bidders:
             return forms
         name = forms[0].bidder
-        way = self.choices.last_wins
+        paths = [form.path for form in forms]
         try:
-            last = find_last([form.path for form in forms], name, way)
+            last = find_used(paths, self.choices.use)
+            if last is None and self.choices.last_wins:
+                last = find_last(paths)
         except Refused as why:
-            tried = f"--last-wins {way} can't tell which is later: " if way else ""
             for form in forms[1:]:
-                text = f"another form of {name} is in {forms[0].path}; {tried}{why}"
+                self._add_fault(form.path, f"another form of {name} is in {paths[0]}; {why}")
+            return forms
+        if last is None:
+            for form in forms[1:]:
+                times = describe_times(form.path, paths[0])
+                text = f"another form of {name} is in {paths[0]}: {times}; {_WHICH_COUNTS}"
                 self._add_fault(form.path, text)
             return forms
         for place, reason in last.replaced:
             self.replaced.append(Replaced(forms[place], last=forms[last.place], reason=reason))
         return [forms[last.place]]
+
+    def _check_used(self, paths: Sequence[str], forms: Mapping[str, Sequence[File]]) -> None:
+        """Adds a fault for each file that is said to count and isn't in the folder, or is the one
+        form of its bidder.
+        """
+        listed = {os.path.realpath(path) for path in paths}
+        alone = {
+            os.path.realpath(each[0].path): each[0] for each in forms.values() if len(each) == 1
+        }
+        for path in self.choices.use:
+            form = alone.get(os.path.realpath(path))
+            if os.path.realpath(path) not in listed:
+                self._add_fault("--use", f"{quote(path)} is no form of the folder")
+            elif form and form.bidder not in self.unread:
+                self._add_fault(form.path, f"{form.bidder} has no other form; --use names it")
 
 
 def _find_bidders(path: str, bidders: Sequence[str]) -> list[str]:

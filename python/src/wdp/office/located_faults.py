@@ -5,7 +5,7 @@ added, and rows that a template left alike have one line.
 """
 import re
 from collections.abc import Iterable, Sequence
-from dataclasses import dataclass
+from dataclasses import dataclass, replace
 from itertools import islice
 
 from wdp.office.faults import Fault, format_count, quote, suggest_name
@@ -168,12 +168,18 @@ def _pick_rows(findings: Sequence[Finding], rows: Iterable[TableRow]) -> _Number
     return {number: row for number, row in numbered if number in numbers}
 
 
-def limit_faults(faults: list[Fault], path: str, more: int = 0) -> list[Fault]:
-    """The first faults of a file, and one that counts the others, and how many more there are."""
+def limit_faults(
+    faults: list[Fault], path: str, more: int = 0, *, is_least: bool = False
+) -> list[Fault]:
+    """The first faults of a file, and one that counts the others, and how many more there are: at
+    least so many, if not all of the file was read.
+    """
     more += max(0, len(faults) - _MOST_SHOWN)
     if not more:
-        return faults
-    rest = Fault(path, f"{format_count(more, 'more fault')} in this file", count=more)
+        return [*faults[:-1], *(replace(fault, is_least=is_least) for fault in faults[-1:])]
+    least = "at least " if is_least else ""
+    text = f"{least}{format_count(more, 'more fault')} in this file"
+    rest = Fault(path, text, count=more, is_least=is_least)
     return [*faults[:_MOST_SHOWN], rest]
 
 

@@ -7,13 +7,14 @@ from dataclasses import dataclass
 class Choices:
     """How an auction's files are read, as the options of `wdp-office gather` say it.
 
-    `last_wins` is by what the last one of a bidder's files is known, `name` or `time`. With
-    `any_file_name` a file's name needn't name a bidder. The bidders of `allow_missing` have no
+    Of a bidder's files that of `use` counts; else with `last_wins`, which is `time`, the one that
+    was changed last. With `any_file_name` a file's name needn't name a bidder. The bidders of `allow_missing` have no
     form, the forms of `allow_empty` no bid, and the files of `allow_unended` no line end at their
     ends. `expect` is the path of a file with the number of each form's bids, and `sheet` the name
     of the sheet of each workbook.
     """
 
+    use: Sequence[str] = ()
     last_wins: str | None = None
     any_file_name: bool = False
     allow_missing: Sequence[str] = ()

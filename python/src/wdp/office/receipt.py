@@ -45,7 +45,7 @@ def _format_files(auction: AuctionFiles) -> Iterator[str]:
             yield f"{name}: no form"
     for replaced in auction.folder.replaced:
         digest = compute_digest(replaced.file.data)
-        why = f"{replaced.last.path} counts, judged by {replaced.reason}"
+        why = f"{replaced.last.path} counts, {replaced.reason}"
         yield f"left out: {replaced.file.path}, SHA-256 {digest}; {why}"
     if auction.folder.passed_over:
         yield "not read: " + ", ".join(auction.folder.passed_over)

@@ -18,6 +18,7 @@ from wdp.texts.tables import LINE_END, Records, TableRow, decode, encode, format
 _MOST_OF_A_TEXT = 4 * 1024 * 1024
 # bytes of a file, which may have a text of the greatest size as UTF-16, after a mark
 MOST_OF_A_FILE = 2 * _MOST_OF_A_TEXT + 2
+MOST_EMPTY = 20_000  # lines or rows without a value
 _DELIMITERS = {",": "commas", ";": "semicolons", "\t": "tabs"}
 # what some spreadsheets write, and read, as a first line
 _SEPARATOR_LINE = re.compile('"?sep=([^"\r\n]*)"?(?:\r\n|\n|\r|$)')
@@ -60,6 +61,8 @@ class File:
     unclosed: int | None = None
     # rows without a value that were dropped
     empty: int = 0
+    # whether there may be more rows, which weren't read
+    is_cut: bool = False
     bids: int | None = None
 
     @property
@@ -89,17 +92,23 @@ class File:
     def fill(self, rows: Iterable[TableRow], most: int) -> None:
         """Takes at most so many rows with a value.
 
-        A row with a field that would head a part is a fault, and isn't taken.
+        A row with a field that would head a part is a fault, and isn't taken. Raises Unreadable if
+        too many rows have no value.
         """
+        without = 0
         for row in rows:
             heads = [index for index, value in enumerate(row.values) if "\n%" in value]
             for index in heads:
                 self.add_fault(row.place(index), f"in this field a line {AS_HEADS}")
             if not any(row.values):
                 self.empty += 1
+                without += 1
             elif not heads:
                 self.rows.append(row)
+            if without > MOST_EMPTY:
+                raise Unreadable(self.path, f"it has more than {MOST_EMPTY:,} empty rows")
             if len(self.rows) == most:
+                self.is_cut = True
                 break
         self.add_change("empty rows dropped", self.empty)
 
@@ -192,8 +201,10 @@ def parse_table(path: str, data: bytes, most: int, kinds: str = "CSV") -> File:
     file = File(path, data)
     text = decode_file(file, kinds)
     delimiter, begin = _find_delimiter(text, file)
-    records = Records(text[begin:], delimiter, line=2 if begin else 1)
+    records = Records(text[begin:], delimiter, line=2 if begin else 1, most_blank=MOST_EMPTY)
     file.fill(records, most)
+    if records.blank > MOST_EMPTY:
+        raise Unreadable(path, f"it has more than {MOST_EMPTY:,} empty lines")
     file.add_change("empty lines dropped", records.blank)
     file.add_change("quotes dropped", records.unquoted)
     file.add_change("quotes added", records.quoted)

@@ -6,6 +6,7 @@ joins the field. An open quote ends with the text. A quote inside a field that d
 one is data. A byte that is no text comes out as it was.
 """
 import hashlib
+import math
 import re
 from collections.abc import Iterator, Sequence
 from dataclasses import dataclass
@@ -45,13 +46,17 @@ class Records:
 
     Once they are read, `unclosed` is the place of a field whose quote the text doesn't close,
     `blank` how many lines are no record, and `unquoted` and `quoted` how many fields
-    `format_record` writes without quotes that have some here, and with quotes that have none.
+    `format_record` writes without quotes that have some here, and with quotes that have none. With
+    one more of the lines that are no record than `most_blank` they end.
     """
 
-    def __init__(self, text: str, delimiter: str = ",", line: int = 1) -> None:
+    def __init__(
+        self, text: str, delimiter: str = ",", line: int = 1, *, most_blank: float = math.inf
+    ) -> None:
         self.text = text
         self.delimiter = delimiter
         self.line = line
+        self.most_blank = most_blank
         self.unclosed: str | None = None
         self.blank = 0
         self.unquoted = 0
@@ -74,6 +79,8 @@ class Records:
                 yield row
             else:
                 self.blank += 1
+                if self.blank > self.most_blank:
+                    return
             begin = following
             self.line += 1
 
