@@ -9,7 +9,14 @@ from pathlib import Path
 from typing import Any
 
 import pytest
-from commands import CommandResult, check_stopped, make_environment
+from commands import (
+    CommandResult,
+    check_stopped,
+    make_environment,
+    parse_rows,
+    run,
+    write_script,
+)
 from results_folder import FILES, TIE, TIE_AUDIT, TIE_REPORT, ResultsFolder, make_key
 
 SIGNED = sorted([*FILES, "audit.txt", "SHA256SUMS", "SHA256SUMS.sig"])
@@ -202,3 +209,26 @@ def test_signed_results_are_signed_anew(folder: ResultsFolder, key: Path) -> Non
     folder.publish_tie(TIE_AUDIT, "--sign", key, "--title", "Another title")
     assert "<h1>Another title</h1>" in folder.read_page().html
     assert sorted(os.listdir(folder.out)) == SIGNED
+
+
+# what stands in for ssh-keygen and signs the file that is its last argument, and what is said of it
+STAND_INS = """
+sleep 60                      | didn't end in 1 s, and was ended
+echo forged > "$last.sig"     | doesn't find its signature good
+mkfifo "$last.sig"            | SHA256SUMS.sig: it is a pipe
+head -c 2M /dev/zero > "$last.sig" | SHA256SUMS.sig: it has more than 100,000 bytes
+"""
+
+
+@pytest.mark.parametrize("signs, said", parse_rows(STAND_INS))
+def test_the_tool_is_not_believed(
+    folder: ResultsFolder, key: Path, monkeypatch: pytest.MonkeyPatch, signs: str, said: str
+) -> None:
+    good = 'echo \'Good "wdp-award" signature\''
+    lines = f'for last; do :; done\n[ "$2" = sign ] || {{ {good}; exit; }}\n{signs}'
+    write_script(folder.folder / "ssh-keygen", lines)
+    monkeypatch.setenv("PATH", f"{folder.folder}:{os.environ['PATH']}")
+    monkeypatch.setattr("wdp.publish.signing._SECONDS", 1)
+    options = ["--sign", key, "--output", folder.out]
+    check_stopped(run("results", folder.write("tie.txt", TIE_AUDIT), *options), said)
+    assert not folder.out.exists()

@@ -95,3 +95,29 @@ def test_a_library_call_in_a_process_that_ignores_the_ends_of_children(wdp: str)
     )
     why = "wdp.Unclear: this process ignores SIGCHLD, so that nobody knows how a program ends"
     assert seen.stderr.splitlines()[-1] == why
+
+
+# a step that gets two signals at once, as from a terminal and from the process that waits for it
+TWO_SIGNALS = """
+import os, signal
+from wdp import steps
+
+
+def step():
+    signals = {signal.SIGINT, signal.SIGTERM}
+    signal.pthread_sigmask(signal.SIG_BLOCK, signals)
+    for number in signals:
+        os.kill(os.getpid(), number)
+    signal.pthread_sigmask(signal.SIG_UNBLOCK, signals)
+    sum(range(1_000_000))
+
+
+print(steps.run({"a step": step}))
+"""
+
+
+def test_two_signals_at_once() -> None:
+    """Python prints a traceback of a signal whose handler goes before it is called."""
+    environment = {**os.environ, "PYTHONPATH": f"{ROOT}/python/src"}
+    seen = finish(start([sys.executable, "-c", TWO_SIGNALS], env=environment))
+    assert seen == (0, "{'a step': 130}\n", "")

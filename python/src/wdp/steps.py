@@ -38,9 +38,11 @@ def _prctl(option: int, value: int) -> None:
 
 
 def _interrupt(number: int, frame: object) -> None:
-    """Ends the work once: what comes after is over already."""
+    """Ends the work once: what comes after is over already, and waits for ever."""
+    signal.pthread_sigmask(signal.SIG_BLOCK, _ENDINGS)
+    # (of one that has come, and whose handler is then SIG_IGN, Python prints a traceback)
     for ending in _ENDINGS:
-        signal.signal(ending, signal.SIG_IGN)
+        signal.signal(ending, lambda number, frame: None)
     raise KeyboardInterrupt
 
 
@@ -48,10 +50,11 @@ def _set_endings(
     handler: Callable[[int, object], None] | signal.Handlers, signal_of_parent: int
 ) -> None:
     """What the signals that end a process do in this one, and which one it gets when its parent
-    ends.
+    ends. They wait while the handlers change.
     """
-    for ending in _ENDINGS:
-        signal.signal(ending, handler)
+    with hold_signals():
+        for ending in _ENDINGS:
+            signal.signal(ending, handler)
     _prctl(_PR_SET_PDEATHSIG, signal_of_parent)
 
 

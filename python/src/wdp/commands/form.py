@@ -60,5 +60,5 @@ def run(options: argparse.Namespace) -> int:
     else:
         forms = {f"{name}.csv": encode(format_record(row)) for name, row in rows.items()}
     write_folder(options.output, forms)
-    tell(f"{format_count(len(forms), 'blank form')} in {options.output}\n")
+    tell(format_lines([f"{format_count(len(forms), 'blank form')} in {options.output}"]))
     return 0

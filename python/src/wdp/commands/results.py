@@ -27,7 +27,7 @@ import os
 
 from wdp.audits import MOST_OF_AUDIT, is_audit
 from wdp.commands.arguments import make_line_type, parse_award_number, parse_path
-from wdp.files import put, read, tell
+from wdp.files import put, read, say
 from wdp.program import find_program
 from wdp.publish.judging import AuditSource, Source, Sources, take_audit_alone
 from wdp.publish.making import make_results
@@ -134,9 +134,9 @@ def run(options: argparse.Namespace) -> int:
     results = make_results(find_program(options.program), sources, page)
     if options.output is not None:
         count = results.write_files(options.output, signer)
-        tell(f"results: {count} files in {options.output}\n")
+        say("results", f"{count} files in {options.output}")
     if options.text:
         put(results.format_text().encode())
     elif not results.figures.certified:
-        tell(f"results: {describe_certificates(results.figures)}\n")
+        say("results", describe_certificates(results.figures))
     return 0

@@ -5,6 +5,7 @@ import os
 import re
 import shutil
 import subprocess
+import tempfile
 from collections.abc import Mapping
 from dataclasses import dataclass
 from pathlib import Path
@@ -18,8 +19,14 @@ SIGNATURE = f"{SUMS}.sig"
 NAMESPACE = "wdp-award"  # what the signature is for
 _TOOL = "ssh-keygen"
 _MOST_OF_KEY = 1_000_000  # bytes of a key's file
+_MOST_OF_SIGNATURE = 100_000  # bytes
+_MOST_OF_MESSAGES = 65_536  # bytes of what ssh-keygen prints that are read
+_SECONDS = 300  # for ssh-keygen, which may ask somebody for a passphrase
 _PRIVATE = re.compile(rb"-----BEGIN [A-Z0-9 ]*PRIVATE KEY-----")
 _PUBLIC = re.compile(rb"(?:ssh|ecdsa|sk-ssh|sk-ecdsa)-\S+ \S+")
+_SIGNATURE = re.compile(
+    rb"-----BEGIN SSH SIGNATURE-----\n(?:[A-Za-z0-9+/]{1,70}={0,2}\n)+-----END SSH SIGNATURE-----\n"
+)
 _TOO_OPEN = re.compile(r"^Permissions .* are too open", re.MULTILINE)
 _WRONG_PASSPHRASE = "incorrect passphrase"
 
@@ -62,27 +69,38 @@ class Signer:
             signature = folder / SIGNATURE
             if not signature.exists():
                 raise Refused(f"{self.key}: {_explain(said)}")
-            with map_errors(str(signature)), path.open("rb") as file:
-                text = signature.read_bytes()
+            text = read(str(signature), _MOST_OF_SIGNATURE, regular=True)
+            with map_errors(str(path)), path.open("rb") as file:
                 said = _run_tool("check-novalidate", "-s", str(signature), file=file.fileno())
-            if not said.startswith(f'Good "{NAMESPACE}" signature'):
+            is_good = said.startswith(f'Good "{NAMESPACE}" signature')
+            if not is_good or not _SIGNATURE.fullmatch(text):
                 raise Refused(f"{self.key}: {_TOOL} doesn't find its signature good")
             return text
 
 
 def _run_tool(command: str, *arguments: str, file: int = subprocess.DEVNULL) -> str:
-    """What `ssh-keygen` prints; NotFound if it can't be started.
+    """The beginning of what `ssh-keygen` prints.
 
-    (It stays in the session of this process, so that it can ask the terminal.)
+    Raises NotFound if it can't be started, and Refused if its time is over. (It stays in the
+    session of this process, so that it can ask the terminal.)
     """
     words = [_TOOL, "-Y", command, "-n", NAMESPACE, *arguments]
-    try:
-        done = subprocess.run(
-            words, stdin=file, stdout=subprocess.PIPE, stderr=subprocess.STDOUT, check=False
-        )
-    except OSError as error:
-        raise NotFound(f"{_TOOL} can't be started: {error.strerror}") from None
-    return done.stdout.decode("utf-8", "backslashreplace")
+    with tempfile.TemporaryFile() as printed:
+        try:
+            subprocess.run(
+                words,
+                stdin=file,
+                stdout=printed,
+                stderr=subprocess.STDOUT,
+                check=False,
+                timeout=_SECONDS,
+            )
+        except subprocess.TimeoutExpired:
+            raise Refused(f"{_TOOL} didn't end in {_SECONDS} s, and was ended") from None
+        except OSError as error:
+            raise NotFound(f"{_TOOL} can't be started: {error.strerror}") from None
+        printed.seek(0)
+        return printed.read(_MOST_OF_MESSAGES).decode("utf-8", "backslashreplace")
 
 
 def _explain(said: str) -> str:
