@@ -388,10 +388,10 @@ def test_an_audit_alone_makes_the_same(folder: ResultsFolder, audit: str) -> Non
 
 
 def test_an_audit_alone_has_the_award_that_was_drawn(folder: ResultsFolder) -> None:
-    folder.publish_tie(TIED_AUDIT, "--drawn", "2")
+    folder.publish_tie(TIED_AUDIT, "--drawn", "2", "--list-is-complete")
     alone = folder.folder / "alone"
     audit = folder.write("audit.txt", TIED_AUDIT)
-    assert run("results", audit, "--drawn", "2", "--output", alone).status == 0
+    assert run("results", audit, "--drawn", "2", "--list-is-complete", "--output", alone).status == 0
     assert (alone / "results.json").read_bytes() == (folder.out / "results.json").read_bytes()
 
 
@@ -474,7 +474,7 @@ DRAWN_AUDIT = f"{DRAWN_SOLUTIONS}{CERTIFICATES}%tie\n# award 1\nX1_1 1\n{TIE}"
 @pytest.fixture
 def drawn(folder: ResultsFolder) -> ResultsFolder:
     """Results of award 2 of the tie, which was drawn."""
-    folder.publish_tie(TIED_AUDIT, "--drawn", "2", "--currency", "GBP")
+    folder.publish_tie(TIED_AUDIT, "--drawn", "2", "--list-is-complete", "--currency", "GBP")
     return folder
 
 
@@ -524,7 +524,7 @@ def test_an_award_keeps_its_number(
     folder: ResultsFolder, report: str, audit: str, drawn_number: int | None, number: int
 ) -> None:
     """Whichever award is the first of the audit."""
-    options = [] if drawn_number is None else ["--drawn", drawn_number]
+    options = [] if drawn_number is None else ["--drawn", drawn_number, "--list-is-complete"]
     folder.publish(TIE, report, *options, audit=audit)
     figures = folder.read_figures()
     assert figures["award"] == number

@@ -305,7 +305,7 @@ def test_more_awards_than_an_audit_lists(tmp_path: Path, wdp: str) -> None:
     audit = auction.read("audit.txt")
     at_least = "at least these 65 awards reach the total of group 1: don't draw from these alone"
     assert at_least in messages
-    assert "the search for ties ended at the limit of an audit, 64 beside the first" in messages
+    assert "an audit lists no more awards: 64 beside the first" in messages
     assert figures["proof"] == "some"
     assert len(figures["awards"]) == 65
     assert audit.count(b"%tie\n") == 64

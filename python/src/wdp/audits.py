@@ -11,11 +11,12 @@ import re
 from collections.abc import Iterable, Sequence
 from dataclasses import dataclass
 
+from wdp.awards import KnownAwards
 from wdp.office.findings import LeftOutBid
 from wdp.results import Allocation, Winner
 from wdp.texts.accepted import KINDS
 from wdp.texts.parts import Part, find_end_of_groups, list_groups, parse_parts
-from wdp.texts.refusals import Refused, WrongArgument
+from wdp.texts.refusals import Refused
 
 # bytes of an audit: the input, and solutions and certificates of each group
 MOST_OF_AUDIT = 2**31
@@ -171,13 +172,17 @@ def find_left_out_bid(award: Allocation, left_out: Iterable[LeftOutBid]) -> Winn
     return next((winner for winner in award.winners if (winner.bidder, winner.bid) in bids), None)
 
 
-def check_first(number: int, awards: Sequence[Allocation], left_out: Iterable[LeftOutBid]) -> None:
-    """Raises WrongArgument if there is no award of this number, and Refused if no audit can have it
-    first.
+def check_first(
+    number: int,
+    awards: Sequence[Allocation],
+    left_out: Iterable[LeftOutBid],
+    *,
+    are_all: bool,
+) -> None:
+    """Raises WrongArgument if there is no award of this number among these, which may be all, and
+    Refused if no audit can have it first.
     """
-    if number > len(awards):
-        count = "there is 1 award" if len(awards) == 1 else f"there are {len(awards)} awards"
-        raise WrongArgument(f"there is no award {number}: {count}")
+    KnownAwards(len(awards), are_all).check_number(number)
     if winner := find_left_out_bid(awards[number - 1], left_out):
         why = f"bid {winner.bid} of {winner.bidder} is in no program"
         raise Refused(f"award {number} can't be the first of an audit: {why}")

@@ -6,7 +6,7 @@ import stat
 import subprocess
 import sys
 import tempfile
-from collections.abc import Iterable, Iterator, Mapping
+from collections.abc import Callable, Iterable, Iterator, Mapping
 from pathlib import Path
 from typing import BinaryIO
 
@@ -151,17 +151,31 @@ def _make_hidden_path(path: str) -> str:
     return os.path.join(os.path.dirname(os.path.realpath(path)), WRITING + secrets.token_hex(8))
 
 
-def write_folder(folder: str, texts: Mapping[str, bytes], ours: Iterable[str] = ()) -> None:
+def write_folder(
+    folder: str,
+    texts: Mapping[str, bytes],
+    ours: Iterable[str] = (),
+    *,
+    is_left: Callable[[str], bool] | None = None,
+    replaces: bool = False,
+) -> None:
     """Writes a folder with files by their names, all or none, in the place of one that has no
     others than `ours`.
 
-    By default `ours` are the names of these files. Raises Unreadable.
+    By default `ours` are the names of these files. A file that is there with other bytes is kept,
+    and nothing is written, unless `is_left` knows that it is as a command left it, or this
+    `replaces` it. Raises Unreadable.
     """
     with map_errors(folder):
-        names = os.listdir(folder) if os.path.lexists(folder) else []
-        others = sorted(set(names).difference(ours or texts))
+        names = sorted(os.listdir(folder)) if os.path.lexists(folder) else []
+        others = [name for name in names if name not in {*(ours or texts)}]
         if others:
             raise Unreadable(folder, f"it has other files, as {others[0]}; name a new folder")
+        for name in names if not replaces else ():
+            path = os.path.join(folder, name)
+            if not _has_bytes(path, texts.get(name)) and not (is_left and is_left(name)):
+                why = "it isn't what was left there or is to be written"
+                raise Unreadable(path, f"{why}, and is kept; --replace puts the new one there")
         place = os.path.realpath(folder)
         made = _make_hidden_path(folder)
         os.makedirs(os.path.dirname(place), exist_ok=True)
@@ -172,6 +186,13 @@ def write_folder(folder: str, texts: Mapping[str, bytes], ours: Iterable[str] = 
             _replace_folder(place, made)
         finally:
             remove(made)
+
+
+def _has_bytes(path: str, data: bytes | None) -> bool:
+    """Whether a file has these bytes."""
+    if data is None or os.path.getsize(path) != len(data):
+        return False
+    return read(path, len(data), regular=True) == data
 
 
 def _replace_folder(place: str, made: str) -> None:

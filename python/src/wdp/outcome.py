@@ -86,6 +86,7 @@ class Outcome:
         currency: str | None = None,
         names: StrPath | None = None,
         key: StrPath | None = None,
+        replace: bool = False,
     ) -> None:
         """Writes what can be published into a folder, as `wdp-office results` does: an HTML page
         that loads nothing, tables as CSV and JSON, and the audit, with which anyone can repeat it.
@@ -93,7 +94,8 @@ class Outcome:
         `title` is the page's heading, `currency` the unit of all amounts, and `names` a file with a
         row `code,name` for each bidder or category that has another name. With `key`, a file with
         a private key of OpenSSH, `ssh-keygen` signs the files. The folder must be new, or have only
-        files of an earlier page, and if that is signed this one must be.
+        the same files; with `replace` they take the place of others by their names, of signed ones
+        if they are signed.
 
         Raises Refused if a file isn't written or can't be read, or isn't signed, WrongArgument for
         a title or currency that isn't a line, Missing without jinja2, and NotFound without
@@ -116,7 +118,8 @@ class Outcome:
         )
         sources = make_sources(self.input, report, self.audit)
         signer = None if key is None else Signer(os.fsdecode(key))
-        make_results(self.program, sources, options).write_files(os.fsdecode(folder), signer)
+        results = make_results(self.program, sources, options)
+        results.write_files(os.fsdecode(folder), signer, replaces=replace)
 
     def compare(self, now: Outcome) -> Comparison:
         """This outcome, as that of before, beside another one of an auction with the same bidders:

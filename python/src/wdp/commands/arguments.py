@@ -142,6 +142,28 @@ def add_choices(parser: argparse.ArgumentParser) -> None:
     )
 
 
+def add_replace(parser: argparse.ArgumentParser) -> None:
+    """Adds the option by which an office says that files of its folder may be replaced."""
+    parser.add_argument(
+        "--replace",
+        dest="replaces",
+        action="store_true",
+        help="replace files that aren't as they were left; without it they are kept, and the "
+        "status is 1",
+    )
+
+
+def add_list_is_complete(parser: argparse.ArgumentParser) -> None:
+    """Adds the option by which an office says what isn't proved of the awards that an audit lists."""
+    parser.add_argument(
+        "--list-is-complete",
+        dest="is_complete",
+        action="store_true",
+        help="with --drawn: the office knows that no award is missing from the audit, though that "
+        "isn't proved",
+    )
+
+
 def read_choices(options: argparse.Namespace) -> Choices:
     """What these options say."""
     return Choices(**{each.name: getattr(options, each.name) for each in fields(Choices)})

@@ -13,6 +13,7 @@ from pathlib import Path
 
 from wdp import audits, certify, files, solve, steps
 from wdp.commands.arguments import (
+    add_replace,
     add_solver_options,
     make_line_type,
     make_type,
@@ -60,6 +61,7 @@ def add_shared_arguments(parser: argparse.ArgumentParser) -> None:
         metavar="N",
         help="how many groups are done at a time; by default one per processor",
     )
+    add_replace(parser)
     parser.add_argument(
         "--quiet",
         action="store_true",
@@ -197,7 +199,7 @@ def make_run(
         at_once=steps.end_at_once,
     )
     return Run(
-        folder=Folder(folder or name_temporary_folder()),
+        folder=Folder(folder or name_temporary_folder(), replaces=options.replaces),
         goals=goals,
         means=means,
         is_named=folder is not None,

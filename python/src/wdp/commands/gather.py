@@ -18,6 +18,7 @@ from collections.abc import Callable, Sequence
 
 from wdp.commands.arguments import (
     add_choices,
+    add_replace,
     add_rule_of_groups,
     check_rule,
     parse_path,
@@ -55,6 +56,7 @@ def add_arguments(parser: argparse.ArgumentParser) -> None:
         type=parse_path,
         help="write the rules and each form, as they are in the input, into this folder",
     )
+    add_replace(parser)
     add_choices(parser)
 
 
@@ -128,7 +130,8 @@ def run(options: argparse.Namespace) -> int:
     receipt = format_receipt(auction)
     if options.parts:
         ours = [_RULES_PART, *(f"{name}.csv" for name in auction.rules.bidders)]
-        write_folder(options.parts, _make_parts(auction), ours=ours)
+        parts = _make_parts(auction)
+        write_folder(options.parts, parts, ours=ours, replaces=options.replaces)
     texts = {options.output: auction.text, options.receipt: receipt.encode()}
     write_all({path: text for path, text in texts.items() if path})
     tell(receipt)

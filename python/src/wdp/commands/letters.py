@@ -12,7 +12,13 @@ import argparse
 from pathlib import Path
 
 from wdp import files
-from wdp.commands.arguments import make_line_type, parse_award_number, take_folder
+from wdp.commands.arguments import (
+    add_list_is_complete,
+    add_replace,
+    make_line_type,
+    parse_award_number,
+    take_folder,
+)
 from wdp.folder import Folder
 from wdp.program import find_program
 from wdp.reporter import ConsoleReporter
@@ -46,6 +52,8 @@ def add_arguments(parser: argparse.ArgumentParser) -> None:
         metavar="N",
         help="write about this award of those that tie, since it was drawn",
     )
+    add_list_is_complete(parser)
+    add_replace(parser)
     parser.add_argument("--title", type=make_line_type("title"), help="the letters' heading")
     parser.add_argument(
         "--currency",
@@ -61,8 +69,10 @@ def run(options: argparse.Namespace) -> None:
         raise WrongArgument("--input goes with --receipts")
     if options.drawn and options.receipts:
         raise WrongArgument("--drawn goes with letters about an award, and not with --receipts")
+    if options.is_complete and not options.drawn:
+        raise WrongArgument("--list-is-complete goes with --drawn N")
     writer = LetterRun(
-        folder=Folder(take_folder(options.folder, "letters")),
+        folder=Folder(take_folder(options.folder, "letters"), replaces=options.replaces),
         program=find_program(options.program),
         reporter=ConsoleReporter(command="letters", is_quiet=False),
         page=Page(options.title, options.currency),
@@ -71,4 +81,4 @@ def run(options: argparse.Namespace) -> None:
         data = files.read(options.input, MOST_OF_INPUT) if options.input else None
         writer.write_receipts(data)
     else:
-        writer.write_letters(options.drawn)
+        writer.write_letters(options.drawn, is_complete=options.is_complete)

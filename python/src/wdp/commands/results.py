@@ -26,7 +26,13 @@ import argparse
 import os
 
 from wdp.audits import MOST_OF_AUDIT, is_audit
-from wdp.commands.arguments import make_line_type, parse_award_number, parse_path
+from wdp.commands.arguments import (
+    add_list_is_complete,
+    add_replace,
+    make_line_type,
+    parse_award_number,
+    parse_path,
+)
 from wdp.files import put, read, say
 from wdp.program import find_program
 from wdp.publish.judging import AuditSource, Source, Sources, take_audit_alone
@@ -80,6 +86,8 @@ def add_arguments(parser: argparse.ArgumentParser) -> None:
         metavar="N",
         help="publish this award of those that tie, since it was drawn",
     )
+    add_list_is_complete(parser)
+    add_replace(parser)
     parser.add_argument(
         "--sign",
         metavar="KEY",
@@ -96,8 +104,15 @@ def _check_arguments(options: argparse.Namespace) -> None:
         raise WrongArgument("--sign KEY goes with --output DIR")
     if options.report is None and options.audit:
         raise WrongArgument("--audit FILE goes with INPUT and REPORT; an audit alone comes first")
+    if options.is_complete and options.drawn is None:
+        raise WrongArgument("--list-is-complete goes with --drawn N")
     if options.report and options.drawn is not None and not options.audit:
         raise WrongArgument("--drawn needs --audit, which has the award that was drawn")
+
+
+def _make_audit_source(options: argparse.Namespace, text: bytes, name: str) -> AuditSource:
+    """An audit, with what the office says of a draw."""
+    return AuditSource(text, name=name, drawn=options.drawn, is_complete=options.is_complete)
 
 
 def _read_sources(options: argparse.Namespace) -> Sources:
@@ -109,13 +124,13 @@ def _read_sources(options: argparse.Namespace) -> Sources:
         if not is_audit(text):
             why = "it has no certificates, so it is no audit; REPORT is missing"
             raise WrongArgument(f"{options.input}: {why}")
-        return take_audit_alone(AuditSource(text, name=options.input, drawn=options.drawn))
+        return take_audit_alone(_make_audit_source(options, text, name=options.input))
     data = read(options.input, MOST_OF_INPUT)
     report = read(options.report, MOST_OF_INPUT)
     audit = None
     if options.audit:
         text = read(options.audit, MOST_OF_AUDIT)
-        audit = AuditSource(text, name=options.audit, drawn=options.drawn)
+        audit = _make_audit_source(options, text, name=options.audit)
     return Sources(
         input=Source(data, name=options.input),
         report=Source(report, name=options.report),
@@ -133,7 +148,7 @@ def run(options: argparse.Namespace) -> int:
     page = PageOptions(title=options.title, currency=options.currency, names_path=options.names)
     results = make_results(find_program(options.program), sources, page)
     if options.output is not None:
-        count = results.write_files(options.output, signer)
+        count = results.write_files(options.output, signer, replaces=options.replaces)
         say("results", f"{count} files in {options.output}")
     if options.text:
         put(results.format_text().encode())

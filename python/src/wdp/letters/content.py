@@ -2,6 +2,7 @@
 from collections.abc import Mapping, Sequence
 from dataclasses import dataclass, field
 
+from wdp.awards import KnownAwards
 from wdp.lost.bids import LostBid
 from wdp.lost.records import describe_fate
 from wdp.office.faults import CellValue, format_count, format_number
@@ -140,7 +141,8 @@ def make_letter(
     ]
     if lost:
         count = len(form.bids) - bidder.is_winner
-        sections.append(_make_lost_section(lost, rules, naming, count=count))
+        known = figures.known_awards
+        sections.append(_make_lost_section(lost, rules, naming, count=count, known=known))
     about = [*_describe_digest(form), _ABOUT_COMMANDS]
     sections.append(Section("How to check it", sentences=about, checks=checks))
     return Letter(naming.title, naming.format_bidder(form.bidder), sections)
@@ -179,8 +181,8 @@ def _make_won_section(bidder: BidderFigures, figures: Figures) -> Section:
     """What a bidder won and pays."""
     heading = "What you won"
     sentences = [] if figures.certified else ["Not certified: this is a solver's word."]
-    if len(figures.awards) > 1:
-        sentences.append(_describe_choice(figures))
+    if figures.known_awards.is_tie:
+        sentences.append(_describe_choice(figures.known_awards))
     if bidder.bid is None:
         sentences.append("None of your bids won. You pay nothing.")
         return Section(heading, sentences=sentences)
@@ -212,19 +214,22 @@ def _list_payment(bidder: BidderFigures, figures: Figures) -> dict[str, str]:
     return facts
 
 
-def _describe_choice(figures: Figures) -> str:
+def _describe_choice(known: KnownAwards) -> str:
     """Which of several awards a letter is about."""
-    count = format_count(len(figures.awards), "award")
-    least = "At least " if figures.proof == "some" else ""
-    reach = f"{least}{count} reach the same total."
-    if figures.drawn is not None:
-        return f"{reach} A draw decided between them, and award {figures.drawn} was drawn."
+    tie = known.describe_tie()
+    if known.is_drawn:
+        return f"{tie} A draw decided between them, and award {known.number} was drawn."
     rules = "which one holds is for the auction's rules to say"
-    return f"{reach} This letter is about award {figures.award}; {rules}."
+    return f"{tie} This letter is about award {known.number}; {rules}."
 
 
 def _make_lost_section(
-    lost: Sequence[LostBid], rules: AcceptedRules, naming: Naming, *, count: int
+    lost: Sequence[LostBid],
+    rules: AcceptedRules,
+    naming: Naming,
+    *,
+    count: int,
+    known: KnownAwards,
 ) -> Section:
     """What the lost bids of a bidder lacked, of so many in all."""
     steps = naming.format_amount(rules.step)
@@ -237,6 +242,6 @@ def _make_lost_section(
     headings = [naming.add_unit(heading) for heading in ("Amount", "Needed", "Lacked")]
     rows: list[Sequence[CellValue]] = [["Bid", *headings, "Outcome"]]
     for bid in lost:
-        fate = describe_fate(bid, naming.names)
+        fate = describe_fate(bid, naming.names, known)
         rows.append([bid.bid, bid.amount, bid.needed, bid.lacked, fate])
     return Section("What your lost bids lacked", sentences=sentences, rows=rows)

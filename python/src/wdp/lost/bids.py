@@ -21,7 +21,7 @@ class Fate(Enum):
 
     TIES = "would have tied"
     WINS = "would have won"
-    TIED = "it tied; the draw decided"
+    TIED = "it tied"
     UNFIT = "doesn't fit: no amount would do"
     BEYOND = "none within the limit"
 

@@ -3,6 +3,7 @@ import json
 import re
 from collections.abc import Mapping, Sequence
 
+from wdp.awards import KnownAwards
 from wdp.lost.bids import MOST_OF_AMOUNT, Fate, LostBid
 from wdp.lost.inputs import keep_first_group
 from wdp.office.faults import CellValue, align_rows, format_lines
@@ -46,11 +47,11 @@ def format_mark(data: bytes, audit: bytes) -> bytes:
     return "".join(f"{compute_digest(text)}\n" for text in texts).encode()
 
 
-def describe_fate(bid: LostBid, names: Mapping[str, str]) -> str:
+def describe_fate(bid: LostBid, names: Mapping[str, str], known: KnownAwards) -> str:
     """What would have become of a bid, in words, and why it is in no program if it isn't, by what
-    the office calls categories.
+    the office calls categories and what is known of the awards.
     """
-    fate = bid.fate.value
+    fate = known.describe_own_tie() if bid.fate is Fate.TIED else bid.fate.value
     if bid.fate is Fate.BEYOND:
         fate += f" of {MOST_OF_AMOUNT:,}"
     if bid.reason is None:
@@ -66,7 +67,12 @@ def format_lots(lots: Mapping[str, int], names: Mapping[str, str]) -> str:
 
 
 def format_bids(
-    bids: Sequence[LostBid], *, step: int, names: Mapping[str, str], currency: str | None
+    bids: Sequence[LostBid],
+    *,
+    step: int,
+    names: Mapping[str, str],
+    currency: str | None,
+    known: KnownAwards,
 ) -> str:
     """What the lost bids of one bidder lacked, as a text for this bidder."""
     code = bids[0].bidder
@@ -77,7 +83,7 @@ def format_bids(
     ]
     for bid in bids:
         lots = format_lots(bid.lots, names)
-        fate = describe_fate(bid, names)
+        fate = describe_fate(bid, names, known)
         rows.append([bid.bid, bid.amount, bid.needed, bid.lacked, fate, lots])
     steps = f"{step:,} {currency or ''}".rstrip()
     meaning = (

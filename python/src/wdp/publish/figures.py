@@ -9,6 +9,7 @@ from fractions import Fraction
 from typing import Literal
 
 from wdp.audits import find_left_out_bid
+from wdp.awards import KnownAwards
 from wdp.office.faults import format_number
 from wdp.office.findings import LeftOutBid
 from wdp.results import Allocation, Report
@@ -192,6 +193,16 @@ class Figures:
     report_sha256: str
     audit: AuditFigures | None
     wdp: str
+
+    @property
+    def known_awards(self) -> KnownAwards:
+        """What is known of the awards of the total, and which of them these figures are of."""
+        return KnownAwards(
+            len(self.awards),
+            are_all=self.proof == "all",
+            number=self.award,
+            is_drawn=self.drawn is not None,
+        )
 
     @property
     def winners(self) -> list[BidderFigures]:

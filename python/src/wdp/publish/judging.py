@@ -5,6 +5,7 @@ from collections.abc import Sequence
 from dataclasses import dataclass
 
 from wdp import audits
+from wdp.awards import KnownAwards
 from wdp.office.findings import LeftOutBid
 from wdp.program import Limits, ask
 from wdp.results import Allocation, Report
@@ -12,7 +13,7 @@ from wdp.texts import accepted
 from wdp.texts.accepted import Accepted
 from wdp.texts.answers import ExpectedAnswer, cut_report, read_report
 from wdp.texts.parts import add_groups, list_groups, parse_parts
-from wdp.texts.refusals import Refused, Unclear, WrongArgument
+from wdp.texts.refusals import Refused, Unclear
 
 
 @dataclass(frozen=True)
@@ -26,10 +27,11 @@ class Source:
 @dataclass(frozen=True)
 class AuditSource(Source):
     """An audit, and if a draw decided between the awards that it lists, the number of the one that
-    was drawn.
+    was drawn. The office may know that the list `is_complete` where nothing proves it.
     """
 
     drawn: int | None = None
+    is_complete: bool = False
 
 
 @dataclass(frozen=True)
@@ -177,7 +179,7 @@ def judge_audit(
     text = audit.text
     number = first if audit.drawn is None else audit.drawn
     if number != first:
-        audits.check_first(number, awards, left_out)
+        audits.check_first(number, awards, left_out, are_all=listed.report.has_all_awards)
         text = audits.put_first(text, number)
         judgement = judge(program, "verify", text)
     return PublishedAward(
@@ -192,8 +194,8 @@ def judge_audit(
 def _check_audit(
     sources: Sources, audit: AuditSource, *, judgement: Judgement, listed: Judgement
 ) -> None:
-    """Raises Refused if the report isn't the audit's, and WrongArgument if nothing can have been
-    drawn.
+    """Raises Refused if the report isn't the audit's, or if awards may be missing of which one was
+    drawn, and WrongArgument if nothing can have been.
 
     `judgement` is that of the audit, and `listed` that of the same with award 1 first.
     """
@@ -202,8 +204,9 @@ def _check_audit(
     reports = [cut_report(each.printed, count) for each in judgements]
     if sources.report is not None and sources.report.text not in reports:
         raise Refused(f"{audit.name}: what wdp verify prints of it isn't the report")
-    if audit.drawn is not None and len(listed.report.awards) == 1:
-        raise WrongArgument(f"{audit.name} shows no tie, so that nothing was drawn")
+    if audit.drawn is not None:
+        known = KnownAwards(len(listed.report.awards), are_all=listed.report.has_all_awards)
+        known.check_draw(audit.name, is_complete=audit.is_complete)
 
 
 def _count_added_bytes(data: bytes, audit: Source) -> int:

@@ -55,16 +55,19 @@ class Results:
             files |= {SUMS: sums, SIGNATURE: signer.sign(sums)}
         return files
 
-    def write_files(self, folder: str, signer: Signer | None = None) -> int:
-        """Writes the files into a folder, in the place of an older one of these files alone, and
-        returns how many they are. A folder that is signed is replaced by one that is.
+    def write_files(
+        self, folder: str, signer: Signer | None = None, *, replaces: bool = False
+    ) -> int:
+        """Writes the files into a folder, which is new or has these files alone, and returns how
+        many they are. Other bytes are kept there unless this `replaces` them, and a folder that is
+        signed is replaced only by one that is.
 
         Raises Unreadable if they can't be written, Missing, and what the signer does.
         """
         if signer is None and os.path.lexists(os.path.join(folder, SIGNATURE)):
             raise Unreadable(folder, "it is signed, and these files aren't; name a new folder")
         files = self.make_files(signer)
-        write_folder(folder, files, ours=[*files, _AUDIT])
+        write_folder(folder, files, ours=[*files, _AUDIT], replaces=replaces)
         return len(files)
 
 

@@ -2,6 +2,7 @@
 from collections.abc import Mapping, Sequence
 from dataclasses import dataclass
 
+from wdp.awards import KnownAwards
 from wdp.office.faults import format_count
 from wdp.publish.figures import Figures, PricesFigures
 
@@ -25,9 +26,9 @@ class Sentences:
 
 def make_sentences(figures: Figures) -> Sentences:
     """What is said of these figures, in whole sentences."""
-    about_awards = "bidders" if len(figures.awards) == 1 else "ties"
+    known = figures.known_awards
     proofs = {
-        about_awards: [_describe_awards(figures)],
+        "ties" if known.is_tie else "bidders": [_describe_awards(known)],
         "prices": _describe_prices(figures),
         "groups": [describe_certificates(figures)] if figures.certified else [],
     }
@@ -41,8 +42,8 @@ def make_sentences(figures: Figures) -> Sentences:
 def _list_warnings(figures: Figures) -> list[str]:
     """What has to be read before the results: that nothing is certified, and that others tie."""
     warnings = [] if figures.certified else [describe_certificates(figures)]
-    if len(figures.awards) > 1:
-        warnings.append(_describe_choice(figures))
+    if figures.known_awards.is_tie:
+        warnings.append(_describe_choice(figures.known_awards))
     return warnings
 
 
@@ -141,7 +142,7 @@ def _describe_prices(figures: Figures) -> list[str]:
     sentences = [f"Proved: {proof}." for proof in _list_proofs_of_prices(figures, prices)]
     if more := _describe_sum_of_prices(figures, prices):
         sentences.append(f"{more[0].upper()}{more[1:]}.")
-    if len(figures.awards) > 1:
+    if figures.known_awards.is_tie:
         sentences.append(
             "These prices belong to the winners of this page; another award has prices of its own, "
             "which may have another sum."
@@ -149,52 +150,46 @@ def _describe_prices(figures: Figures) -> list[str]:
     return sentences
 
 
-def _describe_awards(figures: Figures) -> str:
+def _describe_awards(known: KnownAwards) -> str:
     """A sentence about all awards of this total."""
-    count = len(figures.awards)
-    if figures.proof == "none":
-        return "Whether others reach the same total isn't shown."
-    if figures.proof == "some":
-        warning = "" if figures.drawn else ": don't draw from these alone"
+    if known.is_tie and not known.are_all:
+        warning = "" if known.is_drawn else ": don't draw from these alone"
         return (
-            f"Proved: at least these {count} awards reach the same total, and none reaches more. "
-            f"That there are no others isn't shown{warning}."
+            f"Proved: at least these {known.count} awards reach the same total, and none reaches "
+            f"more. That there are no others isn't shown{warning}."
         )
-    if count == 1:
+    if not known.are_all:
+        return "Whether others reach the same total isn't shown."
+    if not known.is_tie:
         return (
             "Proved: these are the only winners. "
             "No other combination of bids reaches the same total. The audit shows it."
         )
     return (
-        f"Proved: these {count} awards, and no other, reach the greatest total. "
+        f"Proved: these {known.count} awards, and no other, reach the greatest total. "
         "The audit shows it."
     )
 
 
-def _describe_choice(figures: Figures) -> str:
+def _describe_choice(known: KnownAwards) -> str:
     """Of several awards sentences about the one of this page."""
-    count = len(figures.awards)
-    tie = f"{count} awards reach the same total."
-    if figures.proof == "some":
-        tie = f"At least {count} awards reach the same total."
-    if figures.drawn is not None:
+    if known.is_drawn:
         return (
-            f"{tie} A draw decided between the awards, and this page shows award {figures.drawn}, "
-            "which was drawn."
+            f"{known.describe_tie()} A draw decided between the awards, and this page shows award "
+            f"{known.number}, which was drawn."
         )
     return (
-        f"{tie} This page shows award {figures.award}. "
+        f"{known.describe_tie()} This page shows award {known.number}. "
         "Which award holds is for the auction's rules to say, perhaps by a draw."
     )
 
 
-def describe_awards_of_run(figures: Figures) -> str:
+def describe_awards_of_run(known: KnownAwards) -> str:
     """What is proved of the awards, as a message of the run that found them."""
-    count = len(figures.awards)
-    if figures.proof == "some":
+    if not known.are_all:
         warning = "don't draw from these alone"
-        return f"at least these {count} awards reach the total of group 1: {warning}"
-    if count == 1:
+        return f"at least these {known.count} awards reach the total of group 1: {warning}"
+    if not known.is_tie:
         return "proved: nobody else can win with the total of group 1"
     rules = "which one holds is for the auction's rules to say"
-    return f"proved: these {count} awards, and no other, reach the total of group 1; {rules}"
+    return f"proved: these {known.count} awards, and no other, reach the total of group 1; {rules}"

@@ -12,6 +12,7 @@ from wdp.runs.stores import Store
 from wdp.texts import certificates
 from wdp.texts.parts import add_groups, list_groups, list_names, parse_parts
 from wdp.texts.refusals import Refused
+from wdp.texts.tables import compute_digest
 
 FIRST_GROUP = 1  # the number of the group that leaves nobody out
 # the names that each group leaves out; there once all programs are
@@ -20,6 +21,12 @@ NAMES = "programs/names.txt"
 ROWS = "inequalities.txt"
 TIES = "ties.txt"
 PRICES = "prices.txt"
+# the names that each group leaves out that was added for prices
+ADDED = "programs/added.txt"
+AWARD = "award.txt"  # the SHA-256 of group 1's solution, of which ties and prices are
+FORMAT = "format.txt"  # of the folder: without it, it is that of an earlier version
+_FORMAT = b"2\n"
+_KINDS = ("program", "answer", "solution", "certificate")
 _HEAD_OF_GROUPS = b"%groups\n"
 
 
@@ -31,6 +38,13 @@ def name_file(kind: str, group: int | str) -> str:
     """
     ending = "mps" if kind == "program" else "txt"
     return f"{kind}s/{group}.{ending}"
+
+
+def name_unfinished(group: int) -> tuple[str, str]:
+    """The files with the best solution of a search that ended at its limit, and with what that has
+    shown.
+    """
+    return f"unfinished/{group}.best.txt", f"unfinished/{group}.txt"
 
 
 def format_parts(head: str, texts: Iterable[bytes]) -> bytes:
@@ -100,6 +114,57 @@ class Contents:
     def leave_names(self, lines: Iterable[str]) -> None:
         """Leaves the lines of the input's groups."""
         self.store.leave(NAMES, "".join(f"{line}\n" for line in lines).encode())
+
+    def is_of_format(self) -> bool:
+        """Whether this version left the programs; Refused if a later one did."""
+        if not self.store.has(FORMAT):
+            return False
+        if self.store.read(FORMAT) != _FORMAT:
+            raise Refused(f"{self.store.path(FORMAT)} is of another version of wdp-office")
+        return True
+
+    def leave_format(self) -> None:
+        """Leaves that this version left the programs."""
+        self.store.leave(FORMAT, _FORMAT)
+
+    def read_added(self) -> list[str] | None:
+        """The lines of the added groups whose programs are there, if that is known."""
+        if not self.store.has(ADDED):
+            return None
+        return self.store.read(ADDED).decode("ascii", "replace").splitlines()
+
+    def forget_group(self, group: int) -> None:
+        """Forgets a group whose program isn't that of its line."""
+        names = [name_file(kind, group) for kind in _KINDS]
+        for name in (*names, *name_unfinished(group)):
+            self.store.forget(name)
+
+    def take_award(self, solution: bytes) -> bool:
+        """Takes an award of group 1; whether what is there is of another one, and is forgotten:
+        ties, prices, and the groups that were added for these.
+        """
+        digest = compute_digest(solution.removeprefix(audits.find_mark(solution)))
+        mark = f"{digest}\n".encode()
+        if self.store.has(AWARD) and self.store.read(AWARD) == mark:
+            return False
+        of_another = [TIES, PRICES, ADDED, *self.list_kept("ties")]
+        has_others = any(self.store.has(name) for name in of_another)
+        for name in of_another:
+            self.store.forget(name)
+        self.store.leave(AWARD, mark)
+        return has_others
+
+    def forget_old_prices(self) -> bool:
+        """Whether prices are there that an earlier version found by another rule; they are
+        forgotten.
+        """
+        if not self.store.has(PRICES):
+            return False
+        kinds = {part.kind for part in parse_parts(self.store.read(PRICES))}
+        if "weights" not in kinds:
+            return False
+        self.store.forget(PRICES)
+        return True
 
     def leave_group(self, group: int, *, solution: bytes, certificate: bytes) -> None:
         """Leaves the optimal solution of a group, and its certificate."""

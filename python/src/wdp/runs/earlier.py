@@ -40,6 +40,8 @@ class Earlier:
             if shown is not None:
                 # (the number of an award is one of the earlier auction)
                 solution = shown.solution.removeprefix(audits.find_mark(shown.solution))
+                if group == FIRST_GROUP:
+                    contents.take_award(solution)
                 contents.leave_group(group, solution=solution, certificate=shown.certificate)
                 taken.append(f"{group} ({lines[group]})")
         if FIRST_GROUP in lines:

@@ -104,6 +104,8 @@ class Flow:
         """Has prices found, and all groups settled that show them: each winner alone, and then
         those that bind the prices; whether all of it is there.
         """
+        if self.contents.forget_old_prices():
+            self.means.reporter.say(messages.OLD_PRICES)
         while True:
             added = self.contents.list_added()
             if self.compile(list(added.values())) or not self.settle(added):

@@ -6,8 +6,7 @@ from dataclasses import dataclass
 from functools import partial
 from types import MappingProxyType
 
-from wdp import files
-from wdp.folder import INPUT, Folder
+from wdp.folder import INPUT, LETTERS, RECEIPTS, Folder
 from wdp.letters.content import Check, CountedForm, Letter, Naming, make_letter, make_receipt
 from wdp.letters.rendering import format_page, format_text
 from wdp.lost.bids import BidKey, LostBid
@@ -29,8 +28,6 @@ from wdp.texts.parts import parse_parts
 from wdp.texts.refusals import Refused
 from wdp.texts.tables import compute_digest
 
-LETTERS = "letters"
-RECEIPTS = "receipts"
 _TITLES = {LETTERS: "Award of the auction", RECEIPTS: "Forms of the auction"}
 _MOST_OF_FORMS = 1_000_000  # bytes of what `wdp forms` prints, a line for each bidder
 
@@ -112,9 +109,9 @@ class LetterRun:
             }
             self._write(RECEIPTS, letters, _list_parts(text))
 
-    def write_letters(self, drawn: int | None = None) -> None:
+    def write_letters(self, drawn: int | None = None, *, is_complete: bool = False) -> None:
         """Writes a letter about the award to each bidder; about another award than the first if
-        that was drawn.
+        that was drawn. The office may know that the list of awards `is_complete`.
         """
         self._check_folder()
         with self.folder.lock(alone=True):
@@ -122,7 +119,8 @@ class LetterRun:
             data = self.folder.read(INPUT)
             auction = accepted.read(data, str(self.folder.path(INPUT)))
             naming = self._read_naming(auction, _TITLES[LETTERS])
-            figures = self._make_figures(data, award, drawn=drawn, naming=naming)
+            audit = AuditSource(award.audit, "the audit", drawn=drawn, is_complete=is_complete)
+            figures = self._make_figures(data, audit, naming)
             printed = judge(self.program, "verify", award.audit).printed
             lines = printed.decode("ascii").splitlines()
             mark = format_mark(data, award.audit)
@@ -179,15 +177,13 @@ class LetterRun:
             raise Refused(f"{folder.path(AUDIT)} isn't there; {hint}")
         return _PlacedAward(folder, path=path, audit=folder.read(AUDIT))
 
-    def _make_figures(
-        self, data: bytes, award: _PlacedAward, *, drawn: int | None, naming: Naming
-    ) -> Figures:
+    def _make_figures(self, data: bytes, audit: AuditSource, naming: Naming) -> Figures:
         """The figures of the award, once the program judged its audit."""
         names = self.folder.path("names.csv")
         sources = Sources(
             input=Source(data, name="the input"),
             report=Source(self.folder.read(REPORT), name="the report"),
-            audit=AuditSource(award.audit, name="the audit", drawn=drawn),
+            audit=audit,
         )
         options = PageOptions(
             title=naming.title,
@@ -210,10 +206,10 @@ class LetterRun:
         for name, letter in letters.items():
             texts[f"{name}.html"] = format_page(letter)
             texts[f"{name}.txt"] = format_text(letter)
-        path = self.folder.path(kind)
-        files.write_folder(str(path), texts)
+        self.folder.leave_folder(kind, texts)
         thing = kind.removesuffix("s")
-        self.reporter.say(f"{format_count(len(letters), thing)} in {path}")
+        count = format_count(len(letters), thing)
+        self.reporter.say(f"{count} in {self.folder.path(kind)}")
 
 
 def _list_parts(data: bytes) -> dict[str, bytes]:

@@ -8,7 +8,8 @@ from pathlib import Path
 from typing import TYPE_CHECKING
 
 from wdp import files, memory, steps
-from wdp.folder import INPUT, Folder
+from wdp.awards import KnownAwards
+from wdp.folder import INPUT, LOST, Folder
 from wdp.lost.bids import BidKey, LostBid
 from wdp.lost.records import format_bids, format_mark, format_record, parse_record
 from wdp.office.faults import format_count
@@ -26,7 +27,6 @@ from wdp.texts.refusals import Refused, WrongArgument
 if TYPE_CHECKING:
     from wdp.lost.award import ProvedAward
 
-LOST = "lost"  # the folder of what was found
 MOST_SOLVES = 100  # that are made if nothing says of which bids
 _AWARD = f"{LOST}/of_award.txt"  # which award that is of (no bidder has such a name)
 
@@ -158,6 +158,7 @@ class LostRun:
             step=award.auction.rules.step,
             names=read_names_of_folder(named, award.auction.rules),
             currency=page.currency,
+            known=KnownAwards(1, are_all=False),
         )
         self.folder.leave(f"{LOST}/{name}.txt", text.encode())
         for line in text.splitlines():

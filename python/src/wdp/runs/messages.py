@@ -7,7 +7,9 @@ from wdp.office.faults import format_count
 from wdp.runs.contents import FIRST_GROUP
 from wdp.runs.means import Means
 
+_MOST_NAMED = 4  # files that a message names
 NOT_PRICED = "no prices; the next run looks for them again, and --no-prices leaves them out"
+OLD_PRICES = "the prices in the folder are of version 1: they are found anew, by the rule"
 NOT_ALL_TIES = (
     "not proved: whether others can win with the total of group 1, since the search didn't end"
 )
@@ -22,6 +24,15 @@ def format_begin(*, count: int, left: int, columns: int, jobs: int, means: Means
     size = "1 column" if columns == 1 else f"{columns:,} columns"
     more = f"; {size} with nobody left out" if left else ""
     return f"{are_done}, {manner}{more}"
+
+
+def format_made_again(missing: Sequence[str]) -> str:
+    """That files are made again of which it was left that they were there."""
+    named = ", ".join(missing[:_MOST_NAMED])
+    if len(missing) > _MOST_NAMED:
+        named += f" and {len(missing) - _MOST_NAMED} more"
+    are = "isn't" if len(missing) == 1 else "aren't"
+    return f"{named} {are} there any more: what is needed is made again"
 
 
 def format_lack_of_memory(jobs: int, wanted: int) -> str:

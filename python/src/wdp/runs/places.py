@@ -105,14 +105,15 @@ def _run_for_award(run: Run, award: int) -> int:
     data = run.folder.read(INPUT)
     report = judge(program, "verify", run.folder.read(AUDIT)).report
     left_out = explain(program, data, with_bids=True).bids
-    audits.check_first(award, report.awards, left_out)
+    audits.check_first(award, report.awards, left_out, are_all=report.has_all_awards)
     audit = audits.put_first(run.contents.format_audit(with_prices=False), award)
-    folder = Folder(run.folder.path(AWARDS) / str(award))
+    folder = Folder(run.folder.path(AWARDS) / str(award), replaces=run.folder.replaces)
     run_of_award = replace(run, folder=folder, is_named=False, page=Page())
-    if not folder.has(_UNPRICED) or folder.read(_UNPRICED) != audit:
-        files.remove(folder.where)
-    folder.where.mkdir(parents=True, exist_ok=True)
+    with files.map_errors(str(folder.where)):
+        folder.where.mkdir(parents=True, exist_ok=True)
     with folder.lock(alone=True), folder.scratch():
+        if folder.has(_UNPRICED) and folder.read(_UNPRICED) != audit:
+            folder.clear()
         if not folder.has(_UNPRICED):
             take_audit(run_of_award, audit)
             folder.leave(_UNPRICED, audit)
@@ -131,6 +132,7 @@ def take_audit(run: Run, audit: bytes) -> None:
     judge(run.means.program, "verify", audit)
     run.folder.take_input(audits.join_parts(part for part in parts if part.kind in accepted.KINDS))
     run.flow.compiler.compile()
+    run.contents.take_award(next(part.text for part in parts if part.kind == "solution"))
     _leave_solutions(run.folder, parts)
     certificates = [part.text for part in parts if part.kind == "certificate"]
     for group, text in enumerate(certificates, 1):

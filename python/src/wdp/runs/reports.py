@@ -1,27 +1,27 @@
 """The step that has the program judge what was found, and makes the report, the audit and the page.
 """
 import json
+import os
 from contextlib import suppress
 from dataclasses import dataclass
 
 from wdp import files
-from wdp.folder import INPUT, Folder
+from wdp.folder import INPUT, RESULTS, Folder
 from wdp.publish.figures import Figures
 from wdp.publish.judging import AuditSource, Source, Sources, find_contradiction, judge
 from wdp.publish.making import Judged, judge_sources
 from wdp.publish.names import LONGEST, TITLE, PageOptions, is_line
 from wdp.publish.sentences import describe_awards_of_run, describe_proof_of_prices
 from wdp.publish.tables import DisplayTable, make_prices_table, make_ties_table
-from wdp.runs.contents import TIES, Contents
+from wdp.runs.contents import Contents
 from wdp.runs.means import Means
 from wdp.texts.answers import MOST_TIES
-from wdp.texts.refusals import NotSolved
+from wdp.texts.refusals import NotSolved, Refused
 
 REPORT = "report.txt"
 AUDIT = "audit.txt"
 UNCERTIFIED = "report.uncertified.txt"
 _PAGE = "page.json"
-_RESULTS = "results"
 _NAMES = "names.csv"
 KEPT = (_PAGE, _NAMES)  # the files in which a folder keeps what the office says of its page
 _MOST_OF_PAGE = 100_000  # bytes of page.json
@@ -41,25 +41,36 @@ class Page:
         """Keeps title and currency in a folder, and takes from it what nothing is said of; the page
         with both.
         """
-        path = str(folder.path(_PAGE))
-        kept: object = None
-        with suppress(OSError, ValueError, RecursionError):
-            kept = json.loads(files.read(path, _MOST_OF_PAGE, regular=True))
-        fields = kept if isinstance(kept, dict) else {}
+        kept = _read_page(folder)
         page = Page(
-            title=self.title or _choose_line(fields, "title"),
-            currency=self.currency or _choose_line(fields, "currency"),
+            title=self.title or kept.title,
+            currency=self.currency or kept.currency,
         )
-        if vars(page) != kept:
-            files.write_all({path: (json.dumps(vars(page)) + "\n").encode()})
+        if page != kept or not folder.has(_PAGE):
+            folder.forget(_PAGE)
+            folder.leave(_PAGE, (json.dumps(vars(page)) + "\n").encode())
         return page
 
 
-def _choose_line(fields: dict[str, object], name: str) -> str | None:
-    """What was kept by this name, if it is a line for the page."""
-    text = fields.get(name)
-    longest = LONGEST[name]
-    return text if isinstance(text, str) and is_line(text, longest) else None
+def _read_page(folder: Folder) -> Page:
+    """What a folder keeps of the page, if it does; Refused if that is no page."""
+    path = folder.path(_PAGE)
+    if not os.path.lexists(path):
+        return Page()
+    if folder.has(_PAGE):
+        text = folder.read(_PAGE)
+    else:
+        text = files.read(str(path), _MOST_OF_PAGE, regular=True)
+    with suppress(ValueError, RecursionError, TypeError):
+        page = Page(**json.loads(text))
+        if all(_is_line_or_none(name, value) for name, value in vars(page).items()):
+            return page
+    raise Refused(f"{path} is no title and currency as auction keeps them: delete it")
+
+
+def _is_line_or_none(name: str, text: object) -> bool:
+    """Whether this is a line for the page, or nothing."""
+    return text is None or is_line(text, LONGEST[name])
 
 
 def print_report(program: str, *, data: bytes, solutions: bytes, is_certified: bool) -> bytes:
@@ -121,7 +132,8 @@ class Publisher:
         if all(folder.has(name) and folder.read(name) == text for name, text in texts.items()):
             return
         for name in (REPORT, UNCERTIFIED, AUDIT):
-            folder.path(name).unlink(missing_ok=True)
+            if folder.has(name):
+                folder.forget(name)
         for name, text in texts.items():
             folder.leave(name, text)
 
@@ -136,7 +148,7 @@ class Publisher:
         )
         results = judged.make_results(options)
         if self.writes_results:
-            results.write_files(str(self.folder.path(_RESULTS)))
+            self.folder.leave_folder(RESULTS, results.make_files())
         self._tell_prices(results.figures)
         self._tell_awards(results.figures)
 
@@ -153,13 +165,13 @@ class Publisher:
 
     def _tell_awards(self, figures: Figures) -> None:
         """Says who else can win with the total of group 1, as far as that is known."""
-        if figures.proof == "none":
+        known = figures.known_awards
+        if not known.are_all and not known.is_tie:
             return
         reporter = self.means.reporter
         table = make_ties_table(figures)
         if self.contents.goals.finds_ties and table.rows:
             self._show(table)
-        reporter.say(describe_awards_of_run(figures))
-        if figures.proof == "some" and self.folder.has(TIES):
-            limit = f"{MOST_TIES} beside the first"
-            reporter.say(f"the search for ties ended at the limit of an audit, {limit}")
+        reporter.say(describe_awards_of_run(known))
+        if not known.are_all and known.count > MOST_TIES:
+            reporter.say(f"an audit lists no more awards: {MOST_TIES} beside the first")

@@ -56,6 +56,8 @@ class Run:
         if not self.goals.is_certified and self.folder.has(REPORT):
             path = self.folder.path(REPORT)
             raise Refused(f"{path} is certified; --no-certify needs another folder")
+        if missing := self.folder.check():
+            self.means.reporter.say(messages.format_made_again(missing))
         page = self.page.keep(self.folder) if self.is_named else self.page
         publisher = Publisher(
             self.folder,

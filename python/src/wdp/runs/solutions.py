@@ -9,13 +9,22 @@ from typing import TYPE_CHECKING
 from wdp import certify, groups, solve, steps
 from wdp.certify.limits import LimitReached
 from wdp.office.faults import format_count
-from wdp.runs.contents import FIRST_GROUP, ROWS, TIES, Contents, find_shown, name_file
+from wdp.runs.contents import (
+    FIRST_GROUP,
+    ROWS,
+    TIES,
+    Contents,
+    find_shown,
+    name_file,
+    name_unfinished,
+)
 from wdp.runs.means import Means
 from wdp.texts.refusals import NotSolved, Refused
 
 if TYPE_CHECKING:
     from wdp.certify.problem import Problem
 
+_OTHER_AWARD = "group 1 has another award than before: ties and prices are found anew"
 GIVEN_UP = 4  # the status of a step whose search ended at its limit
 
 
@@ -75,6 +84,8 @@ class Settler:
             settled = self._take_over(group) or self._certify(group)
             if group == FIRST_GROUP:
                 store.leave(ROWS, settled.rows.encode("ascii"))
+                if self.contents.take_award(settled.solution):
+                    self.means.reporter.say(_OTHER_AWARD)
             self.contents.leave_group(
                 group, solution=settled.solution, certificate=settled.certificate
             )
@@ -178,8 +189,7 @@ class Settler:
                 return None
 
         store = self.contents.store
-        best = _name_best(group)
-        tree = _name_tree(group)
+        best, tree = name_unfinished(group)
         if not store.has(best) or not store.has(tree):
             return settle(problem, ask, seconds=self.means.seconds, at_once=self.means.at_once)
         with self.means.at_once():
@@ -191,8 +201,9 @@ class Settler:
     def _leave_unfinished(self, group: int, reached: LimitReached) -> None:
         """Leaves what a search found and showed until its limit."""
         # (the tree shows as much of a better solution, but of a worse one it may show too little)
-        self.contents.store.leave(_name_best(group), reached.solution)
-        self.contents.store.leave(_name_tree(group), reached.tree.encode("ascii"))
+        best, tree = name_unfinished(group)
+        self.contents.store.leave(best, reached.solution)
+        self.contents.store.leave(tree, reached.tree.encode("ascii"))
 
     def _tell_better(self, group: int, problem: Problem, settled: certify.Optimum) -> None:
         """Says if a solver that had the whole program gave an answer that isn't the best one."""
@@ -228,13 +239,3 @@ class Settler:
             limit = f"the search for ties ended at its limit of {self.means.format_limit()}"
             raise NotSolved(f"{known} found; {limit}", GIVEN_UP) from None
         contents.leave_ties(tied.points, tied.unique)
-
-
-def _name_best(group: int) -> str:
-    """The file with the best solution of a search that ended at its limit."""
-    return f"unfinished/{group}.best.txt"
-
-
-def _name_tree(group: int) -> str:
-    """The file with what such a search has shown."""
-    return f"unfinished/{group}.txt"

@@ -17,6 +17,9 @@ class Store(Protocol):
     def leave(self, name: str, data: bytes) -> None:
         """Keeps what a step leaves."""
 
+    def forget(self, name: str) -> None:
+        """Takes away what a step left, if it did."""
+
     def path(self, name: str) -> Path:
         """What messages call this."""
 
@@ -44,6 +47,10 @@ class MemoryStore:
     def leave(self, name: str, data: bytes) -> None:
         """Keeps what a step leaves."""
         self.texts[name] = data
+
+    def forget(self, name: str) -> None:
+        """Takes away what a step left, if it did."""
+        self.texts.pop(name, None)
 
     def path(self, name: str) -> Path:
         """What messages call this."""
