@@ -115,6 +115,11 @@ class Folder:
         for name in names:
             self.forget(name)
 
+    def forget_changed(self, folder: str) -> None:
+        """Takes away what isn't as it was left in a folder; Refused if that isn't replaced."""
+        for name in self._refuse_changed(self.list_left(folder)):
+            self.forget(name)
+
     def list_left(self, folder: str | None = None) -> list[str]:
         """The names of all that was left, whether it is there or not, or of what is in a folder."""
         sums = self.path("sums")

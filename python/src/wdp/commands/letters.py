@@ -53,6 +53,12 @@ def add_arguments(parser: argparse.ArgumentParser) -> None:
         help="write about this award of those that tie, since it was drawn",
     )
     add_list_is_complete(parser)
+    parser.add_argument(
+        "--with-audit",
+        action="store_true",
+        help="the bidders get the audit, which has every bid, too: the letters have the commands "
+        "that check it",
+    )
     add_replace(parser)
     parser.add_argument("--title", type=make_line_type("title"), help="the letters' heading")
     parser.add_argument(
@@ -69,6 +75,8 @@ def run(options: argparse.Namespace) -> None:
         raise WrongArgument("--input goes with --receipts")
     if options.drawn and options.receipts:
         raise WrongArgument("--drawn goes with letters about an award, and not with --receipts")
+    if options.with_audit and options.receipts:
+        raise WrongArgument("--with-audit goes with letters about an award")
     if options.is_complete and not options.drawn:
         raise WrongArgument("--list-is-complete goes with --drawn N")
     writer = LetterRun(
@@ -81,4 +89,6 @@ def run(options: argparse.Namespace) -> None:
         data = files.read(options.input, MOST_OF_INPUT) if options.input else None
         writer.write_receipts(data)
     else:
-        writer.write_letters(options.drawn, is_complete=options.is_complete)
+        writer.write_letters(
+            options.drawn, is_complete=options.is_complete, with_audit=options.with_audit
+        )

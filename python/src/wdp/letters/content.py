@@ -17,10 +17,15 @@ _ABOUT_PRICES = (
     "winners that by exact prices pay just what they cost together, and says reserve if your exact "
     "price is the reserve."
 )
-_ABOUT_COMMANDS = (
-    "These commands print your part of what is proved, in the folder of the award. They need the "
-    "program wdp, and the audit, which has every bid: ask the office whether you may see it."
+_ABOUT_AUDIT = (
+    "The office has an audit, of which the program wdp prints your part of what is proved. It has "
+    "every bid: ask the office whether you may see it."
 )
+_ABOUT_COMMANDS = (
+    "The commands that follow print your part of what is proved. They need the program wdp, and "
+    "the audit, audit.txt, which the office gives you."
+)
+_ABOUT_LOST_AUDITS = "The office has an audit for each of these bids, which has every bid."
 
 
 @dataclass(frozen=True)
@@ -86,13 +91,19 @@ class Naming:
 
 @dataclass(frozen=True)
 class CountedForm:
-    """The form of a bidder that counts: its bids, and the line that `wdp forms` prints of it, whose
-    last field is its SHA-256, or `-` if there is no form.
+    """The form of a bidder that counts: its bids, the line that `wdp forms` prints of it, whose
+    last field is its SHA-256, or `-` if there is no form, and its bytes in the input.
     """
 
     bidder: str
     bids: Sequence[Bid]
     line: str
+    text: bytes | None = None
+
+    @property
+    def file_name(self) -> str:
+        """The file with the form's bytes that comes with a letter."""
+        return f"{self.bidder}.csv"
 
     @property
     def digest(self) -> str | None:
@@ -104,22 +115,16 @@ class CountedForm:
 def make_receipt(form: CountedForm, rules: AcceptedRules, naming: Naming) -> Letter:
     """The receipt of a form, which its bidder confirms before the award."""
     confirm = "Please confirm that this is your form, and that no bid is missing or wrong."
-    ask = "wdp forms prints the same of the auction's input, which has every form."
-    checks = [Check(f"wdp forms input.txt | grep '^%form {form.bidder} '", form.line)]
-    about = _describe_digest(form)
+    if form.digest is None:
+        confirm = "Please confirm that you have sent no form."
+    sections = [
+        Section("Receipt of your form", sentences=[confirm]),
+        _make_form_section("The form that counts", form, rules, naming=naming),
+    ]
     if form.digest is not None:
-        file = f"{form.bidder}.csv"
-        about.append(f"The file {file} beside this receipt is the form as it counts.")
-        checks.insert(0, Check(f"sha256sum {file}", f"{form.digest}  {file}"))
-    return Letter(
-        title=naming.title,
-        name=naming.format_bidder(form.bidder),
-        sections=[
-            Section("Receipt of your form", sentences=[confirm]),
-            _make_form_section("The form that counts", form, rules, naming=naming),
-            Section("How to check it", sentences=[*about, ask], checks=checks),
-        ],
-    )
+        about = _describe_digest(form)
+        sections.append(Section("How to check it", sentences=about, checks=_list_checks(form)))
+    return Letter(naming.title, naming.format_bidder(form.bidder), sections)
 
 
 def make_letter(
@@ -132,7 +137,7 @@ def make_letter(
     checks: Sequence[Check],
 ) -> Letter:
     """The letter to a bidder after the award. `lost` are its lost bids of which it is known what
-    they lacked.
+    they lacked, and `checks` commands of the audit, if the bidder gets that.
     """
     bidder = next(each for each in figures.bidders if each.name == form.bidder)
     sections = [
@@ -143,8 +148,9 @@ def make_letter(
         count = len(form.bids) - bidder.is_winner
         known = figures.known_awards
         sections.append(_make_lost_section(lost, rules, naming, count=count, known=known))
-    about = [*_describe_digest(form), _ABOUT_COMMANDS]
-    sections.append(Section("How to check it", sentences=about, checks=checks))
+    about = [*_describe_digest(form), _ABOUT_COMMANDS if checks else _ABOUT_AUDIT]
+    all_checks = [*_list_checks(form), *checks]
+    sections.append(Section("How to check it", sentences=about, checks=all_checks))
     return Letter(naming.title, naming.format_bidder(form.bidder), sections)
 
 
@@ -153,9 +159,17 @@ def _describe_digest(form: CountedForm) -> list[str]:
     if form.digest is None:
         return []
     return [
-        "The SHA-256 is that of the form as it counts. sha256sum prints the same of your own file, "
-        "unless something in it had to be written in another way."
+        f"The SHA-256 is that of the form as it counts, which comes with this letter as "
+        f"{form.file_name}. sha256sum prints the same of your own file, unless something in it had "
+        "to be written in another way."
     ]
+
+
+def _list_checks(form: CountedForm) -> list[Check]:
+    """The commands that a bidder can run with what comes with the letter."""
+    if form.digest is None:
+        return []
+    return [Check(f"sha256sum {form.file_name}", f"{form.digest}  {form.file_name}")]
 
 
 def _make_form_section(
@@ -239,6 +253,8 @@ def _make_lost_section(
     ]
     if len(lost) < count:
         sentences.append(f"It was asked for {len(lost):,} of {format_count(count, 'lost bid')}.")
+    if any(bid.shown is not None for bid in lost):
+        sentences.append(_ABOUT_LOST_AUDITS)
     headings = [naming.add_unit(heading) for heading in ("Amount", "Needed", "Lacked")]
     rows: list[Sequence[CellValue]] = [["Bid", *headings, "Outcome"]]
     for bid in lost:

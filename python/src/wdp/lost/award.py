@@ -2,18 +2,15 @@
 from __future__ import annotations
 
 import re
-from collections.abc import Iterable
 from dataclasses import dataclass
 from functools import cached_property
 
 from wdp import certify
 from wdp.certify.problem import Problem
 from wdp.folder import INPUT
-from wdp.lost.bids import BidKey
+from wdp.lost.bids import BidKey, list_reasons
 from wdp.lost.inputs import keep_first_group
-from wdp.lost.lowering import fits_alone
 from wdp.office.faults import suggest_name
-from wdp.office.findings import LeftOutBid
 from wdp.office.explaining import explain
 from wdp.runs.contents import FIRST_GROUP, Contents, Goals, name_file
 from wdp.runs.means import Means
@@ -61,7 +58,7 @@ class ProvedAward:
             problem=problem,
             ones=frozenset(problem.read_ones(solution)),
             certificate=certificate,
-            reasons=_list_reasons(explain(means.program, alone, with_bids=True).bids),
+            reasons=list_reasons(explain(means.program, alone, with_bids=True).bids),
         )
 
     @cached_property
@@ -113,7 +110,7 @@ class ProvedAward:
 
     def fits(self, key: BidKey) -> bool:
         """Whether there are as many lots as a bid asks for, and room for them in each pool."""
-        return fits_alone(self.auction.rules, self.get_bid(key))
+        return self.auction.rules.fits(self.get_bid(key).lots)
 
     def compute_value(self, bid: Bid) -> int:
         """What the lots of a bid are worth unsold."""
@@ -136,8 +133,3 @@ def compile_first(data: bytes, means: Means) -> bytes:
     contents = Contents(MemoryStore({INPUT: data}), Goals())
     Compiler(contents, means).compile()
     return contents.store.read(name_file("program", FIRST_GROUP))
-
-
-def _list_reasons(left_out: Iterable[LeftOutBid]) -> dict[BidKey, str]:
-    """Why bids are in no program, of those of the forms that count."""
-    return {BidKey(each.bidder, each.bid): each.words for each in left_out if each.bid is not None}

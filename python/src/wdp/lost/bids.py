@@ -1,10 +1,11 @@
 """The bids that an award doesn't have, and what each of them lacked."""
-from collections.abc import Mapping, Sequence
+from collections.abc import Iterable, Mapping, Sequence
 from dataclasses import dataclass, field
 from enum import Enum
 from typing import NamedTuple
 
 from wdp.frames import Columns, Tabular, make_columns
+from wdp.office.findings import LeftOutBid
 
 MOST_OF_AMOUNT = 10**12  # pounds, the greatest amount that an input takes
 
@@ -14,6 +15,11 @@ class BidKey(NamedTuple):
 
     bidder: str
     number: int
+
+
+def list_reasons(left_out: Iterable[LeftOutBid]) -> dict[BidKey, str]:
+    """Why bids are in no program, of those of the forms that count."""
+    return {BidKey(each.bidder, each.bid): each.words for each in left_out if each.bid is not None}
 
 
 class Fate(Enum):

@@ -10,6 +10,8 @@ from wdp.texts.tables import LINE_END, decode, encode
 # the first field of a record, between quotes or without
 _FIRST_FIELD = re.compile(r'"(?:[^"]|"")*"?[^\r\n,]*|[^\r\n,]*')
 
+_AMOUNT = re.compile("[0-9]{1,18}")
+
 
 def keep_first_group(data: bytes) -> bytes:
     """An input whose groups are the empty one alone; the rest has its bytes."""
@@ -30,6 +32,15 @@ def change_amount(data: bytes, key: BidKey, amount: int) -> bytes:
     changed = parts[forms[-1]]
     parts[forms[-1]] = changed._replace(text=_change_record(changed, key, amount))
     return join_parts(parts)
+
+
+def read_amount(data: bytes, key: BidKey) -> int:
+    """The amount of a bid of an input or audit; Refused if there is none."""
+    forms = [part for part in parse_parts(data) if _is_form_of(part, key.bidder)]
+    records = list(forms[-1].rows()) if forms else []
+    if 1 <= key.number < len(records) and _AMOUNT.fullmatch(records[key.number].values[0]):
+        return int(records[key.number].values[0])
+    raise Refused(f"there is no bid {key.number} of {key.bidder}")
 
 
 def _is_form_of(part: Part, bidder: str) -> bool:

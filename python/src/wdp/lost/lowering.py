@@ -43,14 +43,6 @@ def measure_taken(rules: AcceptedRules, bid: Bid) -> dict[str, int]:
     return taken
 
 
-def fits_alone(rules: AcceptedRules, bid: Bid) -> bool:
-    """Whether there is as much as a bid asks for, if nobody else wins."""
-    pairs = zip(bid.lots, rules.categories, strict=True)
-    if any(count > category.supply for count, category in pairs):
-        return False
-    return all(rules.load(pool, bid.lots) <= pool.cap for pool in rules.pools)
-
-
 def lower(problem: Problem, bidder: int, taken: Mapping[str, int]) -> Lowered:
     """The problem of all but this bidder, by its number in the rules, in which rows have as much
     less as is taken of them.

@@ -8,7 +8,6 @@ from wdp.lost.bids import MOST_OF_AMOUNT, Fate, LostBid
 from wdp.lost.inputs import keep_first_group
 from wdp.office.faults import CellValue, align_rows, format_lines
 from wdp.texts.parts import parse_parts
-from wdp.texts.refusals import Refused
 from wdp.texts.tables import compute_digest
 
 # why a bid is in no program, up to the name of a category
@@ -17,23 +16,9 @@ _FIELDS = ("bidder", "bid", "amount", "lots", "needed", "reason", "shown")
 
 
 def format_record(bid: LostBid) -> bytes:
-    """What is kept of a lost bid."""
+    """What is kept of a lost bid, for other programs: this package reads it from the audits."""
     fields = {name: getattr(bid, name) for name in _FIELDS}
     return (json.dumps({**fields, "fate": bid.fate.name}) + "\n").encode()
-
-
-def parse_record(text: bytes, name: str) -> LostBid:
-    """A lost bid of what was kept, without its audits; Refused, with the file's name, if it isn't
-    that.
-    """
-    try:
-        fields = json.loads(text)
-        values = {field: fields[field] for field in _FIELDS}
-        return LostBid(**values, fate=Fate[fields["fate"]])
-    except (KeyError, RecursionError, TypeError, ValueError):
-        raise Refused(
-            f"{name} isn't what was left there; delete it to have it made again"
-        ) from None
 
 
 def format_mark(data: bytes, audit: bytes) -> bytes:
@@ -51,7 +36,7 @@ def describe_fate(bid: LostBid, names: Mapping[str, str], known: KnownAwards) ->
     """What would have become of a bid, in words, and why it is in no program if it isn't, by what
     the office calls categories and what is known of the awards.
     """
-    fate = known.describe_own_tie() if bid.fate is Fate.TIED else bid.fate.value
+    fate: str = known.describe_own_tie() if bid.fate is Fate.TIED else bid.fate.value
     if bid.fate is Fate.BEYOND:
         fate += f" of {MOST_OF_AMOUNT:,}"
     if bid.reason is None:

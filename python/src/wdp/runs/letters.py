@@ -1,15 +1,17 @@
 """The letters of an auction's folder: to each bidder about the award, or before it a receipt of the
 form that counts.
 """
+import os
 from collections.abc import Mapping, Sequence
+from concurrent.futures import ThreadPoolExecutor
 from dataclasses import dataclass
 from functools import partial
-from types import MappingProxyType
 
 from wdp.folder import INPUT, LETTERS, RECEIPTS, Folder
 from wdp.letters.content import Check, CountedForm, Letter, Naming, make_letter, make_receipt
 from wdp.letters.rendering import format_page, format_text
 from wdp.lost.bids import BidKey, LostBid
+from wdp.lost.judging import LostBidJudge
 from wdp.lost.records import format_mark
 from wdp.office.faults import format_count
 from wdp.office.explaining import explain
@@ -19,12 +21,13 @@ from wdp.publish.judging import AuditSource, Source, Sources, judge
 from wdp.publish.making import make_results
 from wdp.publish.names import PageOptions
 from wdp.reporter import Reporter
-from wdp.runs.lost import is_of_award, name_audit, name_record, read_names_of_folder, read_record
+from wdp.results import Report
+from wdp.runs.lost import KeptBids, is_of_award, read_names_of_folder
 from wdp.runs.places import AWARDS
 from wdp.runs.reports import AUDIT, REPORT, Page
 from wdp.texts import accepted
 from wdp.texts.accepted import Accepted
-from wdp.texts.parts import parse_parts
+from wdp.texts.forms import list_forms
 from wdp.texts.refusals import Refused
 from wdp.texts.tables import compute_digest
 
@@ -34,30 +37,31 @@ _MOST_OF_FORMS = 1_000_000  # bytes of what `wdp forms` prints, a line for each 
 
 @dataclass(frozen=True)
 class _PlacedAward:
-    """The award that letters are about: its folder, the path of that in the auction's folder, which
-    is empty or ends with `/`, and the audit.
-    """
+    """The award that letters are about: its folder, and the audit."""
 
     folder: Folder
-    path: str
     audit: bytes
 
-    def list_lost(self, form: CountedForm, mark: bytes) -> list[LostBid]:
-        """The lost bids of a form of which it is known what they lacked in this award."""
-        if not is_of_award(self.folder, mark):
+    def read_lost(self, program: str, data: bytes, report: Report) -> list[LostBid]:
+        """The lost bids of an input of which it is known what they lacked in this award."""
+        if not is_of_award(self.folder, format_mark(data, self.audit)):
             return []
-        keys = [BidKey(form.bidder, number) for number in range(1, len(form.bids) + 1)]
-        known = [key for key in keys if self.folder.has(name_record(key))]
-        return [read_record(self.folder, key) for key in known]
+        kept = KeptBids(self.folder, LostBidJudge.read(program, data, report))
+        keys = [
+            BidKey(bidder, number)
+            for bidder, bids in kept.judge.auction.bids.items()
+            for number in range(1, len(bids) + 1)
+        ]
+        with ThreadPoolExecutor(len(os.sched_getaffinity(0))) as pool:
+            return list(pool.map(kept.read, filter(kept.has, keys)))
 
     def list_checks(self, form: CountedForm, figures: Figures, lines: Sequence[str]) -> list[Check]:
         """The commands that print a bidder's part of the audit, of which `wdp verify` prints these
         lines.
         """
-        path = f"{self.path}{AUDIT}"
         checks = [
-            Check(f"sha256sum {path}", f"{compute_digest(self.audit)}  {path}"),
-            Check(f"wdp forms {path} | grep '^%form {form.bidder} '", form.line),
+            Check(f"sha256sum {AUDIT}", f"{compute_digest(self.audit)}  {AUDIT}"),
+            Check(f"wdp forms {AUDIT} | grep '^%form {form.bidder} '", form.line),
         ]
         names = [winner.name for winner in figures.winners]
         if form.bidder in names:
@@ -65,18 +69,8 @@ class _PlacedAward:
             if figures.prices is not None:
                 places.append(lines.index("prices") + places[0])
             for place in places:
-                command = f"wdp verify {path} | sed -n {place + 1}p"
+                command = f"wdp verify {AUDIT} | sed -n {place + 1}p"
                 checks.append(Check(command, lines[place]))
-        return checks
-
-    def list_checks_of_lost(self, lost: Sequence[LostBid]) -> list[Check]:
-        """The commands that print of audits of lost bids that these tie or win."""
-        checks = []
-        for bid in lost:
-            if bid.needed is not None and bid.shown is not None:
-                path = f"{self.path}{name_audit(BidKey(bid.bidder, bid.bid))}"
-                line = f"{bid.bidder} {bid.bid} {bid.shown}"
-                checks.append(Check(f"wdp verify {path} | grep '^{line}$'", line))
         return checks
 
 
@@ -103,15 +97,16 @@ class LetterRun:
             self._check_input(text)
             auction = accepted.read(text, str(self.folder.path(INPUT)))
             naming = self._read_naming(auction, _TITLES[RECEIPTS])
-            letters = {
-                form.bidder: make_receipt(form, auction.rules, naming)
-                for form in self._list_forms(text, auction)
-            }
-            self._write(RECEIPTS, letters, _list_parts(text))
+            forms = self._list_forms(text, auction)
+            letters = {form.bidder: make_receipt(form, auction.rules, naming) for form in forms}
+            self._write(RECEIPTS, letters, forms)
 
-    def write_letters(self, drawn: int | None = None, *, is_complete: bool = False) -> None:
+    def write_letters(
+        self, drawn: int | None = None, *, is_complete: bool = False, with_audit: bool = False
+    ) -> None:
         """Writes a letter about the award to each bidder; about another award than the first if
-        that was drawn. The office may know that the list of awards `is_complete`.
+        that was drawn. The office may know that the list of awards `is_complete`. `with_audit` they
+        have the commands for those who have the audit.
         """
         self._check_folder()
         with self.folder.lock(alone=True):
@@ -121,20 +116,18 @@ class LetterRun:
             naming = self._read_naming(auction, _TITLES[LETTERS])
             audit = AuditSource(award.audit, "the audit", drawn=drawn, is_complete=is_complete)
             figures = self._make_figures(data, audit, naming)
-            printed = judge(self.program, "verify", award.audit).printed
-            lines = printed.decode("ascii").splitlines()
-            mark = format_mark(data, award.audit)
+            judgement = judge(self.program, "verify", award.audit)
+            lines = judgement.printed.decode("ascii").splitlines()
+            all_lost = award.read_lost(self.program, data, judgement.report)
             make = partial(make_letter, rules=auction.rules, naming=naming, figures=figures)
             letters = {}
-            has_lost = False
-            for form in self._list_forms(data, auction):
-                lost = award.list_lost(form, mark)
-                has_lost = has_lost or bool(lost)
-                checks = award.list_checks(form, figures, lines)
-                checks += award.list_checks_of_lost(lost)
+            forms = self._list_forms(data, auction)
+            for form in forms:
+                lost = [bid for bid in all_lost if bid.bidder == form.bidder]
+                checks = award.list_checks(form, figures, lines) if with_audit else []
                 letters[form.bidder] = make(form, lost=lost, checks=checks)
-            self._write(LETTERS, letters)
-            if not has_lost:
+            self._write(LETTERS, letters, forms)
+            if not all_lost:
                 hint = f"wdp-office lost {award.folder.where} finds that"
                 self.reporter.say(f"what lost bids lacked isn't in them; {hint}")
 
@@ -162,8 +155,14 @@ class LetterRun:
         limits = Limits(_MOST_OF_FORMS)
         printed = ask(self.program, ["forms"], data, limits=limits).decode("ascii")
         lines = {line.split()[1]: line for line in printed.splitlines()[1:]}
+        texts = list_forms(data)
         return [
-            CountedForm(bidder=name, bids=auction.bids.get(name, ()), line=lines[name])
+            CountedForm(
+                bidder=name,
+                bids=auction.bids.get(name, ()),
+                line=lines[name],
+                text=texts.get(name),
+            )
             for name in auction.rules.bidders
         ]
 
@@ -175,7 +174,7 @@ class LetterRun:
             option = f" --award {drawn}" if path else ""
             hint = f"wdp-office auction {self.folder.where}{option} makes it"
             raise Refused(f"{folder.path(AUDIT)} isn't there; {hint}")
-        return _PlacedAward(folder, path=path, audit=folder.read(AUDIT))
+        return _PlacedAward(folder, folder.read(AUDIT))
 
     def _make_figures(self, data: bytes, audit: AuditSource, naming: Naming) -> Figures:
         """The figures of the award, once the program judged its audit."""
@@ -194,25 +193,20 @@ class LetterRun:
         return make_results(self.program, sources, options).figures
 
     def _write(
-        self,
-        kind: str,
-        letters: Mapping[str, Letter],
-        forms: Mapping[str, bytes] = MappingProxyType({}),
+        self, kind: str, letters: Mapping[str, Letter], forms: Sequence[CountedForm]
     ) -> None:
-        """Writes letters by the names of their bidders, as pages and as texts, and forms beside
-        them.
+        """Writes letters by the names of their bidders, as pages and as texts, and the forms that
+        come with them.
         """
-        texts = {f"{name}.csv": form for name, form in forms.items()}
+        texts = {}
         for name, letter in letters.items():
             texts[f"{name}.html"] = format_page(letter)
             texts[f"{name}.txt"] = format_text(letter)
+        for form in forms:
+            if form.text is not None:
+                texts[form.file_name] = form.text
         self.folder.leave_folder(kind, texts)
         thing = kind.removesuffix("s")
         count = format_count(len(letters), thing)
         self.reporter.say(f"{count} in {self.folder.path(kind)}")
 
-
-def _list_parts(data: bytes) -> dict[str, bytes]:
-    """The bytes of each bidder's form in an input that the program accepted, of the last one."""
-    parts = [part for part in parse_parts(data) if part.kind == "form"]
-    return {accepted.parse_form(part.rows())[0]: part.text for part in parts}

@@ -1,20 +1,26 @@
 """The steps that find what the bids lacked that an award doesn't have, in the award's folder."""
 from __future__ import annotations
 
+import os
 from collections.abc import Collection, Sequence
 from dataclasses import dataclass
 from functools import partial
 from pathlib import Path
 from typing import TYPE_CHECKING
 
-from wdp import files, memory, steps
+from wdp import audits, memory, steps
 from wdp.awards import KnownAwards
 from wdp.folder import INPUT, LOST, Folder
 from wdp.lost.bids import BidKey, LostBid
-from wdp.lost.records import format_bids, format_mark, format_record, parse_record
+from wdp.lost.judging import LostBidJudge, NotShown
+from wdp.lost.records import format_bids, format_mark, format_record
 from wdp.office.faults import format_count
 from wdp.progress import Progress
+from wdp.publish.judging import judge
 from wdp.publish.names import read_names
+from wdp.reporter import run_reporting
+from wdp.results import Report
+from wdp.runs import messages
 from wdp.runs.contents import Contents, Goals
 from wdp.runs.means import Means
 from wdp.runs.places import AWARDS
@@ -45,8 +51,62 @@ def name_audit(key: BidKey, *, is_below: bool = False) -> str:
     return f"{LOST}/{key.bidder}/{key.number}{'.below' if is_below else ''}.txt"
 
 
+def _list_audits(key: BidKey) -> list[str]:
+    """The files of the audits of a lost bid."""
+    return [name_audit(key), name_audit(key, is_below=True)]
+
+
 def _name_step(key: BidKey) -> str:
     return f"bid {key.number} of {key.bidder}"
+
+
+@dataclass(frozen=True)
+class KeptBids:
+    """The lost bids of an award of which a folder keeps what they lacked. None is believed: what is
+    read is what `wdp verify` says of the audit that lies there.
+    """
+
+    folder: Folder
+    judge: LostBidJudge
+
+    def has(self, key: BidKey) -> bool:
+        """Whether something is kept of a bid that may be shown: if lots are enough for it, it has
+        an audit.
+        """
+        if not self.folder.has(name_record(key)):
+            return False
+        lots = self.judge.auction.bids[key.bidder][key.number - 1].lots
+        audit = self.folder.sum_path(name_audit(key))
+        return os.path.lexists(audit) or not self.judge.auction.rules.fits(lots)
+
+    def list_missing(self, key: BidKey) -> list[str]:
+        """The audits of a bid that were left, and aren't there any more."""
+        names = [name for name in _list_audits(key) if not self.folder.has(name)]
+        return [name for name in names if os.path.lexists(self.folder.sum_path(name))]
+
+    def read(self, key: BidKey) -> LostBid:
+        """What a bid lacked; Refused, with the file's name, if a file isn't as it was left, or if
+        the audit shows something else.
+        """
+        record = self.folder.read(name_record(key))
+        audit, below = map(self._read_audit, _list_audits(key))
+        try:
+            bid = self.judge.judge(key, audit, below)
+            if format_record(bid) != record:
+                raise NotShown("its audit shows something else")
+        except Refused as refused:
+            again = "wdp-office lost with --replace finds it anew"
+            raise NotShown(f"{self.folder.path(name_record(key))}: {refused}; {again}") from None
+        return bid
+
+    def forget(self, key: BidKey) -> None:
+        """Forgets what is kept of a bid."""
+        for name in (name_record(key), *_list_audits(key)):
+            self.folder.forget(name)
+
+    def _read_audit(self, name: str) -> bytes | None:
+        """An audit, if it is there."""
+        return self.folder.read(name) if self.folder.has(name) else None
 
 
 @dataclass(frozen=True)
@@ -69,16 +129,29 @@ class LostRun:
         with folder.lock(alone=True), folder.scratch():
             with steps.hold_signals():
                 import wdp.lost.search  # noqa: F401
+            report = self._judge_audit()
             award = self._read_award()
             keys = award.list_lost(bidder, number)
             self._take_folder()
-            left = [key for key in keys if not folder.has(name_record(key))]
+            kept = KeptBids(folder, LostBidJudge.read(self.means.program, award.data, report))
+            left = self._list_left(kept, keys)
             is_chosen = bidder is not None or number is not None
             self._tell_begin(award, keys, left=left, is_chosen=is_chosen)
             self._find_all(award, left)
+            known = KnownAwards(len(report.awards), are_all=report.has_all_awards)
+            status = 0
             for name in dict.fromkeys(key.bidder for key in keys):
-                self._write_for(name, award)
-            return self._tell_end(keys)
+                write = partial(self._write_for, name, award, kept=kept, known=known)
+                status = max(status, run_reporting(self.means.reporter.say, "", write))
+            return max(status, self._tell_end(keys))
+
+    def _judge_audit(self) -> Report:
+        """What `wdp verify` says of the award; Refused if the audit isn't one of the input."""
+        audit = self.folder.read(AUDIT)
+        path = self.folder.path(AUDIT)
+        if audits.find_input(audit, str(path)) != self.folder.read(INPUT):
+            raise Refused(f"{path} isn't of the input that is there")
+        return judge(self.means.program, "verify", audit, workers=self.means.workers).report
 
     def _read_award(self) -> ProvedAward:
         """The award of the folder."""
@@ -96,11 +169,36 @@ class LostRun:
     def _take_folder(self) -> None:
         """Takes away what was found of another award."""
         mark = format_mark(self.folder.read(INPUT), self.folder.read(AUDIT))
-        if is_of_award(self.folder, mark):
-            return
-        for path in (self.folder.path(LOST), self.folder.path(f"sums/{LOST}")):
-            files.remove(path)
-        self.folder.leave(_AWARD, mark)
+        if self.folder.replaces:
+            self.folder.forget_changed(LOST)
+        if not is_of_award(self.folder, mark):
+            self.folder.clear(LOST)
+            self.folder.leave(_AWARD, mark)
+
+    def _list_left(self, kept: KeptBids, keys: Sequence[BidKey]) -> list[BidKey]:
+        """The bids of which isn't known what they lacked. Refused if a file isn't as it was left,
+        or shows something else, unless that is replaced.
+        """
+        left = []
+        for key in keys:
+            if missing := kept.list_missing(key):
+                self.means.reporter.say(messages.format_made_again(missing))
+            if missing or not kept.has(key) or not self._holds(kept, key):
+                kept.forget(key)
+                left.append(key)
+        return left
+
+    def _holds(self, kept: KeptBids, key: BidKey) -> bool:
+        """Whether what is kept of a bid is shown. If it isn't, that is Refused unless this run
+        replaces it.
+        """
+        try:
+            kept.read(key)
+        except Refused:
+            if not self.folder.replaces:
+                raise
+            return False
+        return True
 
     def _tell_begin(
         self,
@@ -145,12 +243,14 @@ class LostRun:
             self.folder.leave(name_audit(key, is_below=True), found.audit_below)
         self.folder.leave(name_record(key), format_record(found))
 
-    def _write_for(self, name: str, award: ProvedAward) -> None:
+    def _write_for(
+        self, name: str, award: ProvedAward, *, kept: KeptBids, known: KnownAwards
+    ) -> None:
         """Leaves what the bids of a bidder lacked of which that is known, and shows it."""
-        keys = [key for key in award.list_lost(name) if self.folder.has(name_record(key))]
+        keys = [key for key in award.list_lost(name) if kept.has(key)]
         if not keys:
             return
-        bids = [read_record(self.folder, key) for key in keys]
+        bids = [kept.read(key) for key in keys]
         named = _find_named(self.folder)
         page = Page().keep(named)
         text = format_bids(
@@ -158,7 +258,7 @@ class LostRun:
             step=award.auction.rules.step,
             names=read_names_of_folder(named, award.auction.rules),
             currency=page.currency,
-            known=KnownAwards(1, are_all=False),
+            known=known,
         )
         self.folder.leave(f"{LOST}/{name}.txt", text.encode())
         for line in text.splitlines():
@@ -189,12 +289,6 @@ def _find_named(folder: Folder) -> Folder:
 def is_of_award(folder: Folder, mark: bytes) -> bool:
     """Whether what a folder keeps of lost bids is of the award with this mark."""
     return folder.has(_AWARD) and folder.read(_AWARD) == mark
-
-
-def read_record(folder: Folder, key: BidKey) -> LostBid:
-    """What was found of a lost bid, without its audits."""
-    name = name_record(key)
-    return parse_record(folder.read(name), str(folder.path(name)))
 
 
 def read_names_of_folder(folder: Folder, rules: AcceptedRules) -> dict[str, str]:

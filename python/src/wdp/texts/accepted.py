@@ -1,5 +1,5 @@
 """The auction of an input in which the program found no fault; nothing is judged here."""
-from collections.abc import Iterable
+from collections.abc import Iterable, Sequence
 from dataclasses import dataclass, field
 
 from wdp.texts.parts import list_groups, parse_parts
@@ -61,6 +61,13 @@ class AcceptedRules:
         """What so many lots of each category are in a pool."""
         pairs = zip(lots, self.categories, strict=True)
         return sum(count * pool.weights.get(category.name, 0) for count, category in pairs)
+
+    def fits(self, lots: Sequence[int]) -> bool:
+        """Whether there are so many lots of each category, and room for them in each pool."""
+        pairs = zip(lots, self.categories, strict=True)
+        if any(count > category.supply for count, category in pairs):
+            return False
+        return all(self.load(pool, lots) <= pool.cap for pool in self.pools)
 
 
 @dataclass(frozen=True)

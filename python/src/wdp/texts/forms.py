@@ -17,6 +17,12 @@ def list_form_bidders(data: bytes) -> set[str]:
     return {bidder for form in forms if (bidder := read_bidder(form)) is not None}
 
 
+def list_forms(data: bytes) -> dict[str, bytes]:
+    """The last form of each bidder that has one in an input, as its bytes are there."""
+    forms = [part for part in parse_parts(data) if part.kind == "form"]
+    return {bidder: form.text for form in forms if (bidder := read_bidder(form)) is not None}
+
+
 def remove_forms(data: bytes, bidders: Collection[str]) -> bytes:
     """An input without the forms of these bidders, whose records in its rules stay."""
     return _join(part for part in parse_parts(data) if not _is_form_of(part, bidders))
