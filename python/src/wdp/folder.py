@@ -28,6 +28,14 @@ _MOST_NAMED = 4  # files that a message names
 _MOST_OF_FILE = 2 * 1024 * 1024 * 1024  # bytes of a file that a step left
 _MOST_OF_SUM = 10_000  # bytes of a line with a file's SHA-256
 _PATIENCE = 3  # seconds for a run that is just ending
+_FOLDERS = ("programs", "answers", "solutions", "certificates", "unfinished", "ties", "prices")
+# what steps write, of each group and of what searches keep, and once
+_OURS = re.compile(
+    r"(?:programs|answers|solutions|certificates|unfinished|ties|prices)"
+    r"/[0-9]+(?:\.[0-9]+|\.best)?\.(?:mps|txt)"
+    r"|programs/(?:names|added)\.txt"
+    r"|(?:inequalities|ties|prices|award|format|report|report\.uncertified|audit|unpriced)\.txt"
+)
 _SUM = re.compile(rb"[0-9a-f]{64}  (.+)\n")
 
 
@@ -132,11 +140,19 @@ class Folder:
         judge. Refused if some of the rest isn't as it was left; that is forgotten if this folder
         replaces it.
         """
-        names = [name for name in self.list_left() if name.split("/")[0] not in _MAKERS]
-        missing = [name for name in names if not os.path.lexists(self.path(name))]
-        for name in self._refuse_changed(sorted({*names} - {*missing})):
+        names = {name for name in self.list_left() if name.split("/")[0] not in _MAKERS}
+        missing = {name for name in names if not os.path.lexists(self.path(name))}
+        for name in self._refuse_changed(sorted(names - missing | {*self._list_in_the_way()})):
             self.forget(name)
-        return missing
+        return sorted(missing)
+
+    def _list_in_the_way(self) -> Iterator[str]:
+        """The names of files that steps would write, whether they were left or not."""
+        for folder in ("", *_FOLDERS):
+            where = self.path(folder)
+            names = os.listdir(where) if where.is_dir() else []
+            paths = (f"{folder}/{name}".lstrip("/") for name in names)
+            yield from filter(_OURS.fullmatch, paths)
 
     def make_log(self, name: str) -> Path:
         """A new file for what a solver prints, in a folder that is made for it."""

@@ -25,7 +25,7 @@ _ABOUT_COMMANDS = (
     "The commands that follow print your part of what is proved. They need the program wdp, and "
     "the audit, audit.txt, which the office gives you."
 )
-_ABOUT_LOST_AUDITS = "The office has an audit for each of these bids, which has every bid."
+_ABOUT_LOST_AUDITS = "The office has an audit for each needed amount. These audits have every bid."
 
 
 @dataclass(frozen=True)

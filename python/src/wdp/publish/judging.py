@@ -173,7 +173,8 @@ def judge_audit(
         if first != 1:
             listed = judge(program, "verify", audits.put_first(audit.text, 1))
     except Refused as error:
-        raise Refused(f"{audit.name}: wdp verify refuses it: {error.text}") from None
+        text = f"{audit.name}: wdp verify refuses it: {error.text}"
+        raise Refused(text, part=error.part, number=error.number) from None
     _check_audit(sources, audit, judgement=judgement, listed=listed)
     awards = listed.report.awards
     text = audit.text

@@ -151,7 +151,10 @@ class LostRun:
         path = self.folder.path(AUDIT)
         if audits.find_input(audit, str(path)) != self.folder.read(INPUT):
             raise Refused(f"{path} isn't of the input that is there")
-        return judge(self.means.program, "verify", audit, workers=self.means.workers).report
+        try:
+            return judge(self.means.program, "verify", audit, workers=self.means.workers).report
+        except Refused as refused:
+            raise Refused(f"{path}: wdp verify refuses it: {refused.text}") from None
 
     def _read_award(self) -> ProvedAward:
         """The award of the folder."""

@@ -13,7 +13,7 @@ from wdp.publish.making import Judged, judge_sources
 from wdp.publish.names import LONGEST, TITLE, PageOptions, is_line
 from wdp.publish.sentences import describe_awards_of_run, describe_proof_of_prices
 from wdp.publish.tables import DisplayTable, make_prices_table, make_ties_table
-from wdp.runs.contents import Contents
+from wdp.runs.contents import PRICES, TIES, Contents, name_file
 from wdp.runs.means import Means
 from wdp.texts.answers import MOST_TIES
 from wdp.texts.refusals import NotSolved, Refused
@@ -73,6 +73,20 @@ def _is_line_or_none(name: str, text: object) -> bool:
     return text is None or is_line(text, LONGEST[name])
 
 
+def _name_part(refused: Refused) -> str | None:
+    """The file of a folder that the program refuses, if its refusal is about one."""
+    if refused.part in ("solution", "certificate") and refused.number:
+        return name_file(refused.part, refused.number)
+    files_of_parts = {
+        "tie": TIES,
+        "unique": TIES,
+        "prices": PRICES,
+        "cover": PRICES,
+        "rule": PRICES,
+    }
+    return files_of_parts.get(refused.part or "")
+
+
 def print_report(program: str, *, data: bytes, solutions: bytes, is_certified: bool) -> bytes:
     """What the program reports of an input and the parts with its solutions.
 
@@ -108,8 +122,20 @@ class Publisher:
 
     def publish(self) -> None:
         """Leaves the report and the audit, and the page with its tables; NotSolved if the report
-        shows by itself that an answer isn't the best one.
+        shows by itself that an answer isn't the best one, and Refused if the program refuses what
+        is there, with the file's name.
         """
+        try:
+            self._publish()
+        except Refused as refused:
+            name = _name_part(refused)
+            if name is None or isinstance(refused, NotSolved) or not self.folder.has(name):
+                raise
+            path = self.folder.path(name)
+            raise Refused(f"{path}: {refused.text}; delete it to have it made again") from None
+
+    def _publish(self) -> None:
+        """Leaves all, or raises what the program says."""
         is_certified = self.contents.goals.is_certified
         data = self.folder.read(INPUT)
         report = print_report(
@@ -148,9 +174,21 @@ class Publisher:
         )
         results = judged.make_results(options)
         if self.writes_results:
+            self._keep_earlier_results()
             self.folder.leave_folder(RESULTS, results.make_files())
         self._tell_prices(results.figures)
         self._tell_awards(results.figures)
+
+    def _keep_earlier_results(self) -> None:
+        """Keeps results by another name that an earlier version left, which left no sums of them."""
+        path = self.folder.path(RESULTS)
+        kept = self.folder.path(f"{RESULTS}.earlier")
+        has_run = any(map(self.folder.has, (REPORT, UNCERTIFIED)))
+        if not has_run or self.folder.list_left(RESULTS) or not path.is_dir():
+            return
+        if not os.path.lexists(kept):
+            path.rename(kept)
+            self.means.reporter.say(f"{path} is of an earlier version, and is kept as {kept}")
 
     def _show(self, table: DisplayTable) -> None:
         """Shows the lines of a table."""
