@@ -376,19 +376,23 @@ def test_inputs_that_are_refused(auction: AuctionFolder, change: str, why: str) 
     assert why in auction.read_messages(status=1)
 
 
-# what may be in page.json of a folder, of which nothing is taken for a title; and what isn't a
-# run's own
+# what may be in page.json of a folder and is no page
 SPOILT = ["[" * 40_000, *'[] null 5 {"title":"\\ud800"} {"title":["x"],"currency":5}'.split()]
 
 
-def test_what_is_no_page_counts_for_nothing(auction: AuctionFolder) -> None:
-    auction.read_messages("--no-prices")
-    before = (auction.read("page.json"), auction.read("results/results.html"))
+def test_what_is_no_page_is_refused(auction: AuctionFolder) -> None:
+    """Whether a run left a page there or not; --replace takes it for nothing."""
     for text in SPOILT:
         auction.put("page.json", text.encode())
-        os.mkfifo(auction.where / ".running")
-        auction.read_messages("--no-prices")
-        assert (auction.read("page.json"), auction.read("results/results.html")) == before
+        said = auction.read_messages("--no-prices", status=1)
+        assert "page.json is no title and currency as auction keeps them: delete it" in said
+    os.mkfifo(auction.where / ".running")
+    auction.read_messages("--no-prices", "--replace")
+    before = (auction.read("page.json"), auction.read("results/results.html"))
+    auction.put("page.json", SPOILT[0].encode())
+    assert "page.json isn't what was left there" in auction.read_messages("--no-prices", status=1)
+    auction.read_messages("--no-prices", "--replace")
+    assert (auction.read("page.json"), auction.read("results/results.html")) == before
 
 
 class Terminal:

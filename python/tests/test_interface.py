@@ -247,6 +247,12 @@ def test_a_page_replaces_no_other_files(tmp_path: Path, outcome: wdp.Outcome) ->
     pytest.importorskip("jinja2", reason="jinja2 isn't there")
     (tmp_path / "mine.txt").touch()
     assert "it has other files, as mine.txt" in read_refusal(lambda: outcome.write_page(tmp_path))
+    page = tmp_path / "page"
+    outcome.write_page(page)
+    said = read_refusal(lambda: outcome.write_page(page, title="Lots of spectrum"))
+    assert said.startswith(f"{page}/results.html: ")
+    outcome.write_page(page, title="Lots of spectrum", replace=True)
+    assert "Lots of spectrum" in (page / "results.html").read_text()
 
 
 def test_rules_as_a_data_frame() -> None:

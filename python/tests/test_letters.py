@@ -1,6 +1,7 @@
 """Letters to bidders: what they say by hand, that their commands print what they show, and that none
 has a bid of another bidder.
 """
+import hashlib
 import html.parser
 import re
 import shutil
@@ -120,6 +121,7 @@ How to check it
 def name_all(folder: AuctionFolder) -> None:
     folder.put("names.csv", b"Beta,Beta plc\nA,800 MHz\n")
     folder.put("page.json", b'{"title": "Award of two bands", "currency": "GBP"}\n')
+    (folder.where / "sums/page.json.sha256").unlink()
 
 
 def find_lost(folder: AuctionFolder, *words: object) -> None:
@@ -133,7 +135,7 @@ def test_a_letter_by_hand(award: AuctionFolder) -> None:
     path = award.where / "letters"
     assert write_letters(award) == (0, "", f"letters: 3 letters in {path}\n")
     assert read_letter(award, "letters/Beta.txt").startswith(BETA.replace("NOTE", NOTE))
-    ends = ("html", "txt")
+    ends = ("csv", "html", "txt")
     names = {f"{name}.{end}" for name in ("Alpha", "Beta", "Gamma") for end in ends}
     assert list_files(path) == names
 
@@ -149,8 +151,15 @@ def test_the_page_says_what_the_text_does(award: AuctionFolder) -> None:
 
 
 def test_the_commands_print_what_is_shown(award: AuctionFolder, wdp: str) -> None:
+    """A bidder runs them where its letter and the audit are."""
     find_lost(award)
     write_letters(award)
+    for name in ("Alpha", "Beta", "Gamma"):
+        ((command, _),) = COMMAND.findall(read_letter(award, f"letters/{name}.txt"))
+        assert command == f"sha256sum {name}.csv"
+    write_letters(award, "--with-audit")
+    folder = award.where / "letters"
+    shutil.copy(award.where / "audit.txt", folder)
     tools = award.where.parent / "tools"
     tools.mkdir()
     (tools / "wdp").symlink_to(wdp)
@@ -161,14 +170,14 @@ def test_the_commands_print_what_is_shown(award: AuctionFolder, wdp: str) -> Non
         for command, output in commands:
             done = subprocess.run(
                 ["sh", "-c", command],
-                cwd=award.where,
+                cwd=folder,
                 env=make_environment(PATH=f"{tools}:/usr/bin:/bin"),
                 capture_output=True,
             )
             assert done.stdout.decode() == output, command
             assert name in output or command == "sha256sum audit.txt"
-    # (of each the audit, the form, the bid and the price; of Alpha two lost bids)
-    assert counts == {"Alpha": 6, "Beta": 4, "Gamma": 4}
+    # (of each the form, twice, the audit, the bid and the price)
+    assert counts == {"Alpha": 5, "Beta": 5, "Gamma": 5}
 
 
 # the worked example with different primes above a million in place of amounts
@@ -253,7 +262,9 @@ def test_receipts_before_the_award(tmp_path: Path, wdp: str, whole: AuctionFolde
     text = read_letter(folder, "receipts/Beta.txt")
     assert text.startswith("Forms of the auction\nTo Beta\n\nReceipt of your form\n")
     assert "\n  2           45  3 of A\n" in text
-    assert "\n%form Beta 2 46a0dc25887621" in text
+    assert "\n$ sha256sum Beta.csv\n46a0dc25887621" in text
+    digest = hashlib.sha256(folder.read("receipts/Beta.csv")).hexdigest()
+    assert f"\n{digest}  Beta.csv\n" in text
     for word in ("won", "pay", "lost", "(won)"):
         assert word not in text
     folder.read_messages("--ties", "--quiet")
@@ -298,6 +309,11 @@ def test_letters_to_those_who_win_nothing(tmp_path: Path, wdp: str) -> None:
     assert "\n  1       5  1 of A\n" in gamma
     delta = read_letter(folder, "letters/Delta.txt")
     assert "\nThere is no form of yours, and so no bid.\n" in delta
+    assert write_letters(folder, "--receipts").status == 0
+    receipt = read_letter(folder, "receipts/Delta.txt")
+    assert "\nPlease confirm that you have sent no form.\n" in receipt
+    assert "$" not in receipt
+    assert not folder.has("receipts/Delta.csv")
     assert "\n$ wdp forms audit.txt | grep '^%form Delta '\n%form Delta -\n" in delta
 
 
@@ -356,7 +372,9 @@ def test_the_award_that_was_drawn(tmp_path: Path, wdp: str) -> None:
     drawn = "\n2 awards reach the same total. A draw decided between them, and award 2 was drawn.\n"
     assert drawn in text
     assert "You pay nothing." in text
-    assert "\n$ sha256sum awards/2/audit.txt\n" in text
+    write_letters(folder, "--drawn", 2, "--with-audit")
+    digest = hashlib.sha256(folder.read("awards/2/audit.txt")).hexdigest()
+    assert f"{digest}  audit.txt\n" in read_letter(folder, f"letters/{won[0]}.txt")
 
 
 def test_what_lost_bids_lacked_in_the_award_that_was_drawn(tmp_path: Path, wdp: str) -> None:
@@ -369,7 +387,7 @@ def test_what_lost_bids_lacked_in_the_award_that_was_drawn(tmp_path: Path, wdp: 
     assert "what lost bids lacked isn't in them" not in write_letters(folder, "--drawn", 2).err
     text = read_letter(folder, f"letters/{name}.txt")
     assert "  it tied; the draw decided\n" in text
-    assert f"\n$ wdp verify awards/2/lost/{name}/1.txt | grep " in text
+    assert "The office has an audit for each needed amount." in text
 
 
 # options, and why nothing is written

@@ -589,6 +589,7 @@ def test_a_record_that_changed(award: AuctionFolder) -> None:
 def test_the_names_of_the_office(award: AuctionFolder) -> None:
     award.put("names.csv", b"Alpha,Alpha plc\nA,800 MHz\n")
     award.put("page.json", b'{"title": "Two bands", "currency": "GBP"}\n')
+    (award.where / "sums/page.json.sha256").unlink()
     text = find_lost(award, "--bidder", "Alpha").out
     assert text.startswith("Lost bids of Alpha plc (Alpha)\n\nBid  Amount, GBP  Needed, GBP  ")
     assert "  1 of 800 MHz, 1 of B\n" in text

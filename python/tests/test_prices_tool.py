@@ -724,7 +724,7 @@ def test_an_award_that_is_drawn_gets_prices_of_its_own(tied: AuctionFolder, tmp_
     figures: dict[str, Any] = {}
     for audit, has_prices in ((tied.where / "audit.txt", False), (path, True)):
         words = ["--audit", audit, "--drawn", 2, "--output", award.where / "results"]
-        assert run("results", *files, *words).status == 0
+        assert run("results", *files, *words, "--replace").status == 0
         page, figures = read_published(award)
         assert figures["drawn"] == 2
         assert (figures["prices"] is not None) == has_prices

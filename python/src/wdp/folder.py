@@ -18,6 +18,7 @@ from wdp.texts.refusals import Refused
 from wdp.texts.tables import compute_digest
 
 INPUT = "input.txt"
+PAGE = "page.json"  # what the office said of the page
 LOST = "lost"
 LETTERS = "letters"
 RECEIPTS = "receipts"
@@ -223,7 +224,7 @@ class Folder:
         """
         path = self.path(INPUT)
         left = [name for name in self.list_left() if not name.startswith(f"{RECEIPTS}/")]
-        has_others = bool(set(left) - {INPUT})
+        has_others = bool(set(left) - {INPUT, PAGE})
         another = Refused(f"{path} is another input; take another folder")
         if data is None or path.exists():
             current = files.read(str(path), _MOST_OF_FILE, regular=True)

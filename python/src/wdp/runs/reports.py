@@ -6,7 +6,7 @@ from contextlib import suppress
 from dataclasses import dataclass
 
 from wdp import files
-from wdp.folder import INPUT, RESULTS, Folder
+from wdp.folder import INPUT, PAGE, RESULTS, Folder
 from wdp.publish.figures import Figures
 from wdp.publish.judging import AuditSource, Source, Sources, find_contradiction, judge
 from wdp.publish.making import Judged, judge_sources
@@ -21,10 +21,9 @@ from wdp.texts.refusals import NotSolved, Refused
 REPORT = "report.txt"
 AUDIT = "audit.txt"
 UNCERTIFIED = "report.uncertified.txt"
-_PAGE = "page.json"
 _NAMES = "names.csv"
-KEPT = (_PAGE, _NAMES)  # the files in which a folder keeps what the office says of its page
-_MOST_OF_PAGE = 100_000  # bytes of page.json
+KEPT = (PAGE, _NAMES)  # the files in which a folder keeps what the office says of its page
+MOST_OFPAGE_ = 100_000  # bytes of page.json
 _WRONG = 3  # the status if an answer can't be the best one
 
 
@@ -46,25 +45,27 @@ class Page:
             title=self.title or kept.title,
             currency=self.currency or kept.currency,
         )
-        if page != kept or not folder.has(_PAGE):
-            folder.forget(_PAGE)
-            folder.leave(_PAGE, (json.dumps(vars(page)) + "\n").encode())
+        if page != kept or not folder.has(PAGE):
+            folder.forget(PAGE)
+            folder.leave(PAGE, (json.dumps(vars(page)) + "\n").encode())
         return page
 
 
 def _read_page(folder: Folder) -> Page:
     """What a folder keeps of the page, if it does; Refused if that is no page."""
-    path = folder.path(_PAGE)
+    path = folder.path(PAGE)
     if not os.path.lexists(path):
         return Page()
-    if folder.has(_PAGE):
-        text = folder.read(_PAGE)
+    if folder.has(PAGE):
+        text = folder.read(PAGE)
     else:
-        text = files.read(str(path), _MOST_OF_PAGE, regular=True)
+        text = files.read(str(path), MOST_OFPAGE_, regular=True)
     with suppress(ValueError, RecursionError, TypeError):
         page = Page(**json.loads(text))
         if all(_is_line_or_none(name, value) for name, value in vars(page).items()):
             return page
+    if folder.replaces:
+        return Page()
     raise Refused(f"{path} is no title and currency as auction keeps them: delete it")
 
 
