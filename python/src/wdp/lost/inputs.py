@@ -34,13 +34,13 @@ def change_amount(data: bytes, key: BidKey, amount: int) -> bytes:
     return join_parts(parts)
 
 
-def read_amount(data: bytes, key: BidKey) -> int:
-    """The amount of a bid of an input or audit; Refused if there is none."""
+def read_amount(data: bytes, key: BidKey) -> int | None:
+    """The amount of a bid of an input or audit, if it is there."""
     forms = [part for part in parse_parts(data) if _is_form_of(part, key.bidder)]
     records = list(forms[-1].rows()) if forms else []
     if 1 <= key.number < len(records) and _AMOUNT.fullmatch(records[key.number].values[0]):
         return int(records[key.number].values[0])
-    raise Refused(f"there is no bid {key.number} of {key.bidder}")
+    return None
 
 
 def _is_form_of(part: Part, bidder: str) -> bool:

@@ -14,7 +14,7 @@ from wdp.results import Report
 from wdp.texts import accepted
 from wdp.texts.accepted import Accepted
 from wdp.texts.parts import parse_parts
-from wdp.texts.refusals import Refused
+from wdp.texts.refusals import NotFound, Refused, Unclear
 from wdp.texts.tables import compute_digest
 
 _KINDS_OF_PROOFS = {"solution", "certificate", "tie"}
@@ -67,6 +67,8 @@ class LostBidJudge:
         if audit is None:
             raise NotShown("its audit isn't there")
         shown = read_amount(audit, key)
+        if shown is None:
+            raise NotShown("its audit has no such bid")
         lacking = self._find_lacking(key, audit, shown)
         if lacking is None:
             if shown != MOST_OF_AMOUNT // rules.step * rules.step:
@@ -129,6 +131,8 @@ class LostBidJudge:
         if digest not in self._reports:
             try:
                 self._reports[digest] = judge(self.program, "verify", audit).report
+            except (NotFound, Unclear):
+                raise
             except Refused as refused:
                 raise NotShown(f"wdp verify refuses its audit: {refused.text}") from None
         return self._reports[digest]

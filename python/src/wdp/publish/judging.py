@@ -13,7 +13,7 @@ from wdp.texts import accepted
 from wdp.texts.accepted import Accepted
 from wdp.texts.answers import ExpectedAnswer, cut_report, read_report
 from wdp.texts.parts import add_groups, list_groups, parse_parts
-from wdp.texts.refusals import Refused, Unclear
+from wdp.texts.refusals import NotFound, Refused, Unclear
 
 
 @dataclass(frozen=True)
@@ -172,6 +172,8 @@ def judge_audit(
         listed = judgement
         if first != 1:
             listed = judge(program, "verify", audits.put_first(audit.text, 1))
+    except (NotFound, Unclear):
+        raise
     except Refused as error:
         text = f"{audit.name}: wdp verify refuses it: {error.text}"
         raise Refused(text, part=error.part, number=error.number) from None

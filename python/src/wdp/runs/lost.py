@@ -28,7 +28,7 @@ from wdp.runs.processes import Processes
 from wdp.runs.reports import AUDIT, Page
 from wdp.texts.accepted import AcceptedRules
 from wdp.texts.parts import parse_parts
-from wdp.texts.refusals import Refused, WrongArgument
+from wdp.texts.refusals import NotFound, Refused, Unclear, WrongArgument
 
 if TYPE_CHECKING:
     from wdp.lost.award import ProvedAward
@@ -94,9 +94,9 @@ class KeptBids:
             bid = self.judge.judge(key, audit, below)
             if format_record(bid) != record:
                 raise NotShown("its audit shows something else")
-        except Refused as refused:
+        except NotShown as why:
             again = "wdp-office lost with --replace finds it anew"
-            raise NotShown(f"{self.folder.path(name_record(key))}: {refused}; {again}") from None
+            raise NotShown(f"{self.folder.path(name_record(key))}: {why}; {again}") from None
         return bid
 
     def forget(self, key: BidKey) -> None:
@@ -153,6 +153,8 @@ class LostRun:
             raise Refused(f"{path} isn't of the input that is there")
         try:
             return judge(self.means.program, "verify", audit, workers=self.means.workers).report
+        except (NotFound, Unclear):
+            raise
         except Refused as refused:
             raise Refused(f"{path}: wdp verify refuses it: {refused.text}") from None
 
@@ -197,7 +199,7 @@ class LostRun:
         """
         try:
             kept.read(key)
-        except Refused:
+        except NotShown:
             if not self.folder.replaces:
                 raise
             return False
