@@ -87,12 +87,13 @@ def folder(finished: AuctionFolder, tmp_path: Path) -> AuctionFolder:
     return copied
 
 
-def run_in(folder: AuctionFolder, words: str, *more: object) -> CommandResult:
-    """Runs a command in a folder."""
+def run_in(folder: AuctionFolder, words: str, **how: Any) -> CommandResult:
+    """Runs a command in a folder; in this process, where what its steps say isn't seen, unless
+    something is said of another one.
+    """
     command, *options = words.split()
     quiet = ["--quiet"] if command in ("auction", "lost") else []
-    environment = folder.make_environment()
-    return run(command, folder.where, *options, *quiet, *more, env=environment)
+    return run(command, folder.where, *options, *quiet, "--wdp", folder.wdp, **how)
 
 
 def read_files(folder: AuctionFolder) -> dict[str, bytes]:
@@ -138,13 +139,10 @@ def damage(data: bytes) -> Iterator[bytes]:
 
 @pytest.mark.parametrize("name", [*MAKERS, *UNNEEDED, "input.txt"])
 def test_a_file_that_was_cut_or_changed_is_kept_and_named(folder: AuctionFolder, name: str) -> None:
-    """(In this process: it ends before a step is begun.)"""
-    command, *options = MAKERS.get(name, "auction --ties").split()
     for data in damage(folder.read(name)):
         folder.put(name, data)
         before = read_files(folder)
-        seen = run(command, folder.where, *options, "--wdp", folder.wdp)
-        check_stopped(seen, f"{folder.where}/{name}")
+        check_stopped(run_in(folder, MAKERS.get(name, "auction --ties")), f"{folder.where}/{name}")
         assert read_files(folder) == before
 
 
@@ -171,7 +169,7 @@ def test_what_is_replaced(folder: AuctionFolder, name: str) -> None:
     """What nobody needs any more is only taken away."""
     before = read_files(folder)
     folder.put(name, b"mine\n")
-    seen = run_in(folder, MAKERS.get(name, "auction --ties"), "--replace")
+    seen = run_in(folder, f"{MAKERS.get(name, 'auction --ties')} --replace")
     assert seen.status == 0, seen
     if name in UNNEEDED:
         before = {key: text for key, text in before.items() if name not in key}
@@ -207,7 +205,7 @@ def test_a_record_that_says_something_else(folder: AuctionFolder, field: str) ->
     for value in OTHERS[field]:
         leave(folder, name, (json.dumps({**fields, field: value}) + "\n").encode())
         for words in ("letters", "lost"):
-            seen = run(words, folder.where, "--wdp", folder.wdp)
+            seen = run_in(folder, words)
             check_stopped(seen, f"{folder.where}/{name}: its audit shows something else")
     assert run_in(folder, "lost --replace").status == 0
     assert read_files(folder) == before
@@ -226,17 +224,20 @@ def test_an_audit_of_something_else(folder: AuctionFolder, of: str) -> None:
     source, said = AUDITS[of]
     leave(folder, "lost/Alpha/3.txt", folder.read(source))
     for words in ("letters", "lost"):
-        check_stopped(run(words, folder.where, "--wdp", folder.wdp), "lost/Alpha/3.json: ", said)
+        check_stopped(run_in(folder, words), "lost/Alpha/3.json: ", said)
 
 
 def test_an_audit_that_proves_less(folder: AuctionFolder) -> None:
     """Its input has an amount that isn't enough, or its certificate isn't one."""
     audit = folder.read("lost/Alpha/3.txt")
-    for old, new in ((b"\n42,1,1\n", b"\n41,1,1\n"), (b"%certificate\n", b"%certificate\nbound 0\n")):
+    for old, new in (
+        (b"\n42,1,1\n", b"\n41,1,1\n"),
+        (b"%certificate\n", b"%certificate\nbound 0\n"),
+    ):
         assert audit.count(old) == 1
         leave(folder, "lost/Alpha/3.txt", audit.replace(old, new))
         for words in ("letters", "lost"):
-            seen = run(words, folder.where, "--wdp", folder.wdp)
+            seen = run_in(folder, words)
             check_stopped(seen, "lost/Alpha/3.json: wdp verify refuses its audit: ")
 
 
@@ -246,7 +247,7 @@ def test_an_award_that_is_made_again_as_another_one(folder: AuctionFolder) -> No
         (folder.where / name).unlink()
     award = folder.read("ties/1.txt")
     leave(folder, "award.txt", f"{hashlib.sha256(award).hexdigest()}\n".encode())
-    seen = run_in(folder, "auction --ties")
+    seen = run_in(folder, "auction --ties", env=folder.make_environment())
     assert seen.status == 0, seen
     assert "group 1 has another award than before: ties and prices are found anew" in seen.err
 
@@ -306,14 +307,12 @@ letters --receipts | receipts/Beta.txt
 
 
 @pytest.mark.parametrize("words, name", parse_rows(IN_THE_WAY))
-def test_a_file_of_the_office_in_the_way(
-    tmp_path: Path, wdp: str, words: str, name: str
-) -> None:
+def test_a_file_of_the_office_in_the_way(tmp_path: Path, wdp: str, words: str, name: str) -> None:
     folder = AuctionFolder(tmp_path / "auction", wdp, TIED)
     path = folder.where / name
     path.parent.mkdir(exist_ok=True)
     path.write_bytes(b"mine\n")
-    check_stopped(run_in(folder, words), str(path))
+    check_stopped(run_in(folder, words, env=folder.make_environment()), str(path))
     assert path.read_bytes() == b"mine\n"
     seen = run_in(folder, f"{words} --replace")
     assert seen.status == 0, seen
@@ -362,7 +361,8 @@ def test_folders_that_are_named(office: OfficeFolder) -> None:
     out = office.folder / "out"
     blank = office.folder / "blank"
     calls = {
-        parts / "Fox.csv": ["gather", *office.files, "--output", office.folder / "x", "--parts", parts],
+        parts
+        / "Fox.csv": ["gather", *office.files, "--output", office.folder / "x", "--parts", parts],
         out / "groups.csv": ["results", audit, "--output", out],
     }
     for path, words in calls.items():
@@ -381,4 +381,6 @@ def test_folders_that_are_named(office: OfficeFolder) -> None:
 
 def test_a_folder_of_another_format(folder: AuctionFolder) -> None:
     leave(folder, "format.txt", b"3\n")
-    check_stopped(run_in(folder, "auction --ties"), "format.txt is of another version of wdp-office")
+    check_stopped(
+        run_in(folder, "auction --ties"), "format.txt is of another version of wdp-office"
+    )

@@ -209,4 +209,3 @@ class LetterRun:
         thing = kind.removesuffix("s")
         count = format_count(len(letters), thing)
         self.reporter.say(f"{count} in {self.folder.path(kind)}")
-
