@@ -9,6 +9,7 @@ from __future__ import annotations
 import math
 import random
 import re
+from collections.abc import Iterator
 from fractions import Fraction
 
 import pytest
@@ -28,14 +29,6 @@ AUCTIONS, BLOCK = 200, 10  # so many are priced, and so many in one test
 DAMAGES, PRICES = 30, 8  # of each auction
 
 
-@pytest.fixture(autouse=True)
-def no_solver(monkeypatch: pytest.MonkeyPatch) -> None:
-    """A solver that only finds that nobody wins, at once: the search for certificates has to find what is better."""
-    monkeypatch.setattr(
-        solve, "find_point", lambda program, *how, **more: solve.find_empty_solution(program)
-    )
-
-
 class Trial:
     """An audit with prices, and what the program and the judge say of it if its parts of prices are others."""
 
@@ -45,6 +38,7 @@ class Trial:
         asked = package.Auction.from_text(text, program=wdp)
         audit = asked.prices(asked.certify(), "highs").audit
         self.wdp = wdp
+        self.number = number
         self.auction = auction
         self.rest = b"".join(it.head + it.text for it in parse_parts(audit) if it.kind not in KINDS)
         self.parts = {it.kind: it.text for it in parse_parts(audit) if it.kind in KINDS}
@@ -88,6 +82,17 @@ class Trial:
         return True
 
 
+@pytest.fixture(scope="module", params=range(0, AUCTIONS, BLOCK))
+def trials(request: pytest.FixtureRequest, wdp: str) -> Iterator[list[Trial]]:
+    """A block of audits, which all tests take before the next block is made. The solver only finds that nobody wins, at once: the
+    search for certificates has to find what is better."""
+    with pytest.MonkeyPatch.context() as patch:
+        patch.setattr(
+            solve, "find_point", lambda program, *_, **__: solve.find_empty_solution(program)
+        )
+        yield [Trial(wdp, number) for number in range(request.param, request.param + BLOCK)]
+
+
 def numbers_moved(text: bytes) -> list[bytes]:
     """The text with a number one more or one less that isn't a line's place."""
     moved = []
@@ -123,11 +128,9 @@ def prices_moved(text: bytes) -> list[bytes]:
     return moved
 
 
-@pytest.mark.parametrize("first", range(0, AUCTIONS, BLOCK))
-def test_true_and_false_prices(wdp: str, first: int) -> None:
-    for number in range(first, first + BLOCK):
-        trial = Trial(wdp, number)
-        with row(f"auction {number}: {trial.parts}"):
+def test_true_and_false_prices(trials: list[Trial]) -> None:
+    for trial in trials:
+        with row(f"auction {trial.number}: {trial.parts}"):
             assert trial.try_with()
             assert trial.try_with(rule=None)
             rule = trial.parts["rule"]
@@ -170,12 +173,10 @@ def random_prices(draw: random.Random, costs: Costs) -> list[Fraction]:
     return prices
 
 
-@pytest.mark.parametrize("first", range(0, AUCTIONS, BLOCK))
-def test_a_cover_is_accepted_if_and_only_if_each_group_is_covered(wdp: str, first: int) -> None:
-    draw = random.Random(first)
+def test_a_cover_is_accepted_if_and_only_if_each_group_is_covered(trials: list[Trial]) -> None:
+    draw = random.Random(trials[0].number)
     said = set()
-    for number in range(first, first + BLOCK):
-        trial = Trial(wdp, number)
+    for trial in trials:
         costs = trial.costs()
         names = [winner.bidder for winner in trial.report[0].winners]
         for _ in range(PRICES):
@@ -184,23 +185,22 @@ def test_a_cover_is_accepted_if_and_only_if_each_group_is_covered(wdp: str, firs
                 sum(prices[at] for at in group) >= cost for group, cost in costs.costs.items()
             )
             text = "".join(f"{name} {price}\n" for name, price in zip(names, prices)).encode()
-            with row(f"auction {number}: {text!r}"):
+            with row(f"auction {trial.number}: {text!r}"):
                 cover = trial.cover(costs, prices)
                 assert trial.try_with(prices=text, cover=cover, rule=None) == is_covering
             said.add(is_covering)
     assert len(said) == 2
 
 
-@pytest.mark.parametrize("first", range(0, AUCTIONS, BLOCK))
-def test_damaged_parts(wdp: str, first: int) -> None:
+def test_damaged_parts(trials: list[Trial]) -> None:
     """Never a false word; some damages leave a part true."""
-    draw = random.Random(first)
+    draw = random.Random(trials[0].number)
     true = 0
-    for number in range(first, first + BLOCK):
-        trial = Trial(wdp, number)
+    for trial in trials:
         for damage in range(DAMAGES):
             kind = draw.choice(KINDS)
-            text, names = damage_certificate(trial.parts[kind], "prices", f"{number} {damage}")
-            with row(f"auction {number}, {kind} damaged ({'+'.join(names)}): {text!r}"):
+            seed = f"{trial.number} {damage}"
+            text, names = damage_certificate(trial.parts[kind], "prices", seed)
+            with row(f"auction {trial.number}, {kind} damaged ({'+'.join(names)}): {text!r}"):
                 true += trial.try_with(**{kind: text})
     assert 0 < true < BLOCK * DAMAGES
