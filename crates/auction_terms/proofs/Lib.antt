@@ -6,6 +6,7 @@ pub mod ShortNumberFacts
 pub mod FirstFieldFacts
 pub mod FirstFaultFacts
 pub mod AllFaultsFacts
+pub mod FirstOfAllFacts
 pub mod JudgeFacts
 pub mod AcceptedFacts
 pub mod RecordFacts

@@ -3,6 +3,7 @@ pub mod Decimals
 pub mod Tokens
 pub mod FirstFault
 pub mod AllFaults
+pub mod FirstOfAll
 pub mod Judged
 pub mod Causes
 pub mod Accepted

@@ -2,6 +2,7 @@
 
 ghost use Rattle.std.specs.Prelude.{◌≡◌, ◌↔◌, ℕ, List, [], Ok, Some};
 ghost use Rattle.auction_terms.specs.Accepted.{AreOfItems, StaysFaultless};
+ghost use Rattle.auction_terms.specs.FirstOfAll.{FirstIsOfFirstFaulty};
 ghost use Rattle.auction_terms.specs.FaultsOfRules.{RulesFaultsAreOfRecords};
 ghost use Rattle.auction_terms.specs.Described.{DescribeRules, DescribesGroups};
 ghost use Rattle.auction_terms.specs.GroupsText.{group_faults, groups_of, line_faults, name_faults};
@@ -26,6 +27,27 @@ ghost use Rattle.auction_terms.specs.declared.limits.TheConstants.{MOST_SESSIONS
 pub fn faults_of_a_list_are_of_its_items<R, F>()
     ensures { (faults_of : ℕ → List R → R → List F) → StaysFaultless faults_of
         → AreOfItems faults_of }
+{}
+
+/// The first of all faults of a list, whatever its items are checked for, is the first fault of the first item that has one.
+pub fn the_first_fault_is_of_the_first_faulty_item<R, F>()
+    ensures { (faults_of : ℕ → List R → R → List F) → FirstIsOfFirstFaulty faults_of }
+{}
+
+/// The first fault of the records of rules is of the first record that has one.
+pub fn records_of_rules_tell_their_first_fault()
+    ensures { (version : Version) → FirstIsOfFirstFaulty (fault_of_entry version) }
+{}
+
+/// The first fault of the lines of groups is of the first line that has one.
+pub fn lines_of_groups_tell_their_first_fault()
+    ensures { (bidders : List Bidder) → FirstIsOfFirstFaulty (λ place before line.
+        line_faults bidders place line) }
+{}
+
+/// The first fault of the names in a line of groups is of the first name that has one.
+pub fn names_of_a_group_tell_their_first_fault()
+    ensures { (bidders : List Bidder) (line : ℕ) → FirstIsOfFirstFaulty (name_faults bidders line) }
 {}
 
 /// After a header that gives a version, the faults of rules are those of their records, by the accepted ones before them.
