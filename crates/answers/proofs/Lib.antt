@@ -28,6 +28,7 @@ pub mod RunFacts
 mod SizeFacts
 pub mod VerifiedFacts
 pub mod AwardFacts
+mod FormAwardFacts
 pub mod VerifyFacts
 pub mod WrittenOnFacts
 mod WorkedDescribed

@@ -19,5 +19,6 @@ pub mod Outside
 pub mod Runs
 pub mod Sizes
 pub mod Verified
+pub mod FollowsFromForms
 pub mod VerifiedInputs
 pub mod inside

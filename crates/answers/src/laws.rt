@@ -5,6 +5,7 @@ ghost use Rattle.auction_input.specs.Input.{Input};
 ghost use Rattle.auction_input.specs.declared.request.Target.{Target};
 ghost use Rattle.answers.specs.FaithfulAnswers.{CompiledIsFaithful, TextIsFaithful};
 ghost use Rattle.answers.specs.FeasibleAnswers.{MappedIsFeasible, ReportedIsFeasible};
+ghost use Rattle.answers.specs.FollowsFromForms.{AwardFollowsFromForms};
 ghost use Rattle.answers.specs.Verified.{AwardFollows, AwardsFollow, NoOtherIsSo, UniqueIsOnly};
 ghost use Rattle.answers.specs.VerifiedInputs.{VerifiedIsTrue};
 
@@ -61,6 +62,12 @@ pub fn tied_awards_follow_from_the_bids()
 /// solved, certified and priced, and whichever groups are listed.
 pub fn the_award_follows_from_the_bids()
     ensures { AwardFollows }
+{}
+
+/// If `verify` answers to two inputs with the same bytes of rules and last forms, and its answers end with the lines `by the rule` and
+/// `unique`, both have the same winners with the same bids, and each winner pays the same.
+pub fn the_award_follows_from_the_forms()
+    ensures { AwardFollowsFromForms }
 {}
 
 /// What `explain` prints for a command is what the command does of the same input: it refuses it for the first fault that is reported, and

@@ -13,6 +13,7 @@ pub mod FormTextFacts
 pub mod DescribedFacts
 pub mod InputTextFacts
 pub mod LastFormFacts
+pub mod SameFormFacts
 pub mod LimitFacts
 pub mod LotFacts
 pub mod PartFacts

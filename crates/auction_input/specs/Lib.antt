@@ -11,6 +11,7 @@ pub mod FileWords
 pub mod FormTexts
 pub mod Input
 pub mod LastForms
+pub mod SameForms
 pub mod Line
 pub mod Parts
 pub mod ParsedParts

@@ -11,6 +11,7 @@ ghost use Rattle.auction_input.specs.Input.{Input};
 ghost use Rattle.auction_input.specs.LastForms.{FormParts, IsOfAuction, parsed_forms};
 ghost use Rattle.auction_input.specs.ParsedParts.{parsed_parts};
 ghost use Rattle.auction_input.specs.Parts.{Part, part_fault};
+ghost use Rattle.auction_input.specs.SameForms.{SameFormsAreOneSale};
 ghost use Rattle.auction_input.specs.declared.input.TheConstants.{INPUT_LIMIT};
 ghost use Rattle.auction_terms.specs.Terms.{Terms};
 ghost use Rattle.auction_input.specs.declared.refusal.Refusal.{Refusal};
@@ -44,6 +45,12 @@ pub fn last_forms_are_those_of_the_book()
     ensures { (asked : Request) (input : Input) (auction : Auction)
         → parsed_auction asked input ≡ Ok auction
         → (read : FormParts) × (parsed_forms input ≡ Ok read) × IsOfAuction read auction }
+{}
+
+/// Two inputs whose rules have the same bytes, and in which each bidder's last form has the same bytes, describe auctions with the
+/// same rules and the same sale, to whatever commands.
+pub fn same_forms_are_one_sale()
+    ensures { SameFormsAreOneSale }
 {}
 
 /// If `text` takes an input's parts, `forms` refuses it if `text` does, and for the same.

@@ -4,6 +4,7 @@ pub mod SpellingFacts
 mod WorkedValues
 pub mod FaithfulFacts
 pub mod OnlyPointFacts
+mod LostFacts
 pub mod FewerBidFacts
 pub mod LegalFacts
 pub mod PieceFacts

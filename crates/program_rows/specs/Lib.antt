@@ -19,5 +19,6 @@ pub mod Legal
 pub mod Bounded
 pub mod Costed
 pub mod Only
+pub mod Lost
 pub mod Selections
 pub mod inside
