@@ -19,7 +19,7 @@ use Rattle.outcome.specs.Report.{amounts_of_group, cost, report_text}
 use Rattle.outcome.specs.Ties.{same_choices}
 use Rattle.outcome.specs.declared.others.Further.{Further}
 use Rattle.outcome.specs.declared.others.Further.TheVariants.{NoOther}
-use Rattle.prices.proofs.FollowingFacts.{the_prices_follow}
+use Rattle.prices.proofs.FollowingFacts.{exact_prices_follow, the_prices_follow}
 use Rattle.prices.specs.Alone.{AreCostsAlone}
 use Rattle.prices.specs.Parts.{AreThePrices}
 use Rattle.prices.specs.Prices.{reserves_in}
@@ -121,6 +121,8 @@ module _ (auction auction' : Auction) (out out' : List ℕ) (rules : auction.rul
       record {
         winners = same;
         prices = the_prices_follow (reserves_in auction.rules) auction.sale.lots auction.sale.book first alone alone' one.pricing.parts other.pricing.parts
+            (price_in one.pricing.prices) (price_in other.pricing.prices) one.report.book alone_are by_rule alone_are' by_rule';
+        exact = exact_prices_follow (reserves_in auction.rules) auction.sale.lots auction.sale.book first alone alone' one.pricing.parts other.pricing.parts
             (price_in one.pricing.prices) (price_in other.pricing.prices) one.report.book alone_are by_rule alone_are' by_rule';
         groups = λ group a a' listed listed'.
             let here = listed-greatest auction.sale group a auction.groups one.report.won one.report.greatest listed in

@@ -14,7 +14,7 @@ use Rattle.outcome.specs.Pricing.{Priced, in_pounds, price_in, pricing_text}
 use Rattle.outcome.specs.Report.{amounts_of_group, cost, report_text}
 use Rattle.prices.specs.Alone.{AreCostsAlone}
 use Rattle.prices.specs.Blocking.{ArePrices}
-use Rattle.prices.specs.Parts.{AreThePrices, Suffice}
+use Rattle.prices.specs.Parts.{AreSame, AreThePrices, Suffice}
 use Rattle.prices.specs.Prices.{CoversEveryGroup, MeetReserves, reserves_in}
 use Rattle.bid_desk.specs.Sale.{Sale}
 use Rattle.outcome.specs.Following.{AreAllGreatest}
@@ -126,11 +126,12 @@ IsListedFor group a _ _ = ⊥
 abbrev pub AreAmong : List (List Choice) → List (List Choice) → Type 0
 AreAmong those these = AllByRecursion (λ a. Any (λ b. IsPermutation b a) those) these
 
--- two awards have the same winners with the same bids, each winner pays the same whole pounds, and a group that both list has the same total and cost
+-- two awards have the same winners with the same bids, each winner pays the same whole pounds and has the same exact price, and a group that both list has the same total and cost
 pub record AreSameAward (auction auction' : Auction) (out out' : List ℕ) (one : IsAward auction out) (other : IsAward auction' out') : Type 0 where
   pub winners : winners_of auction out one ≡ winners_of auction' out' other
   pub prices : All (λ c. in_pounds one.pricing.parts (price_in one.pricing.prices) c.bidder ≡ in_pounds other.pricing.parts
       (price_in other.pricing.prices) c.bidder) (winners_of auction out one)
+  pub exact : AreSame (winners_of auction out one) one.pricing.parts (price_in one.pricing.prices) other.pricing.parts (price_in other.pricing.prices)
   pub groups : (group : List ℕ) (a a' : List Choice) → IsListedFor group a auction.groups one.report.won
       → IsListedFor group a' auction'.groups other.report.won
       → (total auction.sale.lots auction.sale.book a ≡ total auction'.sale.lots auction'.sale.book a')

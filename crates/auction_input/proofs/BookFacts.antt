@@ -113,11 +113,11 @@ parts-for-forms asked input parts parsed =
 
 -- ---- the last form
 
-abbrev Read : Type 0
+abbrev pub Read : Type 0
 Read = Offers × List ℕ
 
 -- what is read of each of these texts
-abbrev IsRead : Terms → Read → Type 0
+abbrev pub IsRead : Terms → Read → Type 0
 IsRead t form = form_in t form.1 ≡ Ok form.0
 
 form-is : (t : Terms) (n : ℕ) (text : List ℕ) (form : Offers) → parsed_form t n text ≡ Ok form → form_in t text ≡ Ok form
@@ -125,12 +125,12 @@ form-is t n text form parsed = ok-refused_as (refusal.Form n) (form_in t text) f
 
 -- the last one of a bidder, if the one before these is of it and read so
 module _ (t : Terms) (b : ℕ) where
-  abbrev IsLast : Option Offers → Option Read → Type 0
+  abbrev pub IsLast : Option Offers → Option Read → Type 0
   IsLast None None = ⊤
   IsLast (Some form) (Some read) = (read.0 ≡ form) × (form.bidder ≡ b) × IsRead t read
   IsLast form read = ⊥
 
-  last-is : (n : ℕ) (texts : List (List ℕ)) (forms : List Offers) (form : Option Offers) (read : Option Read) → each_in_turn (parsed_form t) n texts ≡ Ok forms
+  pub last-is : (n : ℕ) (texts : List (List ℕ)) (forms : List Offers) (form : Option Offers) (read : Option Read) → each_in_turn (parsed_form t) n texts ≡ Ok forms
       → IsLast form read → IsLast (last_or form (forms_of b forms)) (last_or read (filter (λ (x : Read). x.0.bidder == b) (zip forms texts)))
   last-is n [] [] form read each is = is
   last-is n [] (f ∷ forms) form read each is = cc
@@ -145,7 +145,7 @@ module _ (t : Terms) (b : ℕ) where
       ])
 
   -- with just the bids that are left
-  describes : (form : Option Offers) (read : Option Read) → IsLast form read → DescribesBids t b (option_map_or (λ (f : Offers). f.bids) form []) read
+  pub describes : (form : Option Offers) (read : Option Read) → IsLast form read → DescribesBids t b (option_map_or (λ (f : Offers). f.bids) form []) read
   describes None None is = refl
   describes (Some form) (Some read) (same, own, parsed) =
       let whole : form ≡ record { bidder = b; bids = form.bids } = ap (λ (k : ℕ). record { bidder = k; bids = form.bids }) own in

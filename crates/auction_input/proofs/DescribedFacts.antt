@@ -161,7 +161,7 @@ read-rules text t read =
     let (few, is) = short text rules.TooLarge (rules_of_records (records_of text)) t (ok-refused_as refusal.Rules _ t read) in
     (few, (described-rules (records_of text) t).0 is)
 
-rules-read : (text : List ℕ) (t : Terms) → IsTextOfRules text t → parsed_terms text ≡ Ok t
+pub rules-read : (text : List ℕ) (t : Terms) → IsTextOfRules text t → parsed_terms text ≡ Ok t
 rules-read text t (few, describe) =
     ap (refused_as refusal.Rules) (long text rules.TooLarge (rules_of_records (records_of text)) t few ((described-rules (records_of text) t).1 describe))
 
@@ -195,7 +195,7 @@ read-forms t n (text ∷ texts) forms read =
     let is : form ∷ others ≡ forms = ok-is _ (form ∷ others) forms refl all in
     subst (λ (fs : List Offers). AllZip (IsTextOfForm t) (text ∷ texts) fs) is (read-form t n text form one, read-forms t (n + 1) texts others rest)
 
-forms-read : (t : Terms) (n : ℕ) (texts : List (List ℕ)) (forms : List Offers) → AllZip (IsTextOfForm t) texts forms
+pub forms-read : (t : Terms) (n : ℕ) (texts : List (List ℕ)) (forms : List Offers) → AllZip (IsTextOfForm t) texts forms
     → each_in_turn (parsed_form t) n texts ≡ Ok forms
 forms-read t n [] [] each = refl
 forms-read t n [] (form ∷ forms) each = absurd each

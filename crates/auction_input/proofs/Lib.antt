@@ -14,6 +14,7 @@ pub mod DescribedFacts
 pub mod InputTextFacts
 pub mod LastFormFacts
 pub mod SameFormFacts
+pub mod SealedTextFacts
 pub mod LimitFacts
 pub mod LotFacts
 pub mod PartFacts

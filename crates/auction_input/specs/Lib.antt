@@ -12,6 +12,7 @@ pub mod FormTexts
 pub mod Input
 pub mod LastForms
 pub mod SameForms
+pub mod SealedTexts
 pub mod Line
 pub mod Parts
 pub mod ParsedParts

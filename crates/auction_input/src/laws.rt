@@ -12,6 +12,7 @@ ghost use Rattle.auction_input.specs.LastForms.{FormParts, IsOfAuction, parsed_f
 ghost use Rattle.auction_input.specs.ParsedParts.{parsed_parts};
 ghost use Rattle.auction_input.specs.Parts.{Part, part_fault};
 ghost use Rattle.auction_input.specs.SameForms.{SameFormsAreOneSale};
+ghost use Rattle.auction_input.specs.SealedTexts.{SameTextsAreOneSale};
 ghost use Rattle.auction_input.specs.declared.input.TheConstants.{INPUT_LIMIT};
 ghost use Rattle.auction_terms.specs.Terms.{Terms};
 ghost use Rattle.auction_input.specs.declared.refusal.Refusal.{Refusal};
@@ -51,6 +52,12 @@ pub fn last_forms_are_those_of_the_book()
 /// same rules and the same sale, to whatever commands.
 pub fn same_forms_are_one_sale()
     ensures { SameFormsAreOneSale }
+{}
+
+/// The same of what two inputs describe: where the text of their rules is the same, and the text of each bidder's last form, the two
+/// auctions have the same rules and the same sale.
+pub fn same_texts_are_one_sale()
+    ensures { SameTextsAreOneSale }
 {}
 
 /// If `text` takes an input's parts, `forms` refuses it if `text` does, and for the same.

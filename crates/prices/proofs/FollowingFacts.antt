@@ -8,11 +8,12 @@ use Rattle.auction_terms.specs.Packages.{Lots}
 use Rattle.auction_terms.specs.Allocations.{Book}
 use Rattle.auction_terms.specs.Limits.{IsBook}
 use Rattle.auction_terms.proofs.OfferFacts.{all_agree, sum_agree}
-use Rattle.prices.specs.Following.{ThePricesFollow}
+use Rattle.prices.specs.Following.{ExactPricesFollow, ThePricesFollow}
 use Rattle.prices.specs.Alone.{AreCostsAlone}
 use Rattle.prices.specs.Parts.{AreThePrices, apart, distance_from_alone, in_smaller, square}
 use Rattle.prices.proofs.ExistFacts.{every_group_has_a_cost}
 use Rattle.prices.proofs.RoundingFacts.{rounded_up_is_one}
+use Rattle.prices.proofs.RuleFacts.{the_prices_are_one}
 
 both_alone : (reserves : List ℕ) (lots : Lots) (book : Book) (first : List Choice) (alone alone' : ℕ → ℕ) → IsBook lots book
     → AreCostsAlone reserves lots book first alone → AreCostsAlone reserves lots book first alone' → All (λ c. alone c.bidder ≡ alone' c.bidder) first
@@ -47,4 +48,10 @@ pub the_prices_follow : ThePricesFollow
 the_prices_follow reserves lots book first alone alone' parts parts' price price' within costs prices costs' prices' =
     let same = recursion_from_All _ first (both_alone reserves lots book first alone alone' within costs costs') in
     rounded_up_is_one reserves lots book first alone parts parts' price price' prices
+    (measured_alike reserves lots book first alone alone' parts' price' same prices')
+
+pub exact_prices_follow : ExactPricesFollow
+exact_prices_follow reserves lots book first alone alone' parts parts' price price' within costs prices costs' prices' =
+    let same = recursion_from_All _ first (both_alone reserves lots book first alone alone' within costs costs') in
+    the_prices_are_one reserves lots book first alone parts parts' price price' prices
     (measured_alike reserves lots book first alone alone' parts' price' same prices')

@@ -3,7 +3,7 @@
 
 ghost use Rattle.prices.specs.Alone.{ListedAreCostsAlone};
 ghost use Rattle.prices.specs.Blocking.{KeptBidsSuffice, SufficeIffNoneBlocks, UnblockedIsGreatest, UnblockedSuffice};
-ghost use Rattle.prices.specs.Following.{ThePricesFollow};
+ghost use Rattle.prices.specs.Following.{ExactPricesFollow, ThePricesFollow};
 ghost use Rattle.prices.specs.Parts.{ThePricesAreOne};
 ghost use Rattle.prices.specs.Prices.{EveryGroupHasACost};
 ghost use Rattle.prices.specs.Raised.{RaisedBoundExcludesBlocking, ShownSuffice};
@@ -75,4 +75,9 @@ pub fn rounded_up_prices_are_one()
 /// So whole prices of the rule follow from the rules, the bids and the winners alone.
 pub fn the_prices_follow()
     ensures { ThePricesFollow }
+{}
+
+/// The exact ones follow, too: they are the same amounts, whatever parts of a pound they are in.
+pub fn the_exact_prices_follow()
+    ensures { ExactPricesFollow }
 {}
