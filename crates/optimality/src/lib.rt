@@ -16,5 +16,9 @@ mod row_forms;
 mod sums;
 mod terms;
 
+pub use checker::{Checker, Leaf, OpenSplit};
+pub use leaf_value::is_above;
 pub use only_points::check_only;
-pub use reader::{check_certificate, check_optimum, check_selection};
+pub use reader::{check_certificate, check_optimum, check_selection, new_checker};
+pub use refusal::Limit;
+pub use sums::Sums;
