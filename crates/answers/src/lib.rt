@@ -26,7 +26,7 @@ pub use commands::answer;
 pub use commands::check::write_sizes;
 pub use commands::compile::run_compile;
 pub use commands::verify::{verify, write_verified};
-pub use file_lines::print_file_line;
+pub use file_lines::{print_file_line, print_file_refusal, print_unread};
 pub use group_texts::{RunFault, write_programs};
 pub use messages::print_refusal;
 pub use parser::VERSION;

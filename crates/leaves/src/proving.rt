@@ -11,7 +11,7 @@ use program_rows::Selection;
 use std::alloc::{AllocError, Global};
 
 /// The most cells of a tableau.
-const LARGEST_TABLE: usize = 16_000_000;
+const LARGEST_TABLE: usize = 8_000_000;
 
 /// A search begins again where a better point leaves a part of the columns less than so many fifths.
 const LEFT_FIFTHS: usize = 4;
@@ -235,12 +235,19 @@ fn ended(proving: &Proving<'_>, tree: Tree<'_>, stop: Stop) -> Result<Answer, Li
     }
 }
 
-/// Searches a program for what is to be proved of it.
-pub fn prove<'p>(
-    alloc: Global,
-    program: &'p Selection<'p>,
-    task: Task<'_>,
-) -> Result<Answer, Limit> {
+/// Searches a program for what is to be proved of it. Numbers that are too large for a certificate end it without one.
+pub fn prove(alloc: Global, program: &Selection<'_>, task: Task<'_>) -> Result<Answer, AllocError> {
+    match search(alloc, program, task) {
+        Ok(answer) => Ok(answer),
+        Err(Limit::Memory) => Err(AllocError),
+        Err(Limit::TooLarge) => Ok(Answer::NotProved {
+            ones: task.known.to_vec(alloc)?,
+            objective: 0,
+        }),
+    }
+}
+
+fn search<'p>(alloc: Global, program: &'p Selection<'p>, task: Task<'_>) -> Result<Answer, Limit> {
     let Some(mut layout) = lay_out(alloc, program)? else {
         return Ok(Answer::NotProved {
             ones: task.known.to_vec(alloc)?,
