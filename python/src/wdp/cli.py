@@ -30,6 +30,7 @@ _EXPLAIN_HELP = "prints all that is wrong with an input, by file, line and colum
 # each command with its module in this package, and what it is for, in the order of an auction
 COMMANDS = {
     "form": ("commands.form", "writes a blank form for each bidder"),
+    "desk": ("commands.desk", "takes in bidders' forms over HTTPS, each with a receipt"),
     "explain": ("commands.explain", _EXPLAIN_HELP),
     "gather": ("commands.gather", "joins an auction's files into one input of wdp"),
     "auction": ("commands.auction", "goes from the input to winners, opportunity costs and a page"),
@@ -43,6 +44,7 @@ COMMANDS = {
 # when they are of use
 _STAGES = {
     "before the round": ["form"],
+    "the round": ["desk"],
     "when the forms are in": ["explain", "gather"],
     "the award": ["auction"],
     "after the award": ["lost", "letters", "results", "prices"],

@@ -21,6 +21,7 @@ from wdp.commands.arguments import (
     parse_path,
 )
 from wdp.folder import INPUT, Folder
+from wdp.office.settled import read_settled
 from wdp.office.new_forms import check_new_forms, read_new_forms
 from wdp.program import find_program
 from wdp.publish.changes import make_changes_table
@@ -85,6 +86,7 @@ def add_arguments(parser: argparse.ArgumentParser) -> None:
         metavar="FILE",
         help="the input, which is copied to DIR/input.txt; `-` is standard input",
     )
+    _add_desk(parser)
     _add_origin(parser)
     add_shared_arguments(parser)
     _add_goals(parser)
@@ -99,6 +101,22 @@ def add_arguments(parser: argparse.ArgumentParser) -> None:
         "--step",
         metavar="STEP",
         help="one step alone, as Snakemake runs them: programs, a group's number, prices or report",
+    )
+
+
+def _add_desk(parser: argparse.ArgumentParser) -> None:
+    """Adds the arguments by which the forms are those that a desk has taken in."""
+    parser.add_argument(
+        "--desk",
+        type=Path,
+        metavar="OUT",
+        help="in place of --input: the folder that `desk open` wrote",
+    )
+    parser.add_argument(
+        "--groups",
+        type=parse_path,
+        metavar="FILE",
+        help="the file of the groups for --desk; by default nobody, then each bidder alone",
     )
 
 
@@ -214,6 +232,10 @@ def _check_arguments(options: argparse.Namespace) -> None:
         raise WrongArgument("--ties needs certificates, and --no-certify makes none")
     if options.award_number and (options.step or not options.folder):
         raise WrongArgument("--award goes with DIR, and not with --step")
+    if options.groups and not options.desk:
+        raise WrongArgument("--groups goes with --desk OUT")
+    if options.desk and (options.input or options.origin or options.step or not options.folder):
+        raise WrongArgument("--desk OUT goes with DIR, and without --input, --from and --step")
     if options.origin is None:
         if options.withdrawn or options.form_paths or options.sheet:
             raise WrongArgument("--without, --form and --sheet go with --from OLD")
@@ -261,6 +283,8 @@ def run(options: argparse.Namespace) -> int:
     if options.origin:
         return _run_from_origin(options, whole)
     data = _read_input(options.input) if options.input else None
+    if options.desk:
+        data = read_settled(whole.means.program, options.desk, options.groups)
     if data is not None:
         options.folder.mkdir(parents=True, exist_ok=True)
     if options.step:

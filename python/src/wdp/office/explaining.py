@@ -141,6 +141,11 @@ def _split_lines(output: bytes) -> list[str]:
     return lines
 
 
+def parse_faults(output: bytes) -> Explained:
+    """The faults of lines that the program printed, at least one."""
+    return _parse_faults(_split_lines(output))
+
+
 def explain(program: str, text: bytes, with_bids: bool = False) -> Explained:
     """What `wdp explain` finds in an input; with bids, which of them are in no program."""
     command = [program, "explain", "--json"]
@@ -153,7 +158,7 @@ def explain(program: str, text: bytes, with_bids: bool = False) -> Explained:
     if ended.messages or not (is_accepted or has_faults):
         why = (ended.messages.splitlines() or [f"it ended with status {ended.status}"])[0]
         raise Refused(f"wdp explain: {why}")
-    lines = _split_lines(ended.output)
     if has_faults:
-        return _parse_faults(lines)
+        return parse_faults(ended.output)
+    lines = _split_lines(ended.output)
     return Explained(bids=[_parse_line(line, _read_left_out) for line in lines])

@@ -32,18 +32,12 @@ def _is_workbook(path: str) -> bool:
     return path.lower().endswith(".xlsx")
 
 
-def _read_table(
-    path: str,
-    most: int,
-    *,
-    heads: Collection[str],
-    sheet: str | None,
-    regular: bool,
+def _parse_bytes(
+    path: str, data: bytes, most: int, *, heads: Collection[str], sheet: str | None
 ) -> File:
     """The rows of a table, at most so many: of a workbook, whose rows begin with one of these
     heads, if the name ends in .xlsx.
     """
-    data = read(path, MOST_OF_A_FILE, regular=regular)
     if _is_workbook(path):
         return read_workbook(path, data, most, sheet=sheet, heads=heads)
     return parse_table(path, data, most, kinds=".xlsx or CSV")
@@ -63,7 +57,8 @@ def _check_first_row(file: File, heads: Collection[str], wanted: str) -> None:
 
 def read_rules_file(path: str, sheet: str | None = None, *, regular: bool = True) -> File:
     """The rows of the rules, each with the fields that the version wants. Raises Unreadable."""
-    file = _read_table(path, _MOST_OF_RULES, heads=["rules"], sheet=sheet, regular=regular)
+    data = read(path, MOST_OF_A_FILE, regular=regular)
+    file = _parse_bytes(path, data, _MOST_OF_RULES, heads=["rules"], sheet=sheet)
     if file.rows and file.rows[0].values[0].strip() == "%rules":
         raise Unreadable(path, f"{_WHOLE_INPUT}; wdp-office explain {path} takes it")
     _check_first_row(file, ["rules"], "rules begin with rules")
@@ -80,7 +75,12 @@ def read_rules_file(path: str, sheet: str | None = None, *, regular: bool = True
 
 def read_form_file(path: str, rules: AcceptedRules, sheet: str | None = None) -> File:
     """The rows of a form under these rules. Raises Unreadable."""
-    file = _read_table(path, MOST_OF_A_FORM, heads=rules.bidders, sheet=sheet, regular=True)
+    return parse_form_file(path, read(path, MOST_OF_A_FILE, regular=True), rules, sheet)
+
+
+def parse_form_file(path: str, data: bytes, rules: AcceptedRules, sheet: str | None = None) -> File:
+    """The rows of a form's bytes under these rules, as of a file at this path. Raises Unreadable."""
+    file = _parse_bytes(path, data, MOST_OF_A_FORM, heads=rules.bidders, sheet=sheet)
     _check_first_row(file, rules.bidders, "a form begins with the bidder's name")
     file.trim(len(rules.categories) + 1)
     return file
