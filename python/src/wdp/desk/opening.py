@@ -34,7 +34,7 @@ def read_closed(program: str, journal: Path) -> State:
     return state
 
 
-def _format_openings(journal: Path, private: X25519PrivateKey, state: State) -> bytes:
+def _make_openings(journal: Path, private: X25519PrivateKey, state: State) -> list[bytes]:
     """What `wdp-desk --settle` takes: each form that stands, with its salt."""
     openings = []
     with open(journal, "rb") as file:
@@ -46,7 +46,7 @@ def _format_openings(journal: Path, private: X25519PrivateKey, state: State) -> 
                 why = f"entry {entry.entry}, of {entry.bidder}: {refused}"
                 raise Refused(f"{journal}: {why}") from None
             openings.append(f"%opening {salt} {len(text)}\n".encode() + text)
-    return b"".join(openings)
+    return openings
 
 
 def open_forms(program: str, where: Path, private: X25519PrivateKey, output: str) -> int:
@@ -56,12 +56,12 @@ def open_forms(program: str, where: Path, private: X25519PrivateKey, output: str
     journal = where / "journal"
     settler = find_filter()
     state = read_closed(settler, journal)
-    openings = _format_openings(journal, private, state)
+    openings = _make_openings(journal, private, state)
     with files.temporary_folder("desk.") as folder:
         path = folder / OPENINGS
-        path.write_bytes(openings)
+        path.write_bytes(b"".join(openings))
         words = ["--settle", str(journal), str(path)]
         text = ask(settler, words, b"", limits=Limits(MOST_OF_INPUT))
     forms = format_digests(program, text)
-    files.write_folder(output, {OPENINGS: openings, INPUT: text, FORMS: forms})
-    return forms.count(b"\n%form ")
+    files.write_folder(output, {OPENINGS: b"".join(openings), INPUT: text, FORMS: forms})
+    return len(openings)
