@@ -15,10 +15,11 @@ import sys
 import threading
 from collections.abc import Callable, Iterator
 from concurrent.futures import ThreadPoolExecutor
+from dataclasses import dataclass
 from pathlib import Path
 from typing import Any, NamedTuple
 
-from commands import ROOT, CommandResult, finish, make_environment, run, start, wait_for
+from commands import CommandResult, make_environment, run, start, wait_for
 
 RULES = """rules,1,1,,
 category,A,2,10,1
@@ -27,6 +28,8 @@ bidder,Alpha,9,3,
 bidder,Beta,9,1,
 bidder,Gamma,9,1,
 """
+MANY_BIDDERS = [f"Bidder{number}" for number in range(20)]
+MANY_RULES = RULES + "".join(f"bidder,{name},9,3,\n" for name in MANY_BIDDERS)
 FORM = b"Alpha,A,B\n30,1,0\n50,2,1\n"
 FORM_OF = {
     "Alpha": FORM,
@@ -65,7 +68,7 @@ class Answer(NamedTuple):
 
 def over(number: int | None) -> dict[str, str]:
     """The header by which a call says over which change it is made."""
-    return {"If-None-Match": "*"} if number is None else {"If-Match": f'"{number}"'}
+    return {"If_None_Match": "*"} if number is None else {"If_Match": f'"{number}"'}
 
 
 class DeskFolder:
@@ -120,7 +123,7 @@ class Served:
         self.port = find_port()
         self.lines: list[str] = []
         command = [sys.executable, "-m", "wdp", "desk", "serve", desk.where]
-        command += ["--port", self.port, "--readers", 2, *words]
+        command += ["--port", self.port, "--readers", 1, *words]
         env = make_environment(WDP_DESK=find_filter(), **more)
         self.process = start(command, env=env, stderr=subprocess.PIPE)
         self._reading = threading.Thread(target=self._read, daemon=True)
@@ -185,13 +188,11 @@ class Served:
     ) -> Answer:
         """Hands in a form over a change, by default none."""
         form = FORM_OF[bidder] if body is None else body
-        headers = {name.replace("-", "_"): value for name, value in over(number).items()}
         key = self.desk.keys[bidder, session]
-        return self.call("PUT", f"/form{query}", form, key=key, **headers)
+        return self.call("PUT", f"/form{query}", form, key=key, **over(number))
 
     def withdraw(self, bidder: str = "Alpha", number: int | None = None) -> Answer:
-        headers = {name.replace("-", "_"): value for name, value in over(number).items()}
-        return self.call("DELETE", "/form", key=self.desk.keys[bidder, 1], **headers)
+        return self.call("DELETE", "/form", key=self.desk.keys[bidder, 1], **over(number))
 
     def look(self, bidder: str = "Alpha") -> dict[str, Any]:
         return self.call("GET", "/form", key=self.desk.keys[bidder, 1]).members
@@ -200,6 +201,37 @@ class Served:
         """What comes of calls that are made at once."""
         with ThreadPoolExecutor(len(calls)) as threads:
             return [each.result() for each in [threads.submit(call) for call in calls]]
+
+
+@dataclass(frozen=True)
+class Bidder:
+    """A bidder of a desk that several tests share; nobody else has called in its name."""
+
+    served: Served
+    name: str
+
+    @property
+    def form(self) -> bytes:
+        return f"{self.name},A,B\n30,1,0\n50,2,1\n".encode()
+
+    @property
+    def key(self) -> str:
+        return self.served.desk.keys[self.name, 1]
+
+    def make_form(self, amount: int) -> bytes:
+        return make_form(self.name, amount)
+
+    def call(self, method: str, path: str, body: bytes | None = None, **headers: str) -> Answer:
+        return self.served.call(method, path, body, key=self.key, **headers)
+
+    def put(self, body: bytes | None = None, number: int | None = None, **how: Any) -> Answer:
+        return self.served.put(self.name, self.form if body is None else body, number, **how)
+
+    def withdraw(self, number: int | None = None) -> Answer:
+        return self.served.withdraw(self.name, number)
+
+    def look(self) -> dict[str, Any]:
+        return self.served.look(self.name)
 
 
 def find_port() -> int:
@@ -215,5 +247,3 @@ def make_form(bidder: str, amount: int) -> bytes:
 HEAD = re.compile(
     rb"%call (\d+) (\d+) (\S+) (\d+) (\w+) (\d+|-) ([0-9a-f]{64}|-) (\d+) (\d+) (\d+)\n"
 )
-
-__all__ = ["ROOT", "finish"]

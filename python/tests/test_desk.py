@@ -7,11 +7,21 @@ import os
 import signal
 import socket
 from collections.abc import Iterator
+from functools import partial
 from pathlib import Path
 
 import pytest
-from commands import check_stopped, run, run_program, wait_for
-from desks import FILTER, FORM, FORM_OF, DeskFolder, Served, find_filter, make_form
+from commands import check_stopped, hide_library, run, run_program, wait_for
+from desks import (
+    FORM_OF,
+    MANY_BIDDERS,
+    MANY_RULES,
+    Bidder,
+    DeskFolder,
+    Served,
+    find_filter,
+    make_form,
+)
 
 for _name in ("aiohttp", "cryptography"):
     pytest.importorskip(_name, reason=f"{_name} isn't there")
@@ -27,52 +37,64 @@ def desk(tmp_path: Path) -> DeskFolder:
     return DeskFolder(tmp_path)
 
 
-@pytest.fixture
-def served(desk: DeskFolder) -> Iterator[Served]:
-    with desk.serve() as served:
+@pytest.fixture(scope="module")
+def shared(tmp_path_factory: pytest.TempPathFactory, wdp: str) -> Iterator[Served]:
+    with DeskFolder(tmp_path_factory.mktemp("shared"), MANY_RULES).serve(WDP=wdp) as served:
         yield served
+
+
+_UNUSED = list(MANY_BIDDERS)
+
+
+@pytest.fixture
+def bidder(shared: Served) -> Bidder:
+    return Bidder(shared, _UNUSED.pop())
+
+
+@pytest.fixture
+def other(shared: Served) -> Bidder:
+    return Bidder(shared, _UNUSED.pop())
 
 
 def digest(data: bytes) -> str:
     return hashlib.sha256(data).hexdigest()
 
 
-def test_a_form_is_handed_in_replaced_and_withdrawn(served: Served) -> None:
-    assert served.look()["stands"] is None
-    first = served.put()
+def test_a_form_is_handed_in_replaced_and_withdrawn(bidder: Bidder) -> None:
+    assert bidder.look()["stands"] is None
+    first = bidder.put()
     assert (first.status, first.word, first.headers["Etag"]) == (200, "accepted", '"1"')
-    assert first.members["form"] == digest(FORM)
-    assert served.look()["stands"]["number"] == 1
-    second = served.put(body=make_form("Alpha", 31), number=1)
+    assert first.members["form"] == digest(bidder.form)
+    assert bidder.look()["stands"]["number"] == 1
+    second = bidder.put(bidder.make_form(31), 1)
     assert (second.status, second.word, second.members["number"]) == (200, "accepted", 2)
-    gone = served.withdraw(number=2)
+    gone = bidder.withdraw(2)
     assert (gone.status, gone.word, gone.members["number"]) == (200, "withdrawn", 3)
-    assert served.look()["stands"] is None
-    assert served.withdraw(number=3).status == 404
-    assert served.look()["calls_left"] == 997
+    assert bidder.look()["stands"] is None
+    assert bidder.withdraw(3).status == 404
+    assert bidder.look()["calls_left"] == 997
 
 
-def test_a_call_says_over_what_it_is_made(served: Served) -> None:
-    key = served.desk.keys["Alpha", 1]
-    assert served.call("PUT", "/form", FORM, key=key).status == 428
-    assert served.call("PUT", "/form", FORM, key=key, If_Match="3").status == 400
-    assert served.call("PUT", "/form", FORM, key=key, If_None_Match="x").status == 400
+def test_a_call_says_over_what_it_is_made(bidder: Bidder) -> None:
+    assert bidder.call("PUT", "/form", bidder.form).status == 428
+    assert bidder.call("PUT", "/form", bidder.form, If_Match="3").status == 400
+    assert bidder.call("PUT", "/form", bidder.form, If_None_Match="x").status == 400
     both = {"If_Match": '"1"', "If_None_Match": "*"}
-    assert served.call("PUT", "/form", FORM, key=key, **both).status == 428
-    assert served.put(number=7).status == 412
-    assert served.call("PUT", "/form?over=any", FORM, key=key).word == "accepted"
-    assert served.call("PUT", "/form?over=any", make_form("Alpha", 9 * 10), key=key).status == 200
-    assert served.look()["stands"]["number"] == 2
+    assert bidder.call("PUT", "/form", bidder.form, **both).status == 428
+    assert bidder.put(number=7).status == 412
+    assert bidder.call("PUT", "/form?over=any", bidder.form).word == "accepted"
+    assert bidder.call("PUT", "/form?over=any", bidder.make_form(90)).status == 200
+    assert bidder.look()["stands"]["number"] == 2
 
 
-def test_a_retry_of_an_older_form_is_stale(served: Served) -> None:
+def test_a_retry_of_an_older_form_is_stale(bidder: Bidder) -> None:
     """A, then B, and the network sends A again: B stands."""
-    one, other = make_form("Alpha", 41), make_form("Alpha", 42)
-    assert served.put(body=one).word == "accepted"
-    assert served.put(body=other, number=1).word == "accepted"
-    again = served.put(body=one)
+    one, two = bidder.make_form(41), bidder.make_form(42)
+    assert bidder.put(one).word == "accepted"
+    assert bidder.put(two, 1).word == "accepted"
+    again = bidder.put(one)
     assert (again.status, again.word, again.members["number"]) == (412, "stale", 2)
-    assert served.look()["stands"]["number"] == 2
+    assert bidder.look()["stands"]["number"] == 2
 
 
 def test_a_lost_reply_is_sent_again(desk: DeskFolder) -> None:
@@ -92,53 +114,46 @@ def test_a_lost_reply_is_sent_again(desk: DeskFolder) -> None:
         assert served.look()["calls_left"] == 999
 
 
-def test_faults_have_their_cells_and_cost_no_call(served: Served) -> None:
-    bad = b"Alpha,A,B\n30,1,0\n9,2,0\nx,1,1\n"
-    answer = served.put(body=bad)
+def test_faults_have_their_cells_and_cost_no_call(bidder: Bidder) -> None:
+    bad = f"{bidder.name},A,B\n30,1,0\n9,2,0\nx,1,1\n".encode()
+    answer = bidder.put(bad)
     assert (answer.status, answer.word) == (422, "refused")
     faults = [(fault["place"], fault["fault"]) for fault in answer.members["faults"]]
     assert faults[-1] == ("4:1", "'x' isn't 1 to 18 digits")
     assert [place for place, _ in faults] == ["3:1", "4:1"]
-    assert served.put(body=bad, query="?check").members["faults"] == answer.members["faults"]
-    assert served.put(query="?check").word == "nothing is wrong"
-    unended = served.put(body=FORM[:-1])
+    assert bidder.put(bad, query="?check").members["faults"] == answer.members["faults"]
+    assert bidder.put(query="?check").word == "nothing is wrong"
+    unended = bidder.put(bidder.form[:-1])
     assert unended.status == 422
     assert "has no line end" in unended.members["faults"][0]["fault"]
-    assert served.put(body=b"").members["faults"][0]["fault"] == "it has no row"
-    assert served.look()["calls_left"] == 1000
+    assert bidder.put(b"").members["faults"][0]["fault"] == "it has no row"
+    assert bidder.look()["calls_left"] == 1000
 
 
-def test_other_spellings_are_read_as_gather_reads_them(served: Served) -> None:
-    text = FORM.decode().replace(",", "\t").replace("\n", "\r\n")
-    answer = served.put(body=text.encode("utf-16"))
-    assert answer.members["form"] == digest(FORM)
+def test_other_spellings_are_read_as_gather_reads_them(bidder: Bidder) -> None:
+    text = bidder.form.decode().replace(",", "\t").replace("\n", "\r\n")
+    answer = bidder.put(text.encode("utf-16"))
+    assert answer.members["form"] == digest(bidder.form)
     changes = ["UTF-16 turned into UTF-8", "CR LF turned into LF", "tabs turned into commas"]
     assert answer.members["changes"] == changes
 
 
-def test_keys(served: Served) -> None:
-    keys = served.desk.keys
-    call = served.call
-    for key in (
-        None,
-        "",
-        "x",
-        keys["Alpha", 1] + "x",
-        "\udcff".encode("utf-8", "replace").decode(),
-    ):
+def test_keys(bidder: Bidder, other: Bidder) -> None:
+    call = bidder.served.call
+    for key in (None, "", "x", bidder.key + "x"):
         assert call("GET", "/form", key=key).status == 401
-    assert call("PUT", "/form", FORM, key="x", If_None_Match="*").status == 401
-    others = call("PUT", "/form", FORM, key=keys["Beta", 1], If_None_Match="*")
+    assert call("PUT", "/form", bidder.form, key="x", If_None_Match="*").status == 401
+    others = other.put(bidder.form)
     assert (others.status, others.word) == (403, "other bidder")
-    checked = call("PUT", "/form?check", FORM, key=keys["Beta", 1])
+    checked = other.put(bidder.form, query="?check")
     assert (checked.status, checked.word) == (403, "other bidder")
-    office = served.desk.office
-    assert call("PUT", "/form", FORM, key=office, If_None_Match="*").status == 403
-    for method, path in (("GET", "/office"), ("POST", "/close"), ("POST", "/keys/Beta/1")):
-        assert call(method, path, key=keys["Alpha", 1]).status == 403
+    office = bidder.served.desk.office
+    assert call("PUT", "/form", bidder.form, key=office, If_None_Match="*").status == 403
+    for method, path in (("GET", "/office"), ("POST", "/close"), ("POST", f"/keys/{other.name}/1")):
+        assert bidder.call(method, path).status == 403
         assert call(method, path).status == 401
-    assert served.look("Beta")["stands"] is None
-    assert served.look("Beta")["calls_left"] == 1000
+    assert other.look()["stands"] is None
+    assert other.look()["calls_left"] == 1000
 
 
 def test_the_office_renews_a_key(desk: DeskFolder) -> None:
@@ -158,35 +173,35 @@ def test_the_office_renews_a_key(desk: DeskFolder) -> None:
     assert new not in digests and digest(new.encode()) in digests
 
 
-def test_the_office_sees_who_has_handed_in_and_no_amount(served: Served) -> None:
-    served.put("Beta", make_form("Beta", 7_654_321))
-    page = served.call("GET", "/office", key=served.desk.office)
+def test_the_office_sees_who_has_handed_in_and_no_amount(bidder: Bidder, other: Bidder) -> None:
+    bidder.put(bidder.make_form(7_654_321))
+    desk = bidder.served.desk
+    page = bidder.served.call("GET", "/office", key=desk.office)
     rows = {row["bidder"]: row for row in page.members["bidders"]}
-    assert rows["Beta"]["handed_in"] and rows["Beta"]["changes"] == 1
-    assert not rows["Alpha"]["handed_in"]
-    assert b"7654321" not in page.body + served.desk.journal
+    assert rows[bidder.name]["handed_in"] and rows[bidder.name]["changes"] == 1
+    assert not rows[other.name]["handed_in"]
+    assert b"7654321" not in page.body + desk.journal
 
 
-def test_sizes(served: Served) -> None:
+def test_sizes(bidder: Bidder) -> None:
     """4 MiB are judged, one byte more is a fault, and what no form can have isn't read."""
     most = 4 * 1024 * 1024
-    line = b"30,1,0\n"
-    full = b"Alpha,A,B\n" + b"\n" * (most - 10 - len(line)) + line
+    begin = f"{bidder.name},A,B\n30,1,0".encode()
+    full = begin + b"," * (most - len(begin) - 1) + b"\n"
     assert len(full) == most
-    assert served.put(body=full).word == "accepted"
-    faults = served.put(body=b"\n" + full, number=1).members["faults"]
+    assert bidder.put(full).word == "accepted"
+    faults = bidder.put(b"\n" + full, 1).members["faults"]
     assert faults == [{"place": "", "fault": "it has more than 4,194,304 bytes"}]
-    assert served.put(body=bytes(2 * most + 3), number=1).status == 413
+    assert bidder.put(bytes(2 * most + 3), 1).status == 413
     with contextlib.suppress(BrokenPipeError, ConnectionResetError):
-        assert send_chunked(served, 2 * most + 3) == 413
-    assert served.look()["stands"]["number"] == 1
+        assert send_chunked(bidder, 2 * most + 3) == 413
+    assert bidder.look()["stands"]["number"] == 1
 
 
-def send_chunked(served: Served, size: int) -> int:
+def send_chunked(bidder: Bidder, size: int) -> int:
     """The status of a form whose size isn't said before."""
-    key = served.desk.keys["Alpha", 1]
-    with socket.create_connection(("127.0.0.1", served.port), timeout=60) as connection:
-        head = f"PUT /form?over=any HTTP/1.1\r\nHost: x\r\nAuthorization: Bearer {key}\r\n"
+    with socket.create_connection(("127.0.0.1", bidder.served.port), timeout=60) as connection:
+        head = f"PUT /form?over=any HTTP/1.1\r\nHost: x\r\nAuthorization: Bearer {bidder.key}\r\n"
         connection.sendall(f"{head}Transfer-Encoding: chunked\r\n\r\n".encode())
         piece = bytes(65_536)
         for _ in range(0, size, len(piece)):
@@ -194,41 +209,33 @@ def send_chunked(served: Served, size: int) -> int:
         return int(connection.recv(100).split()[1])
 
 
-def test_one_of_the_sessions_that_race_is_accepted(served: Served) -> None:
-    for round_number, number in enumerate((None, 1, 2)):
-        answers = served.call_all(
-            [
-                lambda session=session: served.put(  # type: ignore[misc]
-                    body=make_form("Alpha", 100 * round_number + 10 + session),
-                    number=number,
-                    session=session,
-                )
-                for session in (1, 2, 3)
-            ]
-        )
+def test_one_of_the_sessions_that_race_is_accepted(bidder: Bidder) -> None:
+    for amount, number in ((100, None), (200, 1), (300, 2)):
+        calls = [
+            partial(bidder.put, bidder.make_form(amount + session), number, session=session)
+            for session in (1, 2, 3)
+        ]
+        answers = bidder.served.call_all(calls)
         assert sorted(answer.status for answer in answers) == [200, 412, 412]
 
 
-def test_a_statement_of_what_stands(served: Served) -> None:
-    assert (
-        "\nanswer stands none\n"
-        in served.call("POST", "/show", key=served.desk.keys["Beta", 1]).receipt
-    )
-    served.put("Beta")
-    shown = served.call("POST", "/show", key=served.desk.keys["Beta", 1])
+def test_a_statement_of_what_stands(bidder: Bidder) -> None:
+    assert "\nanswer stands none\n" in bidder.call("POST", "/show").receipt
+    bidder.put()
+    shown = bidder.call("POST", "/show")
     assert (shown.status, shown.word) == (200, "stands")
     assert "\nanswer stands 1\n" in shown.receipt
-    assert served.look("Beta")["calls_left"] == 997
+    assert bidder.look()["calls_left"] == 997
 
 
-def test_text_in_place_of_json(served: Served) -> None:
-    key = served.desk.keys["Alpha", 1]
+def test_text_in_place_of_json(bidder: Bidder) -> None:
     headers = {"If_None_Match": "*", "Accept": "text/plain"}
-    receipt = served.call("PUT", "/form", FORM, key=key, **headers).body.decode()
+    receipt = bidder.call("PUT", "/form", bidder.form, **headers).body.decode()
     assert receipt.startswith("wdp desk receipt 1\n")
-    bad = served.call("PUT", "/form", b"Alpha,A\n", key=key, **headers)
+    bad = bidder.call("PUT", "/form", f"{bidder.name},A\n".encode(), **headers)
     assert bad.status == 422 and bad.body.splitlines()[-1] == b"the form has faults"
-    assert served.call("GET", "/form", Accept="text/plain").body == b"this key isn't known\n"
+    unknown = bidder.served.call("GET", "/form", Accept="text/plain")
+    assert unknown.body == b"this key isn't known\n"
 
 
 def test_the_close(desk: DeskFolder) -> None:
@@ -246,24 +253,6 @@ def test_the_close(desk: DeskFolder) -> None:
         assert served.call("GET", "/journal").status == 401
     with desk.serve() as served:
         assert served.put("Beta").status == 410
-
-
-def test_the_round_closes_at_its_time(tmp_path: Path) -> None:
-    """What came before the time is taken, what came at or after it isn't, and no entry has a later
-    time than the close.
-    """
-    import datetime as dates
-
-    closes = dates.datetime.now(dates.timezone.utc) + dates.timedelta(seconds=6)
-    desk = DeskFolder(tmp_path, closes=closes.isoformat())
-    with desk.serve() as served:
-        assert served.put().word == "accepted"
-        wait_for(lambda: not served.look()["open"])
-        assert served.put("Beta").status == 410
-        wait_for(lambda: any("the round is closed" in line for line in served.lines))
-    times = [int(line.split()[2]) for line in desk.journal.split(b"\n") if line[:6] == b"%call "]
-    assert len(times) == 2
-    assert times[0] < closes.timestamp() * 1e6 <= times[1]
 
 
 def test_the_office_closes_by_the_command(desk: DeskFolder) -> None:
@@ -398,9 +387,6 @@ def test_the_filter_ends_and_so_does_the_desk(desk: DeskFolder) -> None:
 
 
 def test_libraries_that_are_missing_are_one_line(desk: DeskFolder, tmp_path: Path) -> None:
-    from commands import hide_library
-
     folder = make_folder(tmp_path / "hidden")
     seen = run("desk", "close", desk.where, **hide_library("aiohttp", folder))
     check_stopped(seen, "apt-get install -y python3-aiohttp")
-    assert FILTER.exists()
