@@ -19,7 +19,7 @@ from dataclasses import dataclass
 from pathlib import Path
 from typing import Any, NamedTuple
 
-from commands import CommandResult, make_environment, run, start, wait_for
+from commands import ROOT, CommandResult, make_environment, run, start, wait_for
 
 RULES = """rules,1,1,,
 category,A,2,10,1
@@ -41,8 +41,9 @@ FILTER = Path(__file__).with_name("stand_in_filter.py")
 
 
 def find_filter() -> str:
-    """The filter that is tried."""
-    return os.environ.get("WDP_DESK") or str(FILTER)
+    """The filter that is tried: the one that is named, or the tree's, or what stands in for it."""
+    tree = ROOT / "wdp-desk"
+    return os.environ.get("WDP_DESK") or str(tree if tree.exists() else FILTER)
 
 
 class Answer(NamedTuple):

@@ -11,7 +11,7 @@ from functools import partial
 from pathlib import Path
 
 import pytest
-from commands import check_stopped, hide_library, run, run_program, wait_for
+from commands import check_stopped, hide_library, run, run_program
 from desks import (
     FORM_OF,
     MANY_BIDDERS,

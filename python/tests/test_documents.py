@@ -1,10 +1,13 @@
 """The commands of the pages, each page's in its order in a fresh clone: they run as they are there,
 and print what the page shows.
 """
+import contextlib
 import os
 import re
+import signal
 import subprocess
 import sys
+from collections.abc import Iterator
 from pathlib import Path
 from typing import NamedTuple
 
@@ -45,8 +48,13 @@ class Clone:
 
 
 @pytest.fixture
-def clone(tmp_path: Path, wdp: str) -> Clone:
-    return Clone(tmp_path, wdp)
+def clone(tmp_path: Path, wdp: str) -> Iterator[Clone]:
+    yield Clone(tmp_path, wdp)
+    served = tmp_path / "served.pid"
+    if served.exists():
+        # (the page ends the desk, unless a command before that failed)
+        with contextlib.suppress(ProcessLookupError):
+            os.kill(int(served.read_text()), signal.SIGTERM)
 
 
 class Step(NamedTuple):

@@ -17,6 +17,7 @@ StrPath = str | os.PathLike[str]
 
 _PACKAGE = os.path.dirname(os.path.realpath(__file__))
 _INSTALL = "make install in the tree of wdp installs it, or name it by program= or $WDP"
+_INSTALL_FILTER = "make install in the tree of wdp installs it, or name it by $WDP_DESK"
 _END_OF_MESSAGES = 65_536  # bytes at the end of standard error that are read: a refusal is one line
 _MOST_OF_MESSAGES = 256 * 1024 * 1024  # bytes of standard error, after which a program is ended
 _LOOK_EVERY = 0.25  # seconds, at how much a program has printed
@@ -32,14 +33,14 @@ def _find_tree() -> str | None:
     return root if is_tree else None
 
 
-def _find_beside() -> str:
-    """The path that the program has in the tree of this package, or where it was installed with
-    it: below the folder that has the package's `lib`, or else beside the package.
+def _find_beside(name: str = "wdp") -> str:
+    """The path that a program has in the tree of this package, or where it was installed with it:
+    below the folder that has the package's `lib`, or else beside the package.
     """
     if tree := _find_tree():
-        return os.path.join(tree, "wdp")
+        return os.path.join(tree, name)
     prefix = _PACKAGE.rpartition(f"{os.sep}lib{os.sep}")[0] or os.path.dirname(_PACKAGE)
-    return os.path.join(prefix, "bin", "wdp")
+    return os.path.join(prefix, "bin", name)
 
 
 def find_program(program: StrPath | None = None) -> str:
@@ -57,6 +58,18 @@ def find_program(program: StrPath | None = None) -> str:
     found = shutil.which(path)
     if found is None:
         raise NotFound(f"the program isn't found: {path}; {_INSTALL}")
+    return os.path.abspath(found)
+
+
+def find_filter() -> str:
+    """The path of `wdp-desk`: $WDP_DESK, else that of the package's tree or of where it was
+    installed with the package, else that on the PATH. Raises NotFound.
+    """
+    beside = _find_beside("wdp-desk")
+    path = os.environ.get("WDP_DESK") or (beside if os.path.isfile(beside) else "wdp-desk")
+    found = shutil.which(path)
+    if found is None:
+        raise NotFound(f"the program isn't found: {path}; {_INSTALL_FILTER}")
     return os.path.abspath(found)
 
 

@@ -7,10 +7,9 @@ from dataclasses import dataclass
 from pathlib import Path
 
 from wdp import files
-from wdp.desk.filter import find_filter
 from wdp.desk.journal import Entry, Front, JournalReader, replay
 from wdp.desk.receipts import Head, Receipt, parse_signed
-from wdp.texts.refusals import Refused
+from wdp.program import find_filter
 
 _MOST_OF_A_RECEIPT = 10_000
 _FORM = re.compile(r"^%form (\S+) ([0-9]+) ([0-9a-f]{64})$", re.MULTILINE)
@@ -141,6 +140,3 @@ def describe(said: Sequence[Said], journal: Journal) -> Iterator[str]:
         if each.said.bidder and each.said.answer in ("accepted", "withdrawn"):
             word += ", the last change" if last else ", which a later change replaced"
         yield f"{each.path}: entry {each.said.entry} is in the journal: {word}"
-
-
-__all__ = ["Journal", "Said", "Refused", "check", "describe", "read_forms", "read_said"]

@@ -4,31 +4,16 @@ from __future__ import annotations
 import asyncio
 import contextlib
 import fcntl
-import os
-import shutil
 import time
 from collections import deque
 from pathlib import Path
 
 from wdp.desk.calls import Reply, parse_reply
 from wdp.desk.journal import Front
-from wdp.program import find_program
-from wdp.texts.refusals import NotFound, Refused, Unclear
+from wdp.texts.refusals import Refused, Unclear
 
 _PATIENCE = 10  # seconds for the filter of a process that was killed to end
 _LONGEST_LINE = 1024 * 1024
-
-
-def find_filter() -> str:
-    """The path of `wdp-desk`: $WDP_DESK, else the one that is beside `wdp`, else that on the PATH.
-    Raises NotFound.
-    """
-    beside = Path(find_program()).with_name("wdp-desk")
-    named = os.environ.get("WDP_DESK") or (str(beside) if beside.is_file() else "wdp-desk")
-    found = shutil.which(named)
-    if found is None:
-        raise NotFound(f"the program isn't found: {named}; make install installs it beside wdp")
-    return os.path.abspath(found)
 
 
 class FilterEnded(Exception):

@@ -4,6 +4,7 @@
     rules.csv      the rules, as they are in the input
     keys.csv       the keys of the sessions, to be handed out and then deleted
     digests.csv    the SHA-256 of each key
+    renewals.csv   when which key was renewed
     signing.key    the key that signs receipts
     journal        what `wdp-desk` keeps
     room           space on the disk for withdrawals and the close

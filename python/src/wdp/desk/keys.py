@@ -13,6 +13,7 @@ from wdp.texts.refusals import Refused
 _KEY_SIZE = 24
 DIGESTS = "digests.csv"
 KEYS = "keys.csv"
+RENEWALS = "renewals.csv"
 
 
 @dataclass(frozen=True)
@@ -98,10 +99,15 @@ class Keys:
         """Whose key this is."""
         return self._sessions.get(_digest(key))
 
-    def renew(self, session: Session) -> str:
-        """A new key in the place of a session's, which is nobody's from now on."""
+    def renew(self, session: Session, time: str) -> str:
+        """A new key in the place of a session's, which is nobody's from now on; the folder has the
+        time of it.
+        """
         key = secrets.token_urlsafe(_KEY_SIZE)
         renewed = Keys(self._folder, {**self._digests, session: _digest(key)})
+        path = self._folder.path(RENEWALS)
+        before = self._folder.read_secret(RENEWALS) if path.exists() else b""
+        self._folder.write_secret(RENEWALS, before + format_rows([(time, *session.row)]))
         renewed._write()
         self._digests = renewed._digests
         self._sessions = renewed._sessions

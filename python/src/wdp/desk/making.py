@@ -6,7 +6,7 @@ from pathlib import Path
 from wdp import files
 from wdp.desk.clock import read_clock
 from wdp.desk.folder import DeskFolder, sync_folder, write_new
-from wdp.desk.keys import KEYS, Keys, format_rows, list_sessions
+from wdp.desk.keys import Keys, format_rows, list_sessions
 from wdp.desk.receipts import Signer
 from wdp.desk.sealing import read_public_key
 from wdp.office.auction_files import AuctionFiles
@@ -59,6 +59,3 @@ def make_desk(program: str, where: Path, rules_path: str, *, closes: int, holder
     finally:
         files.remove(made)
     return len(sessions)
-
-
-__all__ = ["KEYS", "make_desk", "read_rules"]

@@ -4,11 +4,10 @@ from pathlib import Path
 from cryptography.hazmat.primitives.asymmetric.x25519 import X25519PrivateKey
 
 from wdp import files
-from wdp.desk.filter import find_filter
 from wdp.desk.journal import Entry, JournalReader, State, replay
 from wdp.desk.sealing import unseal
 from wdp.office.settled import FORMS, INPUT, OPENINGS, format_digests
-from wdp.program import Limits, ask
+from wdp.program import Limits, ask, find_filter
 from wdp.texts.parts import MOST_OF_INPUT
 from wdp.texts.refusals import Refused
 

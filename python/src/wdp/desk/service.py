@@ -19,7 +19,7 @@ from wdp.desk.calls import (
     format_submit,
     format_withdraw,
 )
-from wdp.desk.clock import Clock, Jumped
+from wdp.desk.clock import Clock, Jumped, format_time
 from wdp.desk.filter import Filter
 from wdp.desk.journal import Entry, Front
 from wdp.desk.keys import OFFICE, Keys, Session
@@ -327,4 +327,4 @@ class Desk:
 
     def renew(self, session: Session) -> Outcome:
         """A new key for a session."""
-        return Outcome("key", key=self.keys.renew(session))
+        return Outcome("key", key=self.keys.renew(session, format_time(self.clock.now())))

@@ -18,7 +18,7 @@ from aiohttp.web_protocol import RequestHandler
 
 from wdp.desk.accounts import Account, Accounts
 from wdp.desk.clock import MOST_OF_A_JUMP, Clock, format_time
-from wdp.desk.filter import Filter, find_filter
+from wdp.desk.filter import Filter
 from wdp.desk.folder import SOCKET, DeskFolder, short_path
 from wdp.desk.journal import Front, JournalReader
 from wdp.desk.keys import Keys, list_sessions, parse_rows
@@ -31,7 +31,7 @@ from wdp.desk.service import Desk
 from wdp.desk.web import Site
 from wdp.files import map_errors
 from wdp.folder import Folder
-from wdp.program import find_program
+from wdp.program import find_filter, find_program
 from wdp.texts.accepted import AcceptedRules, parse_rules
 from wdp.texts.refusals import Refused
 from wdp.texts.tables import Records, compute_digest, decode
