@@ -136,7 +136,7 @@ class Served:
             self.lines.append(line.decode())
 
     def wait_until_up(self) -> None:
-        wait_for(lambda: self.is_up or self.process.poll() is not None, 60)
+        wait_for(lambda: self.is_up or self.process.poll() is not None)
         assert self.is_up, self.lines
 
     @property
@@ -149,7 +149,7 @@ class Served:
         return self.wait()
 
     def wait(self) -> int:
-        status = self.process.wait(60)
+        status = self.process.wait(300)
         self._reading.join(10)
         assert not any("Traceback" in line for line in self.lines), "".join(self.lines)
         return status

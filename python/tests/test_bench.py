@@ -66,6 +66,7 @@ MEASURING = {
     "outcomes": ["near_target 3 6 4 3", EXAMPLES / "worked.txt", "--before", ROOT, "--cbc", "1"],
     "peers": ["--rounds", "1", "--wdp", "@", "explain"],
     "hostile": ["--rounds", "1", "--wdp", "@", "submitted"],
+    "desk": ["load", "--sessions", "2", "--bids", "1-2", "--port", "18480"],
 }
 SHOWN = {
     "certificates": "(?s).*that nobody wins more: made in .*prices: made in .*that nobody else wins as much: made in",
@@ -73,6 +74,7 @@ SHOWN = {
     r"  of 4 groups 4 have the same total, 4 the same cost, 4 the same winners; the prices come to 30 before and to 30 now\n"
     r"  cbc alone, 1 groups",
     "peers": r"(?s).*\| explain",
+    "desk": r"(?s)2 sessions at once.*\n  floor .*'accepted': 2.*\n  service .*'accepted': 2.* times the floor's processor time\n$",
     "hostile": r"(?s).*\| submitted .*\n\n[01] within bounds, [01] beyond\n$",
 }
 # (on a machine that does other work a time may be beyond its bound)

@@ -4,7 +4,6 @@ receipts.
 from __future__ import annotations
 
 import asyncio
-import contextlib
 from collections import defaultdict
 from collections.abc import Coroutine
 from dataclasses import dataclass
@@ -20,7 +19,7 @@ from wdp.desk.calls import (
     format_withdraw,
 )
 from wdp.desk.clock import Clock, Jumped, format_time
-from wdp.desk.filter import Filter
+from wdp.desk.filter import Filter, FilterEnded
 from wdp.desk.journal import Entry, Front
 from wdp.desk.keys import OFFICE, Keys, Session
 from wdp.desk.outcomes import Outcome
@@ -128,10 +127,10 @@ class Desk:
     async def watch(self) -> None:
         """Closes the round when its time has come; ends earlier if the clock was set."""
         while self.accounts.is_open:
-            with contextlib.suppress(Jumped):
+            try:
                 if (now := self.stamp()) >= self.front.closes:
                     await self.close(now)
-            if self.stopped:
+            except (Jumped, FilterEnded):
                 return
             left = (self.front.closes - self.clock.last) / 1_000_000
             await asyncio.sleep(min(max(left, 0.001), _TICK))
@@ -173,7 +172,7 @@ class Desk:
         is_again = stands is not None and stands.known.commitment == reading.form.value
         if not is_again and not account.has_budget(session.number, changes=over == account.number):
             return Outcome("too many", number=account.number)
-        if not self._room.is_kept:
+        if not is_again and not self._room.is_kept:
             return Outcome("disk full")
         caller = Caller(session.bidder, session.number, call.arrived)
         data = format_submit(caller, over, reading.form, text=reading.text, sealed=reading.sealed)

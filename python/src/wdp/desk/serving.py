@@ -252,11 +252,10 @@ async def _wait_for_end(desk: Desk, where: Path, say: Say) -> int:
         if desk.stopped:
             (where / "stopped").write_text(f"{desk.stopped}\n")
             say(f"{desk.stopped}: the desk has stopped; set the clock right, and start it again")
-            return JUMPED
-        if asked in done:
+        if desk.stopped or asked in done:
             with contextlib.suppress(asyncio.TimeoutError):
                 await asyncio.wait_for(desk.wait_until_idle(), _END_SECONDS)
-            return 0
+            return JUMPED if desk.stopped else 0
         if was_open and not desk.accounts.is_open:
             was_open = False
             say(f"the round is closed, with {desk.accounts.entries} entries")
