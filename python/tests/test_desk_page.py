@@ -51,7 +51,7 @@ class Tab:
 
     async def wait(self, text: str) -> None:
         """Waits until this holds in the page."""
-        for _ in range(1_200):
+        for _ in range(6_000):
             if await self.evaluate(text):
                 return
             await asyncio.sleep(0.1)
@@ -115,7 +115,7 @@ async def open_tab(folder: Path) -> AsyncIterator[Tab]:
     with open(log, "wb") as file:
         process = subprocess.Popen(words, stderr=file, stdout=subprocess.DEVNULL)
     try:
-        for _ in range(1_200):
+        for _ in range(6_000):
             if match := re.search(
                 r"DevTools listening on ws://([^/]+)/", log.read_text("utf-8", "replace")
             ):
