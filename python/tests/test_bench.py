@@ -10,6 +10,8 @@ from commands import EXAMPLES, ROOT, read_text, make_environment, run_program, p
 BENCH = ROOT / "bench"
 # what isn't run: modules that scripts import, and what `hostile` compiles
 PARTS = {"README.md", "measuring.py", "hostile_texts", "colliding_names.c", "__pycache__"}
+# what needs LibreOffice
+PARTS |= {"shown_workbooks"}
 
 # generators: their words, and how many columns group 1's program has and groups there are
 GENERATORS = """
@@ -67,6 +69,8 @@ MEASURING = {
     "peers": ["--rounds", "1", "--wdp", "@", "explain"],
     "hostile": ["--rounds", "1", "--wdp", "@", "submitted"],
     "desk": ["load", "--sessions", "2", "--bids", "1-2", "--port", "18480"],
+    "hostile_workbooks": ["lying"],
+    "mutated_workbooks": ["20"],
 }
 SHOWN = {
     "certificates": "(?s).*that nobody wins more: made in .*prices: made in .*that nobody else wins as much: made in",
@@ -76,9 +80,11 @@ SHOWN = {
     "peers": r"(?s).*\| explain",
     "desk": r"(?s)2 sessions at once.*\n  floor .*'accepted': 2.*\n  service .*'accepted': 2.* times the floor's processor time\n$",
     "hostile": r"(?s).*\| submitted .*\n\n[01] within bounds, [01] beyond\n$",
+    "hostile_workbooks": r"(?s).*\| lying .*\n\n[01] within bounds, [01] beyond\n$",
+    "mutated_workbooks": r"\d+ read, \d+ refused, 0 in tracebacks\n$",
 }
 # (on a machine that does other work a time may be beyond its bound)
-STATUSES = {"hostile": (0, 1)}
+STATUSES = {"hostile": (0, 1), "hostile_workbooks": (0, 1)}
 
 
 @pytest.mark.parametrize("name", MEASURING)

@@ -140,7 +140,7 @@ class Auction:
         sheet, CSV with semicolons, UTF-16. Raises what Auction(..) does, NotFound if a file isn't
         there, and Refused if it can't be read, or if its last line has no end, as in a file that
         was cut off: `allow_unended` says that such files are complete. Warns of a workbook's
-        numbers that their formats show as others.
+        cells that look different from others, or are under a condition, a comment or a drawing.
         """
         if isinstance(forms, (str, bytes, os.PathLike)):
             paths = [forms]

@@ -141,7 +141,7 @@ conditionalFormatting | cfRule* extLst | a rule
 cfRule | @type @dxfId | read: its kind, and what it gives to cells
 cfRule | @priority @stopIfTrue @aboveAverage @percent @bottom @operator @text | when it does that
 cfRule | @timePeriod @rank @stdDev @equalAverage | when it does that
-cfRule | formula* colorScale dataBar extLst | when it does that; read: colours, a bar
+cfRule | formula* colorScale dataBar iconSet extLst | when it does that; read: colours, a bar, icons
 colorScale | cfvo* color* | where colours begin; read: colours
 dataBar | @showValue @minLength @maxLength | read: whether the value is shown; how long it is
 dataBar | cfvo* color | where it begins; read: its colour

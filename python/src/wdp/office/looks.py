@@ -351,7 +351,10 @@ class Styles:
 
     def _make_look(self, style: Element, part: Names) -> Look:
         number = style.get("numFmtId", "0")
-        number_format = self.formats.get(number, NumberFormat(f"number {number}"))
+        number_format = self.formats.get(number)
+        if number_format is None:
+            why = f"its format has the number {quote(number)}, which isn't known"
+            return Look(NumberFormat(GENERAL), hides=why)
         font = _pick(self.fonts, style.get("fontId", "0"))
         fill = _pick(self.fills, style.get("fillId", "0"))
         if font is None:

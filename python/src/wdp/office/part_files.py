@@ -26,8 +26,8 @@ class PartReader:
     `allow_unended` says that the last line of a file may lack its end.
 
     Each call raises WrongArgument if it isn't given a path, NotFound if there is no such file, and
-    Refused if it can't be read. What the receipt of `gather` would say of numbers that are shown as
-    others is a warning.
+    Refused if it can't be read. What the receipt of `gather` would say of the look of cells is a
+    warning.
     """
 
     sheet: str | None = None
