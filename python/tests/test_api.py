@@ -19,6 +19,7 @@ import pytest
 
 import wdp
 import workbooks
+from odd_workbooks import ODD, make_odd
 from commands import matches, parse_rows, read_text
 from trials.cases import read_case
 from wdp import example
@@ -211,13 +212,13 @@ def test_an_auction_of_files(tmp_path: Path) -> None:
     check_worked(wdp.Auction.from_files(paths[0], paths[1:4], paths[4]))
 
 
-def test_a_number_that_a_workbook_shows_as_another_one_is_a_warning(tmp_path: Path) -> None:
+def test_a_cell_of_a_workbook_that_looks_different_is_a_warning(tmp_path: Path) -> None:
     """Nobody reads a receipt here."""
     rules = "rules,1,1,,\ncategory,Low,9,0,0\ncategory,High,9,0,0\nbidder,Fox,9,1,\n"
     (tmp_path / "rules.csv").write_text(rules)
     form = tmp_path / "Fox\n.xlsx"
-    form.write_bytes(workbooks.make_workbook("styles_02"))
-    shown = r"form 1: .*Fox\\n\.xlsx: 2 numbers shown as another number by its format: A3 "
+    form.write_bytes(make_odd(ODD["a drawing over a bid"][0]))
+    shown = r"form 1: .*Fox\\n\.xlsx: 2 cells under a drawing: A3, B3"
     with pytest.warns(UserWarning, match=shown) as caught:
         wdp.Auction.from_files(tmp_path / "rules.csv", form)
     assert [warning.filename for warning in caught] == [__file__]

@@ -245,12 +245,12 @@ def test_another_form_counts(office: Office) -> None:
     ]
 
 
-def test_a_number_that_a_form_shows_as_another_one_is_named(office: Office) -> None:
-    body = workbooks.make_body([["Gamma", "A"], [25, 1]], ' s="1"')
+def test_a_number_of_a_form_that_is_wider_than_its_column_is_named(office: Office) -> None:
+    body = workbooks.make_body([["Gamma", "A"], [25, 1]])
     path = office.folder / "gamma.xlsx"
-    path.write_bytes(workbooks.make_one(body, formats=["#,##0,"]))
+    path.write_bytes(workbooks.make_one('<cols><col min="1" max="1" width="1"/></cols>' + body))
     seen = office.begin_from("old", "shown", "--form", path, "--quiet")
-    shown = "2 numbers shown as another number by its format: A2 (#,##0,), B2 (#,##0,)"
+    shown = "1 number wider than the column: A2"
     assert seen.err.splitlines()[0] == f"auction: {path}: {shown}"
 
 

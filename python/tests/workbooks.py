@@ -360,7 +360,7 @@ def bombs(turn: int, rows: list[list[Any]]) -> bytes:
     return made[turn % len(made)]()
 
 
-# of numbers; after the first ones it is said that they show another number
+# of numbers; the first ones are those that show another number
 FORMATS = ["0", "#,##0", "General", "[$£-809]#,##0", '#,##0" pounds"', "0.00", "0;-0;;@"]
 SCALED = ["#,##0,", "0,,", "0%", "0&quot;000&quot;", "#,##0,&quot;k&quot;", "0\\0\\0"]
 UNSEEN = [";;;", "&quot;many&quot;", "yyyy-mm-dd", "h:mm", "[h]:mm", "d. mmm"]
@@ -564,8 +564,8 @@ def read_taken(path: Path) -> tuple[File | None, str]:
 
 
 def compare(folder: Path, path: Path, file: File) -> tuple[str, str]:
-    """Whether LibreOffice shows what is read of the same sheet, or the receipt names what is shown
-    as another number; and both.
+    """Whether LibreOffice shows what is read of the same sheet, or the receipt names cells that look
+    different; and both.
     """
     shown = show_in_libreoffice(folder, path.stem)
     first = next(iter(file.rows)).places[0].rpartition("!")[0] if file.rows else "Bids"
@@ -575,7 +575,7 @@ def compare(folder: Path, path: Path, file: File) -> tuple[str, str]:
         for row, texts in zip(file.rows, rows)
         for value, text in zip_longest(row.values, texts, fillvalue="")
     )
-    is_named = any("shown as another number" in change for change in file.changes)
+    is_named = bool(file.warnings)
     kind = "same" if is_same else "named" if is_named else "wrong"
     return kind, f"{[row.values for row in file.rows]} {shown} {file.changes}"
 
