@@ -1,5 +1,5 @@
-"""Workbooks of which LibreOffice or Excel shows something else than their cells have, or might, each beside
-an innocent one. Nothing else is odd about them.
+"""Workbooks that may show something else than their cells have, and innocent ones beside them.
+Nothing else is odd about each of them.
 """
 import io
 import zipfile
@@ -19,9 +19,13 @@ BOOK = "xl/workbook.xml"
 PLAIN_FONT = "<font><sz val='11'/><name val='Calibri'/></font>"
 
 
-def make_styles(font: str = "", fill: str = "", code: str = "", xf: str = "", more: str = "") -> str:
+def make_styles(
+    font: str = "", fill: str = "", code: str = "", xf: str = "", more: str = ""
+) -> str:
     """Styles of cells: 0 is plain, and 1 has this font, fill, format, and what is said of it."""
-    formats = f"<numFmts count='1'><numFmt numFmtId='200' formatCode='{code}'/></numFmts>" if code else ""
+    formats = (
+        f"<numFmts count='1'><numFmt numFmtId='200' formatCode='{code}'/></numFmts>" if code else ""
+    )
     fonts = f"<fonts count='2'>{PLAIN_FONT}{font or PLAIN_FONT}</fonts>"
     none = "<fill><patternFill patternType='none'/></fill>"
     fills = f"<fills count='2'>{none}{fill or none}</fills>"
@@ -50,14 +54,20 @@ def given(look: str) -> dict[str, Any]:
 
 
 def scale(kind: str) -> dict[str, Any]:
-    return {"after": condition(f"<cfRule type='{kind[1:].partition(' ')[0].partition('>')[0]}' priority='1'>{kind}</cfRule>")}
+    return {
+        "after": condition(
+            f"<cfRule type='{kind[1:].partition(' ')[0].partition('>')[0]}' priority='1'>{kind}</cfRule>"
+        )
+    }
 
 
 def newer(rule: str) -> dict[str, Any]:
     """A condition as spreadsheets write it that is newer than ECMA-376."""
     inner = f"<x14:conditionalFormatting><x14:cfRule {rule}</x14:cfRule><xm:sqref>A2:A9</xm:sqref></x14:conditionalFormatting>"
     listed = f"<x14:conditionalFormattings>{inner}</x14:conditionalFormattings>"
-    return {"after": f"<extLst><ext uri='x' xmlns:x14='{X14}' xmlns:xm='{XM}'>{listed}</ext></extLst>"}
+    return {
+        "after": f"<extLst><ext uri='x' xmlns:x14='{X14}' xmlns:xm='{XM}'>{listed}</ext></extLst>"
+    }
 
 
 def linked(kind: str, target: str, text: str, kinds: str = OFFICE) -> dict[str, Any]:
@@ -65,6 +75,37 @@ def linked(kind: str, target: str, text: str, kinds: str = OFFICE) -> dict[str, 
     link = f'<Relationship Id="rId1" Type="{kinds}/{kind}" Target="../{target}"/>'
     rels = f'{HEAD}<Relationships xmlns="{LINKS}">{link}</Relationships>'
     return {"parts": {"xl/worksheets/_rels/sheet1.xml.rels": rels, f"xl/{target}": text}}
+
+
+def bars(more: str = "") -> dict[str, Any]:
+    """A bar in each amount's cell."""
+    ends = "<cfvo type='min'/><cfvo type='max'/>"
+    return scale(f"<dataBar{more}>{ends}<color rgb='FF00FF00'/></dataBar>")
+
+
+def colours(first: str, last: str) -> dict[str, Any]:
+    """Colours behind the amounts, from the least to the greatest."""
+    ends = "<cfvo type='min'/><cfvo type='max'/>"
+    both = f"<color rgb='FF{first}'/><color rgb='FF{last}'/>"
+    return scale(f"<colorScale>{ends}{both}</colorScale>")
+
+
+def gradient(first: str, last: str) -> str:
+    stops = ((0, first), (1, last))
+    made = (f"<stop position='{at}'><color rgb='FF{colour}'/></stop>" for at, colour in stops)
+    return f"<fill><gradientFill>{''.join(made)}</gradientFill></fill>"
+
+
+def table(style: str) -> dict[str, Any]:
+    """A table of all bids in a style."""
+    inner = f"<tableStyleInfo name='{style}' showRowStripes='1'/>"
+    root = f"<table xmlns='{MAIN}' id='1' name='T' displayName='T' ref='A1:C4'>{inner}</table>"
+    return linked("table", "table1.xml", root)
+
+
+def comment(cell: str) -> dict[str, Any]:
+    listed = f"<commentList><comment ref='{cell}'/></commentList>"
+    return linked("comments", "comments1.xml", f"<comments xmlns='{MAIN}'>{listed}</comments>")
 
 
 def anchor(begin: tuple[int, int], end: tuple[int, int]) -> str:
@@ -120,7 +161,10 @@ FORMAT = "A2: its format {} isn't known to show it as it is"
 IGNORED = f'xmlns:mc="{COMPATIBLE}" xmlns:x14ac="{AC}" mc:Ignorable="x14ac"'
 WHITE = "FFFFFFFF"
 BOOK_OLD = '<sheet name="Bids"'
-LATER = "<sheetData>{}</sheetData>"
+UNAPPLIED = make_styles(font=coloured("rgb='FF0000FF'"), xf="applyFont='0' xfId='0'")
+UNAPPLIED = UNAPPLIED.replace("<cellXfs", "<cellStyleXfs><xf fontId='0'/></cellStyleXfs><cellXfs")
+YELLOW_ROW = [(SHEET, '<c r="A3" ', '<c r="A3" s="1" ')]
+LARGE = make_styles(font="<font><sz val='60'/></font>")
 
 # the name of each kind, a workbook, and what is said of it: in part, or that it is taken without a word
 ODD: dict[str, tuple[Odd, str]] = {
@@ -131,128 +175,310 @@ ODD: dict[str, tuple[Odd, str]] = {
     "currency of a language": (styled(code="[$£-809]#,##0.00"), TAKEN),
     "colour in a format": (styled(code="[White]0"), FORMAT.format("'[White]0'")),
     "colour below zero": (styled(code="0;[Red]-0"), TAKEN),
-    "condition in a format": (styled(code="[&gt;4000]&quot;1&quot;;0"), FORMAT.format("'[>4000]\"1\";0'")),
+    "condition in a format": (
+        styled(code="[&gt;4000]&quot;1&quot;;0"),
+        FORMAT.format("'[>4000]\"1\";0'"),
+    ),
     "digits of another alphabet": (styled(code="[DBNum1]0"), FORMAT.format("'[DBNum1]0'")),
     "scientific": (styled(xf="numFmtId='11'"), FORMAT.format("'0.00E+00'")),
-    "blank before a number": (styled(xf="numFmtId=' 9'"), "A2: its format has the number ' 9', which isn't known"),
-    "unknown number of a format": (styled(xf="numFmtId='99'"), "A2: its format has the number '99', which isn't known"),
+    "blank before a number": (
+        styled(xf="numFmtId=' 9'"),
+        "A2: its format has the number ' 9', which isn't known",
+    ),
+    "unknown number of a format": (
+        styled(xf="numFmtId='99'"),
+        "A2: its format has the number '99', which isn't known",
+    ),
     "built-in with separators": (styled(xf="numFmtId='3'"), TAKEN),
     "dots for thousands": (styled(code="0\\.0"), FORMAT.format("'0\\.0'")),
     "fractions": (styled(code="# ?/?"), TAKEN),
     "fractions of eight": (styled(code="# ?/8"), FORMAT.format("'# ?/8'")),
     "accounting": (styled(code="_-* #,##0_-;-* #,##0_-;_-* &quot;-&quot;_-;_-@_-"), TAKEN),
-    "alignment fill": (styled(xf="<alignment horizontal='fill'/>"), "A2: its alignment 'fill' may repeat it"),
+    "alignment fill": (
+        styled(xf="<alignment horizontal='fill'/>"),
+        "A2: its alignment 'fill' may repeat it",
+    ),
     "alignment right": (styled(xf="<alignment horizontal='right'/>"), TAKEN),
     "turned": (styled(xf="<alignment textRotation='90'/>"), "A2: it is turned"),
     "shrunk": (styled(xf="<alignment shrinkToFit='1'/>"), "A2: it is made smaller to fit its cell"),
     "moved out of its cell": (styled(xf="<alignment indent='200'/>"), "A2: its indent is '200'"),
-    "struck through": (styled(font="<font><strike/><sz val='11'/></font>"), "A2: it is struck through"),
+    "struck through": (
+        styled(font="<font><strike/><sz val='11'/></font>"),
+        "A2: it is struck through",
+    ),
     "not struck through": (styled(font="<font><strike val='0'/><sz val='11'/></font>"), TAKEN),
-    "one point": (styled(font="<font><sz val='1'/></font>"), "A2: its font has '1' points, not 6 to 72"),
+    "one point": (
+        styled(font="<font><sz val='1'/></font>"),
+        "A2: its font has '1' points, not 6 to 72",
+    ),
     "eight points": (styled(font="<font><sz val='8'/></font>"), TAKEN),
-    "superscript": (styled(font="<font><vertAlign val='superscript'/></font>"), "A2: it is written above or below"),
-    "signs for digits": (styled(font="<font><name val='Wingdings'/></font>"), "A2: its font 'Wingdings' may have other signs"),
-    "characters of signs": (styled(font="<font><name val='X'/><charset val='2'/></font>"), "A2: its font 'X' may have other signs"),
-    "white on white": (styled(font=coloured("rgb='FFFFFFFF'")), "A2: the colour of its font, FFFFFF, can't be told from its fill, FFFFFF"),
-    "nearly white": (styled(font=coloured("rgb='FFCFCFCF'")), "A2: the colour of its font, CFCFCF, can't be told"),
+    "superscript": (
+        styled(font="<font><vertAlign val='superscript'/></font>"),
+        "A2: it is written above or below",
+    ),
+    "signs for digits": (
+        styled(font="<font><name val='Wingdings'/></font>"),
+        "A2: its font 'Wingdings' may have other signs",
+    ),
+    "characters of signs": (
+        styled(font="<font><name val='X'/><charset val='2'/></font>"),
+        "A2: its font 'X' may have other signs",
+    ),
+    "white on white": (
+        styled(font=coloured("rgb='FFFFFFFF'")),
+        "A2: the colour of its font, FFFFFF, can't be told from its fill, FFFFFF",
+    ),
+    "nearly white": (
+        styled(font=coloured("rgb='FFCFCFCF'")),
+        "A2: the colour of its font, CFCFCF, can't be told",
+    ),
     "grey": (styled(font=coloured("rgb='FFCECFCF'")), TAKEN),
-    "white by its number": (styled(font=coloured("indexed='9'")), "A2: the colour of its font, FFFFFF, can't be told"),
-    "white by the system": (styled(font=coloured("indexed='65'")), "A2: the colour of its font, FFFFFF, can't be told"),
-    "a tint of black": (styled(font=coloured("indexed='8' tint='0.95'")), "A2: the colour of its font, F2F2F2, can't be told"),
-    "a theme that isn't there": (styled(font=coloured("theme='1'")), "A2: the colour of its font isn't known"),
+    "white by its number": (
+        styled(font=coloured("indexed='9'")),
+        "A2: the colour of its font, FFFFFF, can't be told",
+    ),
+    "white by the system": (
+        styled(font=coloured("indexed='65'")),
+        "A2: the colour of its font, FFFFFF, can't be told",
+    ),
+    "a tint of black": (
+        styled(font=coloured("indexed='8' tint='0.95'")),
+        "A2: the colour of its font, F2F2F2, can't be told",
+    ),
+    "a theme that isn't there": (
+        styled(font=coloured("theme='1'")),
+        "A2: the colour of its font isn't known",
+    ),
     "automatic": (styled(font=coloured("auto='1'")), TAKEN),
     "white on blue": (styled(font=coloured("rgb='FFFFFFFF'"), fill=solid("FF0000FF")), TAKEN),
-    "black on black": (styled(fill=solid("FF000000")), "A2: the colour of its font, 000000, can't be told"),
+    "black on black": (
+        styled(fill=solid("FF000000")),
+        "A2: the colour of its font, 000000, can't be told",
+    ),
     "a pattern of black": (
         styled(fill="<fill><patternFill patternType='darkGray'/></fill>"),
         "A2: the colour of its font, 000000, can't be told",
     ),
     "a gradient through black": (
-        styled(fill=f"<fill><gradientFill>{''.join(f'<stop position={q}{at}{q}><color rgb={q}FF{c}{q}/></stop>' for at, c, q in ((0, '000000', chr(39)), (1, 'FFFFFF', chr(39))))}</gradientFill></fill>"),
+        styled(fill=gradient("000000", "FFFFFF")),
         "A2: the colour of its font, 000000, can't be told",
     ),
-    "one row filled": (Odd(styles=make_styles(fill=solid("FFFFFF00")), changes=[(SHEET, '<c r="A3" ', '<c r="A3" s="1" ')]), "1 cell with another look than most of the column: A3 (fill FFFF00)"),
+    "one row filled": (
+        Odd(styles=make_styles(fill=solid("FFFFFF00")), changes=YELLOW_ROW),
+        "1 cell with another look than most of the column: A3 (fill FFFF00)",
+    ),
     "a style that says it has no font": (
-        Odd(cell='s="1"', styles=make_styles(font=coloured("rgb='FF0000FF'"), xf="applyFont='0' xfId='0'").replace("<cellXfs", "<cellStyleXfs><xf fontId='0'/></cellStyleXfs><cellXfs")),
+        Odd(cell='s="1"', styles=UNAPPLIED),
         "A2: its style says by applyFont that it hasn't what it has",
     ),
-    "a format by a condition": (Odd(**given("<numFmt numFmtId='200' formatCode='0*0'/>")), "A2: a condition may change its format"),
-    "a colour by a condition": (Odd(**given("<font><color rgb='FFFFFFFF'/></font>")), "A2: a condition may change its font: colour"),
-    "a size by a condition": (Odd(**given("<font><sz val='1'/></font>")), "A2: a condition may change its font: size"),
-    "a strike by a condition": (Odd(**given("<font><strike/></font>")), "A2: a condition may change its font: struck through"),
-    "bold by a condition": (Odd(**given("<font><b/></font>")), "3 cells under a condition that may change the look: A2, A3, A4"),
-    "a fill by a condition": (Odd(**given("<fill><patternFill><bgColor rgb='FFFFFF00'/></patternFill></fill>")), "3 cells under a condition"),
-    "a black fill by a condition": (Odd(**given("<fill><patternFill><bgColor rgb='FF101010'/></patternFill></fill>")), "A2: a condition may put a fill behind it, 101010"),
-    "icons": (Odd(**scale("<iconSet showValue='0'><cfvo type='min'/></iconSet>")), "A2: a condition puts an icon beside its number"),
-    "bars alone": (Odd(**scale("<dataBar showValue='0'><cfvo type='min'/><cfvo type='max'/><color rgb='FF00FF00'/></dataBar>")), "A2: a condition shows a bar in place of its number"),
-    "bars": (Odd(**scale("<dataBar><cfvo type='min'/><cfvo type='max'/><color rgb='FF00FF00'/></dataBar>")), "3 cells under a condition"),
-    "a scale to black": (Odd(**scale("<colorScale><cfvo type='min'/><cfvo type='max'/><color rgb='FFFFFFFF'/><color rgb='FF000000'/></colorScale>")), "A2: a condition may put a fill behind it"),
-    "a scale of light colours": (Odd(**scale("<colorScale><cfvo type='min'/><cfvo type='max'/><color rgb='FFFFFFFF'/><color rgb='FFFF8080'/></colorScale>")), "3 cells under a condition"),
-    "newer bars alone": (Odd(**newer("type='dataBar'><x14:dataBar showValue='0'/>")), "A2: a condition shows a bar in place of its number"),
-    "newer icons": (Odd(**newer("type='iconSet'><x14:iconSet/>")), "A2: a condition puts an icon beside its number"),
-    "newer formats": (Odd(**newer("type='expression'><x14:dxf><numFmt numFmtId='9' formatCode='0%'/></x14:dxf>")), "A2: a condition may change its format"),
-    "a condition elsewhere": (Odd(after=condition("<cfRule type='iconSet' priority='1'/>", "E5:F9")), TAKEN),
-    "an extension that nobody knows": (Odd(after="<extLst><ext><x xmlns='y'/></ext></extLst>"), "it has the extension 'x'"),
-    "merged from below": (Odd(after="<mergeCells><mergeCell ref='C3:A2'/></mergeCells>"), "its merged cells 'C3:A2' aren't understood"),
-    "merged before the rows": (Odd(before="<mergeCells><mergeCell ref='A2:C3'/></mergeCells>"), "B2: it is covered by the merged cells A2:C3"),
-    "merged beside the bids": (Odd(after="<mergeCells><mergeCell ref='E1:F9'/></mergeCells>"), TAKEN),
+    "a format by a condition": (
+        Odd(**given("<numFmt numFmtId='200' formatCode='0*0'/>")),
+        "A2: a condition may change its format",
+    ),
+    "a colour by a condition": (
+        Odd(**given("<font><color rgb='FFFFFFFF'/></font>")),
+        "A2: a condition may change its font: colour",
+    ),
+    "a size by a condition": (
+        Odd(**given("<font><sz val='1'/></font>")),
+        "A2: a condition may change its font: size",
+    ),
+    "a strike by a condition": (
+        Odd(**given("<font><strike/></font>")),
+        "A2: a condition may change its font: struck through",
+    ),
+    "bold by a condition": (
+        Odd(**given("<font><b/></font>")),
+        "3 cells under a condition that may change the look: A2, A3, A4",
+    ),
+    "a fill by a condition": (
+        Odd(**given("<fill><patternFill><bgColor rgb='FFFFFF00'/></patternFill></fill>")),
+        "3 cells under a condition",
+    ),
+    "a black fill by a condition": (
+        Odd(**given("<fill><patternFill><bgColor rgb='FF101010'/></patternFill></fill>")),
+        "A2: a condition may put a fill behind it, 101010",
+    ),
+    "icons": (
+        Odd(**scale("<iconSet showValue='0'><cfvo type='min'/></iconSet>")),
+        "A2: a condition puts an icon beside its number",
+    ),
+    "bars alone": (
+        Odd(**bars(" showValue='0'")),
+        "A2: a condition shows a bar in place of its number",
+    ),
+    "bars": (Odd(**bars()), "3 cells under a condition"),
+    "a scale to black": (
+        Odd(**colours("FFFFFF", "000000")),
+        "A2: a condition may put a fill behind it",
+    ),
+    "a scale of light colours": (Odd(**colours("FFFFFF", "FF8080")), "3 cells under a condition"),
+    "newer bars alone": (
+        Odd(**newer("type='dataBar'><x14:dataBar showValue='0'/>")),
+        "A2: a condition shows a bar in place of its number",
+    ),
+    "newer icons": (
+        Odd(**newer("type='iconSet'><x14:iconSet/>")),
+        "A2: a condition puts an icon beside its number",
+    ),
+    "newer formats": (
+        Odd(**newer("type='expression'><x14:dxf><numFmt numFmtId='9' formatCode='0%'/></x14:dxf>")),
+        "A2: a condition may change its format",
+    ),
+    "a condition elsewhere": (
+        Odd(after=condition("<cfRule type='iconSet' priority='1'/>", "E5:F9")),
+        TAKEN,
+    ),
+    "an extension that nobody knows": (
+        Odd(after="<extLst><ext><x xmlns='y'/></ext></extLst>"),
+        "it has the extension 'x'",
+    ),
+    "merged from below": (
+        Odd(after="<mergeCells><mergeCell ref='C3:A2'/></mergeCells>"),
+        "its merged cells 'C3:A2' aren't understood",
+    ),
+    "merged before the rows": (
+        Odd(before="<mergeCells><mergeCell ref='A2:C3'/></mergeCells>"),
+        "B2: it is covered by the merged cells A2:C3",
+    ),
+    "merged beside the bids": (
+        Odd(after="<mergeCells><mergeCell ref='E1:F9'/></mergeCells>"),
+        TAKEN,
+    ),
     "a row of a collapsed group": (
         Odd(row='outlineLevel="1"', changes=[(SHEET, '<row r="4"', '<row r="4" collapsed="1"')]),
         "A3: its row is in a group, of which one is collapsed",
     ),
     "a row of an open group": (Odd(row='outlineLevel="1"'), TAKEN),
     "columns of a collapsed group": (
-        Odd(before="<cols><col min='2' max='2' outlineLevel='1'/><col min='4' max='4' collapsed='1'/></cols>"),
+        Odd(
+            before="<cols><col min='2' max='2' outlineLevel='1'/><col min='4' max='4' collapsed='1'/></cols>"
+        ),
         "B1: its column is in a group, of which one is collapsed",
     ),
     "a row lower than its digits": (Odd(row='ht="3"'), "A3: its row is hidden"),
-    "a large font in a low row": (Odd(cell='s="1"', styles=make_styles(font="<font><sz val='60'/></font>"), row='ht="15"'), "A3: its row is lower than half its font"),
-    "a number wider than its column": (Odd(before="<cols><col min='1' max='1' width='3'/></cols>"), "3 numbers wider than the column: A2, A3, A4"),
-    "a filter that is set": (Odd(after="<autoFilter ref='A1:C4'><filterColumn colId='0'/></autoFilter>"), "a filter may hide its rows"),
+    "a large font in a low row": (
+        Odd(cell='s="1"', styles=LARGE, row='ht="15"'),
+        "A3: its row is lower than half its font",
+    ),
+    "a number wider than its column": (
+        Odd(before="<cols><col min='1' max='1' width='3'/></cols>"),
+        "3 numbers wider than the column: A2, A3, A4",
+    ),
+    "a filter that is set": (
+        Odd(after="<autoFilter ref='A1:C4'><filterColumn colId='0'/></autoFilter>"),
+        "a filter may hide its rows",
+    ),
     "a filter that isn't set": (Odd(after="<autoFilter ref='A1:C4'/>"), TAKEN),
-    "formulas in place of values": (Odd(before="<sheetViews><sheetView showFormulas='1' workbookViewId='0'/></sheetViews>"), "its window shows formulas"),
+    "formulas in place of values": (
+        Odd(before="<sheetViews><sheetView showFormulas='1' workbookViewId='0'/></sheetViews>"),
+        "its window shows formulas",
+    ),
     "frozen below the first bids": (
-        Odd(before="<sheetViews><sheetView topLeftCell='A3' workbookViewId='0'><pane ySplit='1' state='frozen'/></sheetView></sheetViews>"),
+        Odd(
+            before="<sheetViews><sheetView topLeftCell='A3' workbookViewId='0'><pane ySplit='1' state='frozen'/></sheetView></sheetViews>"
+        ),
         "A1: nobody can reach it: the window is frozen from 'A3' on",
     ),
-    "frozen heads": (Odd(before="<sheetViews><sheetView workbookViewId='0'><pane ySplit='1' topLeftCell='A2' state='frozen'/></sheetView></sheetViews>"), TAKEN),
-    "scenarios": (Odd(after="<scenarios/>"), "in 'worksheet' there is 'scenarios', which isn't understood"),
+    "frozen heads": (
+        Odd(
+            before="<sheetViews><sheetView workbookViewId='0'><pane ySplit='1' topLeftCell='A2' state='frozen'/></sheetView></sheetViews>"
+        ),
+        TAKEN,
+    ),
+    "scenarios": (
+        Odd(after="<scenarios/>"),
+        "in 'worksheet' there is 'scenarios', which isn't understood",
+    ),
     "a comment": (
-        Odd(**linked("comments", "comments1.xml", f"<comments xmlns='{MAIN}'><commentList><comment ref='B3'/></commentList></comments>")),
+        Odd(**comment("B3")),
         "1 cell with a comment: B3",
     ),
-    "a drawing over a bid": (Odd(**linked("drawing", "drawing1.xml", anchor((0, 2), (1, 2)))), "2 cells under a drawing: A3, B3"),
-    "a drawing beside the bids": (Odd(**linked("drawing", "drawing1.xml", anchor((5, 2), (9, 9)))), TAKEN),
-    "a pivot": (Odd(**linked("pivotTable", "pivot1.xml", "<x/>")), "its sheet has a 'pivotTable', which isn't understood"),
+    "a drawing over a bid": (
+        Odd(**linked("drawing", "drawing1.xml", anchor((0, 2), (1, 2)))),
+        "2 cells under a drawing: A3, B3",
+    ),
+    "a drawing beside the bids": (
+        Odd(**linked("drawing", "drawing1.xml", anchor((5, 2), (9, 9)))),
+        TAKEN,
+    ),
+    "a pivot": (
+        Odd(**linked("pivotTable", "pivot1.xml", "<x/>")),
+        "its sheet has a 'pivotTable', which isn't understood",
+    ),
     "a table of the usual style": (
-        Odd(**linked("table", "table1.xml", f"<table xmlns='{MAIN}' id='1' name='T' displayName='T' ref='A1:C4'><tableStyleInfo name='TableStyleMedium9' showRowStripes='1'/></table>")),
+        Odd(**table("TableStyleMedium9")),
         TAKEN,
     ),
     "a table of a dark style": (
-        Odd(**linked("table", "table1.xml", f"<table xmlns='{MAIN}' id='1' name='T' displayName='T' ref='A1:C4'><tableStyleInfo name='TableStyleDark1'/></table>")),
+        Odd(**table("TableStyleDark1")),
         "A1: its table has the style 'TableStyleDark1', which may colour it",
     ),
-    "an id of no namespace": (Odd(changes=[(BOOK, BOOK_OLD, f'{BOOK_OLD} id="rId9"')]), "its 'sheet' has the attribute 'id', which isn't understood"),
+    "an id of no namespace": (
+        Odd(changes=[(BOOK, BOOK_OLD, f'{BOOK_OLD} id="rId9"')]),
+        "its 'sheet' has the attribute 'id', which isn't understood",
+    ),
     "sheets in an extension": (
-        Odd(changes=[(BOOK, "<sheets>", '<extLst><sheet name="Ghost" sheetId="7" r:id="rId1"/></extLst><sheets>')]),
+        Odd(
+            changes=[
+                (
+                    BOOK,
+                    "<sheets>",
+                    '<extLst><sheet name="Ghost" sheetId="7" r:id="rId1"/></extLst><sheets>',
+                )
+            ]
+        ),
         "in 'workbook' there is 'sheets' out of its order",
     ),
-    "an attribute that isn't known": (Odd(row='shown="0"'), "A3: its 'row' has the attribute 'shown', which isn't understood"),
-    "an attribute that may be ignored": (Odd(row='x14ac:dyDescent="0.25" spans="1:3" thickBot="1"', root=IGNORED), TAKEN),
-    "an attribute of a namespace": (Odd(row='x14ac:dyDescent="0.25"', root=f'xmlns:x14ac="{AC}"'), "A3: its 'row' has the attribute"),
-    "what must be known": (Odd(root=f'xmlns:mc="{COMPATIBLE}" mc:ProcessContent="x"'), "its 'worksheet' has the attribute 'mc:ProcessContent'"),
-    "rows that may be ignored": (Odd(root=f'xmlns:mc="{COMPATIBLE}" xmlns:m="{MAIN}" mc:Ignorable="m"'), "its XML ignores 'm', which isn't understood"),
-    "an error with a number": (Odd(changes=[(SHEET, '<c r="A3" ', '<c r="A3" t="e" ')]), "A3: its value '9900' isn't understood"),
-    "a date with a number": (Odd(changes=[(SHEET, '<c r="A3" ', '<c r="A3" t="d" ')]), "A3: its value '9900' isn't understood"),
+    "an attribute that isn't known": (
+        Odd(row='shown="0"'),
+        "A3: its 'row' has the attribute 'shown', which isn't understood",
+    ),
+    "an attribute that may be ignored": (
+        Odd(row='x14ac:dyDescent="0.25" spans="1:3" thickBot="1"', root=IGNORED),
+        TAKEN,
+    ),
+    "an attribute of a namespace": (
+        Odd(row='x14ac:dyDescent="0.25"', root=f'xmlns:x14ac="{AC}"'),
+        "A3: its 'row' has the attribute",
+    ),
+    "what must be known": (
+        Odd(root=f'xmlns:mc="{COMPATIBLE}" mc:ProcessContent="x"'),
+        "its 'worksheet' has the attribute 'mc:ProcessContent'",
+    ),
+    "rows that may be ignored": (
+        Odd(root=f'xmlns:mc="{COMPATIBLE}" xmlns:m="{MAIN}" mc:Ignorable="m"'),
+        "its XML ignores 'm', which isn't understood",
+    ),
+    "an error with a number": (
+        Odd(changes=[(SHEET, '<c r="A3" ', '<c r="A3" t="e" ')]),
+        "A3: its value '9900' isn't understood",
+    ),
+    "a date with a number": (
+        Odd(changes=[(SHEET, '<c r="A3" ', '<c r="A3" t="d" ')]),
+        "A3: its value '9900' isn't understood",
+    ),
     "an array that spills": (
         Odd(changes=[(SHEET, "<v>9900</v>", "<f t='array' ref='A3:C3'>x</f><v>9900</v>")]),
         "1 formula taken by their stored values: A3, B3, C3",
     ),
-    "a value of an image": (Odd(changes=[(SHEET, '<c r="A3" ', '<c r="A3" vm="1" ')]), "A3: its 'c' has the attribute 'vm', which isn't understood"),
-    "many digits": (Odd(changes=[(SHEET, "<v>9900</v>", "<v>123456789012</v>")]), "A3: its format 'General' isn't known to show it as it is"),
-    "more digits than are shown": (Odd(changes=[(SHEET, "<v>9900</v>", "<v>1234567890123456</v>")]), "A3: it has more than the 15 digits that spreadsheets show"),
+    "a value of an image": (
+        Odd(changes=[(SHEET, '<c r="A3" ', '<c r="A3" vm="1" ')]),
+        "A3: its 'c' has the attribute 'vm', which isn't understood",
+    ),
+    "many digits": (
+        Odd(changes=[(SHEET, "<v>9900</v>", "<v>123456789012</v>")]),
+        "A3: its format 'General' isn't known to show it as it is",
+    ),
+    "more digits than are shown": (
+        Odd(changes=[(SHEET, "<v>9900</v>", "<v>1234567890123456</v>")]),
+        "A3: it has more than the 15 digits that spreadsheets show",
+    ),
     "a text shown as another": (
-        Odd(styles=make_styles(code="0;0;0;&quot;High&quot;"), changes=[(SHEET, '<c r="B1"', '<c r="B1" s="1"')]),
+        Odd(
+            styles=make_styles(code="0;0;0;&quot;High&quot;"),
+            changes=[(SHEET, '<c r="B1"', '<c r="B1" s="1"')],
+        ),
         "B1: its format '0;0;0;\"High\"' isn't known to show it as it is",
     ),
 }

@@ -1,8 +1,9 @@
-"""Workbooks that show something else than their cells have, and innocent ones beside them; what other programs write; damaged
-ones; and what the libraries of archives and XML raise.
+"""Workbooks that show something else than their cells have, and innocent ones beside them; what
+other programs write; damaged ones; and what the libraries of archives and XML raise.
 
 MUTATED in the environment is how many damaged workbooks are read, by default 200.
 """
+import io
 import os
 import random
 from collections.abc import Callable
@@ -32,7 +33,9 @@ def test_what_is_odd_is_refused_or_named_and_what_is_not_is_taken(name: str) -> 
 
 
 def test_damaged_workbooks_are_read_or_refused() -> None:
-    whole = [workbooks.make_workbook(name) for name in ("plain_00", "styles_05", "values_04", "texts_00")]
+    whole = [
+        workbooks.make_workbook(name) for name in ("plain_00", "styles_05", "values_04", "texts_00")
+    ]
     refused = 0
     for seed in range(MUTATED):
         draw = random.Random(seed)
@@ -54,8 +57,6 @@ def test_an_encoding_that_no_spreadsheet_writes(office: OfficeFolder, encoding: 
 
 
 def write_by_xlsxwriter(rows: workbooks.Rows) -> bytes:
-    import io
-
     xlsxwriter = pytest.importorskip("xlsxwriter")
     data = io.BytesIO()
     book = xlsxwriter.Workbook(data)
@@ -68,8 +69,6 @@ def write_by_xlsxwriter(rows: workbooks.Rows) -> bytes:
 
 
 def write_by_pandas(rows: workbooks.Rows) -> bytes:
-    import io
-
     pandas = pytest.importorskip("pandas")
     data = io.BytesIO()
     pandas.DataFrame(rows[1:], columns=rows[0]).to_excel(data, sheet_name="Bids", index=False)
