@@ -450,6 +450,14 @@ ODD: dict[str, tuple[Odd, str]] = {
         Odd(root=f'xmlns:mc="{COMPATIBLE}" xmlns:m="{MAIN}" mc:Ignorable="m"'),
         "its XML ignores 'm', which isn't understood",
     ),
+    "a row of no namespace": (
+        Odd(row='xmlns=""'),
+        "in 'sheetData' there is 'row', which isn't understood",
+    ),
+    "an attribute of the sheet's own namespace": (
+        Odd(row='m:hidden="1"', root=f'xmlns:m="{MAIN}"'),
+        "A3: its 'row' has the attribute",
+    ),
     "an error with a number": (
         Odd(changes=[(SHEET, '<c r="A3" ', '<c r="A3" t="e" ')]),
         "A3: its value '9900' isn't understood",

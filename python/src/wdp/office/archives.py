@@ -44,6 +44,7 @@ _MOST_UNPACKED = 64 * 1024 * 1024  # bytes of all that a workbook holds, unpacke
 _MOST_OF_A_PART = 16 * 1024 * 1024  # bytes of what is read of it: one XML text
 _MOST_TAGS = 1_500_000  # of all parts that are read, where an element begins and where it ends
 _MOST_KEPT = 150_000  # elements and attributes of a part, beside those of its rows
+_MOST_OF_A_ROW = 50_000  # elements
 _MOST_NESTED = 64  # elements within each other
 _LONGEST_PIECE = 64 * 1024  # bytes from one tag to the next: of a text, a comment, or a tag
 _CHUNK = 64 * 1024  # bytes that the parser gets at once
@@ -135,7 +136,7 @@ class XmlPart:
         """The elements of this name, one by one, that are in the root, or in a container of it."""
         level = 1 if container is None else 2
         path: list[Element] = []
-        depth = kept = 0
+        depth = kept = inside = others = 0
         is_within = False
         for event, found in self._parse():
             if event == "end":
@@ -146,21 +147,36 @@ class XmlPart:
                     is_within = is_within and not is_found
                     if is_found:
                         yield found
-                        path[-1].remove(found)
+                        # (what follows it may be there already)
+                        del path[-1][others]
                 continue
             depth += 1
-            if is_within and depth <= _MOST_NESTED:
+            if is_within:
+                inside += 1
+                if inside > _MOST_OF_A_ROW or depth > _MOST_NESTED:
+                    self._refuse_size()
                 continue
             if depth == 1:
                 self._begin(found)
             kept += 1 + len(found.keys())
             if kept > _MOST_KEPT or depth > _MOST_NESTED:
-                most = f"{_MOST_KEPT:,} elements and attributes beside its rows"
-                raise BadWorkbook(f"its XML has more than {most}, or {_MOST_NESTED} levels")
+                self._refuse_size()
+            if depth == level:
+                others = 0
+            if depth == level + 1:
+                is_in = container is None or self.name(path[-1].tag) == container
+                is_within = is_in and self.name(found.tag) == tag
+                others += not is_within
+                inside = 0
             if depth <= level + 1:
-                is_in = container is None or self.name(path[-1].tag) == container if path else False
                 path.append(found)
-                is_within = depth == level + 1 and is_in and self.name(found.tag) == tag
+
+    def _refuse_size(self) -> None:
+        """Raises BadWorkbook for what is larger than a sheet with a form."""
+        most = (
+            f"{_MOST_KEPT:,} elements and attributes beside its rows, {_MOST_OF_A_ROW:,} in a row"
+        )
+        raise BadWorkbook(f"its XML has more than {most}, or {_MOST_NESTED} levels")
 
     def _parse(self) -> Iterator[tuple[str, Element]]:
         """The beginnings and ends of elements, as the parser finds them."""
@@ -194,14 +210,21 @@ class XmlPart:
                 raise BadWorkbook(f"its XML ignores {quote(prefix)}, which isn't understood")
             self._ignorable.add(namespace)
 
-    def name(self, name: str) -> str:
-        """The name of an element or an attribute."""
-        if name not in self._names:
-            namespace, _, local = name[1:].rpartition("}")
-            prefix = {**_PREFIXES, self._own: ""}.get(namespace)
-            is_own = name.startswith("{") and prefix is not None
-            self._names[name] = f"{prefix}{local}" if is_own else name
-        return self._names[name]
+    def name(self, tag: str) -> str:
+        """The name of an element; one without any namespace is none that a part has."""
+        if tag not in self._names:
+            namespace, _, local = tag.rpartition("}")
+            prefix = {**_PREFIXES, self._own: ""}.get(namespace[1:]) if namespace else None
+            self._names[tag] = f"{{}}{tag}" if not namespace else tag
+            if prefix is not None:
+                self._names[tag] = f"{prefix}{local}"
+        return self._names[tag]
+
+    def attribute(self, name: str) -> str:
+        """The name of an attribute; the part's own have no namespace."""
+        namespace, _, local = name.rpartition("}")
+        prefix = _PREFIXES.get(namespace[1:]) if namespace else None
+        return name if prefix is None else f"{prefix}{local}"
 
     def check(self, element: Element, cell: str = "") -> None:
         """Raises BadWorkbook if something in an element isn't known, perhaps with a cell of it."""

@@ -202,6 +202,9 @@ class Names(Protocol):
 class PartNames(Names, Protocol):
     """How the names of a part are to be read."""
 
+    def attribute(self, name: str) -> str:
+        """The name of an attribute; the part's own have no namespace."""
+
     def is_ignorable(self, name: str) -> bool:
         """Whether a reader ignores what has this name if it doesn't know it."""
 
@@ -224,7 +227,7 @@ def find_unknown_attributes(element: Element, part: PartNames) -> Iterator[str]:
     """Which attributes of an element aren't in the table."""
     within = part.name(element.tag)
     for attribute in element.keys():
-        name = part.name(attribute)
+        name = part.attribute(attribute)
         if name not in KNOWN[within].attributes and not part.is_ignorable(attribute):
             yield f"its {within!r} has the attribute {_show(name)}, which isn't understood"
 
@@ -253,4 +256,4 @@ def _find_unknown_elements(element: Element, known: _Known, part: PartNames) -> 
 
 def _show(name: str) -> str:
     """A name as a message shows it."""
-    return quote(name.removeprefix("{").replace("}", " "))
+    return quote(name.removeprefix("{").replace("}", " ").strip())

@@ -78,7 +78,7 @@ class _Workbook:
                 self.is_of_1904 = is_on(element.get("date1904"))
             if part.name(element.tag) == "sheets":
                 for sheet in element:
-                    self._add_sheet({part.name(key): value for key, value in sheet.items()})
+                    self._add_sheet({part.attribute(key): value for key, value in sheet.items()})
         self.texts = self._read_texts()
         self.styles = self._read_styles()
 
