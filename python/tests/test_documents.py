@@ -15,7 +15,7 @@ import pytest
 from commands import ROOT, read_text
 
 BLOCK = re.compile(r"^```([a-z]*)(?: ([^\n]*))?\n(.*?)^```$", re.MULTILINE | re.DOTALL)
-COMMAND = re.compile(r"(\./|sed |mkdir |PATH=|apt-get |pip |ssh-keygen )")
+COMMAND = re.compile(r"(\./|\(echo |sed |mkdir |PATH=|apt-get |pip |ssh-keygen )")
 # what needs a network or another machine, names no file of the tree (`DIR`, `rules.csv`), or proves
 # or tests everything: test_command.py installs by pip, test_auction.py has Slurm's profile
 NOT_RUN = re.compile(r"apt-get |pip |\./build |\./test |\./wdp-office explain rules\.csv |.* DIR ")

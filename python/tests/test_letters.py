@@ -396,7 +396,7 @@ REFUSED = """
 --input x                    |2 |letters: --input goes with --receipts
 --receipts --drawn 2         |2 |letters: --drawn goes with letters about an award, and not with --receipts
 --receipts --input /dev/null |1 |letters: the input: wdp: input: wrong number of rules; wdp-office
---title \x1b                 |2 |argument --title: invalid text of 1 to 200 printable characters
+--title \x1b                 |2 |argument --title: it takes a text of 1 to 200 printable characters
 """
 
 

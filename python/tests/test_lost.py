@@ -560,7 +560,7 @@ WRONG = """
 --bidder Alpha --bid 7 |lost: there is no form with bid 7 of Alpha
 --bid 7                |lost: there is no bid 7
 --bid 1                |lost: each bid 1 won
---bid 0                |wdp-office lost: error: argument --bid: invalid number of a bid value: '0'
+--bid 0                |wdp-office lost: error: argument --bid: it takes a number of a bid, not '0'
 """
 
 

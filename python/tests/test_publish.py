@@ -560,8 +560,8 @@ def test_an_award_with_a_bid_in_no_program(folder: ResultsFolder) -> None:
 REFUSED = [
     ("2", "award 2 can't be the first of an audit: bid 2 of Alpha is in no program", 1),
     ("3", "there is no award 3: there are 2 awards", 2),
-    ("0", "argument --drawn: invalid number of an award value: '0'", 2),
-    ("two", "argument --drawn: invalid number of an award value: 'two'", 2),
+    ("0", "argument --drawn: it takes a number of an award, not '0'", 2),
+    ("two", "argument --drawn: it takes a number of an award, not 'two'", 2),
 ]
 
 

@@ -355,7 +355,7 @@ REFUSED = """
 3 | award 3 can't be the first of an audit: bid 2 of Alpha is in no program | 1
 4 | award 4 can't be the first of an audit: bid 2 of Alpha is in no program | 1
 5 | there is no award 5: there are 4 awards | 2
-0 | argument --award: invalid number of an award value: '0' | 2
+0 | argument --award: it takes a number of an award, not '0' | 2
 """
 
 

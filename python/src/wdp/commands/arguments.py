@@ -53,7 +53,7 @@ def _parse_solver(text: str) -> str:
     """The name of a solver that is known."""
     if text not in _SOLVERS:
         known = " or ".join(_SOLVERS)
-        other = "any other solver goes by --solver-command (docs/OFFICE.md, Another solver)"
+        other = "any other solver goes by --solver-command (docs/OFFICE.md, Other solvers)"
         raise argparse.ArgumentTypeError(f"it takes {known}, not '{shorten(text, 40)}'; {other}")
     return text
 
