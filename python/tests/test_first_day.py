@@ -126,7 +126,6 @@ def test_certify_begins_from_nothing(tmp_path: Path, whole: AuctionFolder, wdp: 
     alone = WORKED.partition(b"%groups")[0] + b"%groups\n-\n"
     seen = run("certify", whole.where / "programs" / "1.mps")
     assert seen.status == 0
-    assert seen.err == ""
     audit = tmp_path / "audit.txt"
     audit.write_bytes(seen.out.encode() + alone)
     verified = finish(start([wdp, "verify", audit]))
@@ -219,6 +218,12 @@ def test_receipts_come_with_the_forms(tmp_path: Path, wdp: str) -> None:
     assert printed in folder.read("receipts/Alpha.txt").decode()
     assert f"%form Alpha 1 {digest}" in folder.read("receipts/Alpha.txt").decode()
     assert "sha256sum" not in folder.read("receipts/Gamma.txt").decode()
+
+
+@pytest.mark.parametrize("command", ["solve", "certify"])
+def test_an_input_in_the_place_of_a_program(command: str) -> None:
+    why = "wdp: program: 3 Section at line 1; this is an input of wdp: wdp text or wdp compile makes"
+    check_stopped(run(command, EXAMPLES / "worked.txt"), why)
 
 
 ARGUMENTS = [

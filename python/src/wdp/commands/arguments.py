@@ -203,5 +203,7 @@ def read_mps(path: str, program: str | None) -> bytes:
     try:
         ask(found, ["check"], data=text, limits=Limits(MOST_OF_ANSWER))
     except Refused as refused:
-        raise Refused(f"{path}: {refused.text}") from None
+        hint = "; this is an input of wdp: wdp text or wdp compile makes its program"
+        is_input = text.startswith(b"%rules")
+        raise Refused(f"{path}: {refused.text}{hint if is_input else ''}") from None
     return text
