@@ -93,7 +93,7 @@ def test_a_whole_input_is_no_rules(tmp_path: Path) -> None:
     [
         ("echo {mps}", "the command has to print lines NAME VALUE, or to write them to {out}"),
         ("cbc {mps} -solve", "write them to {out}; --solver cbc calls cbc itself"),
-        ("cbc {free} -solve -solution {out}", "VALUE; --solver cbc calls cbc itself"),
+        ("cbc {free} -solve -solution {out}", "to write lines NAME VALUE to {out}; --solver cbc calls cbc itself"),
     ],
 )
 def test_a_command_that_prints_no_solution(tmp_path: Path, wdp: str, command: str, hint: str) -> None:

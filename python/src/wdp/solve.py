@@ -121,9 +121,9 @@ def _explain_answer(solver: str) -> str:
     if solver in ("cbc", "highs"):
         return ""
     name = _name_solver(solver)
-    hint = "the command has to print lines NAME VALUE"
+    hint = "the command has to write lines NAME VALUE to {out}"
     if "{out}" not in solver:
-        hint += ", or to write them to {out}"
+        hint = "the command has to print lines NAME VALUE, or to write them to {out}"
     own = f"; --solver {name} calls {name} itself" if name == "cbc" else ""
     return f"; {hint}{own}"
 
