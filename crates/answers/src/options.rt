@@ -45,7 +45,7 @@ pub(crate) fn workers<'a>(alloc: Global) -> Arg<'a>
     ensures local { result.global ≡ false }
 {
     let numbers = value_parser!(u64).range(1..=MOST_WORKERS as i64);
-    number_option(alloc, "workers", "N", "How many workers compile", numbers).default_value("1")
+    number_option(alloc, "workers", "N", "How many workers to run", numbers).default_value("1")
 }
 
 pub(crate) fn bids<'a>(alloc: Global) -> Arg<'a>

@@ -22,14 +22,14 @@ struct Page {
 
 const PROGRAM: Page = Page {
     name: "wdp",
-    about: "Compiles the winner determination of a combinatorial clock auction",
-    below: "Example: wdp compile --workers 4 examples/worked.txt -o programs.mps\n\nThe manual: man wdp; the formats and each refusal: docs/REFERENCE.md",
+    about: "Compiles and checks the winner determination of a combinatorial clock auction",
+    below: "Example: wdp verify examples/prices.txt\n\nThe manual: man wdp; the formats and each refusal: docs/REFERENCE.md",
 };
 
 const TEXT: Page = Page {
     name: "text",
     about: "Prints the program of the empty group; so does wdp without a command",
-    below: "Input: %rules, and a %form for each form\nOutput: the program of the empty group, in free MPS\nExample: wdp text examples/one_form.txt -o one_form.mps",
+    below: "Input: %rules, and a %form for each form, without %groups\nOutput: the program of the empty group, in free MPS\nAn input of files: (echo %rules; cat rules.csv; echo %form; cat form.csv) > input.txt\nExample: wdp text examples/one_form.txt -o one_form.mps",
 };
 
 const CHECK: Page = Page {
@@ -47,25 +47,25 @@ const COMPILE: Page = Page {
 const MAP: Page = Page {
     name: "map",
     about: "Prints the winners of a solution",
-    below: "Input: %rules, a %form for each form, %groups, and one %solution\nOutput: a line NAME BID AMOUNT for each winner, and a line total N\nExample: wdp map --group 1 examples/worked.txt solution.txt",
+    below: "Input: %rules, a %form for each form, %groups, and one %solution\nOutput: a line NAME BID AMOUNT for each winner, and a line total N\nExample: (cat examples/worked.txt; echo %solution; echo X1_2 1) | wdp map --group 1",
 };
 
 const REPORT: Page = Page {
     name: "report",
     about: "Prints the winners of all groups' solutions, and the groups' opportunity costs",
-    below: "Input: %rules, a %form for each form, %groups, and a %solution for each group\nOutput: for each group its winners, their total, and its opportunity cost\nWrong number of parts: wdp explain --for report prints how many were found and wanted\nExample: wdp report examples/worked.txt solutions.txt",
+    below: "Input: %rules, a %form for each form, %groups, and a %solution for each group\nOutput: for each group its winners, their total, and its opportunity cost\nWrong number of parts: wdp explain --for report prints how many were found and wanted\nExample: sed '/^%certificate/,$d' examples/verified.txt | wdp report",
 };
 
 const VERIFY: Page = Page {
     name: "verify",
-    about: "Prints the report of solutions that certificates show to be optimal",
-    below: "Input: that of report, and a %certificate for each group; optionally %prices with %cover and %rule, up to 64 %tie, and %unique\nOutput: that of report, then the prices if given, then each other award after tie, and last unique, no other, or and more\nWrong number of parts: wdp explain --for verify prints how many were found and wanted\nExample: wdp verify examples/verified.txt",
+    about: "Checks an audit, and prints its report and prices",
+    below: "Input: that of report, and a %certificate for each group; optionally %prices with %cover and %rule, up to 64 %tie, and %unique\nOutput: that of report, then the prices if given, then each other award after tie, and last unique, no other, or and more\nWrong number of parts: wdp explain --for verify prints how many were found and wanted\nExample: wdp verify examples/prices.txt",
 };
 
 const EXPLAIN: Page = Page {
     name: "explain",
     about: "Prints all faults of an input",
-    below: "Input: %rules, a %form for each form, optionally %groups; other parts are ignored, or counted with --for COMMAND\nOutput: a line for each fault, with --json an object; the status is 1 if there is a fault\nExample: wdp explain examples/worked.txt",
+    below: "Input: %rules, a %form for each form, optionally %groups; other parts are ignored, or counted with --for COMMAND\nOutput: a line for each fault, with --json an object; the status is 1 if there is a fault\nExample: (echo %rules; echo rules,1) | wdp explain",
 };
 
 const FORMS: Page = Page {
