@@ -593,9 +593,9 @@ def test_a_full_disk_leaves_no_folder(folder: ResultsFolder) -> None:
 
 def test_a_full_disk_leaves_an_older_folder(folder: ResultsFolder) -> None:
     folder.publish_tie(TIE_AUDIT)
-    folder.publish(TIE, TIE_REPORT)
+    folder.publish(TIE, TIE_REPORT, "--replace")
     before = {name: (folder.out / name).read_bytes() for name in FILES}
-    result = folder.run(TIE, TIE_REPORT, "--title", "Other", **limit_files(1_000))
+    result = folder.run(TIE, TIE_REPORT, "--title", "Other", "--replace", **limit_files(1_000))
     check_stopped(result, "File too large")
     names = os.listdir(folder.out)
     assert {name: (folder.out / name).read_bytes() for name in names} == before
@@ -648,7 +648,7 @@ def test_a_folder_that_cannot_be_replaced_stays(
 
     monkeypatch.setattr("os.rename", fail_once)
     with pytest.raises(files.Unreadable, match="No space left on device"):
-        files.write_folder(str(path), {"a": b"newer"})
+        files.write_folder(str(path), {"a": b"newer"}, replaces=True)
     left = [each.read_bytes() for each in tmp_path.rglob("*") if each.is_file()]
     assert left == [b"older"]
     assert os.listdir(tmp_path) == ["results"]

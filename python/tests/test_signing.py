@@ -206,7 +206,7 @@ def test_signed_results_are_not_replaced_by_others(folder: ResultsFolder, key: P
 
 def test_signed_results_are_signed_anew(folder: ResultsFolder, key: Path) -> None:
     folder.publish_tie(TIE_AUDIT, "--sign", key)
-    folder.publish_tie(TIE_AUDIT, "--sign", key, "--title", "Another title")
+    folder.publish_tie(TIE_AUDIT, "--sign", key, "--title", "Another title", "--replace")
     assert "<h1>Another title</h1>" in folder.read_page().html
     assert sorted(os.listdir(folder.out)) == SIGNED
 
