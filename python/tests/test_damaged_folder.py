@@ -5,6 +5,7 @@ believed or written over.
 import hashlib
 import json
 import shutil
+import tempfile
 from collections.abc import Iterator, Mapping
 from pathlib import Path
 from typing import Any
@@ -93,6 +94,7 @@ def run_in(folder: AuctionFolder, words: str, **how: Any) -> CommandResult:
     """
     command, *options = words.split()
     quiet = ["--quiet"] if command in ("auction", "lost") else []
+    tempfile.gettempdir()  # (which is kept: that of a run is gone when it ends)
     return run(command, folder.where, *options, *quiet, "--wdp", folder.wdp, **how)
 
 
