@@ -51,7 +51,7 @@ Beta+Gamma
 # what a finished folder has, apart from logs: by the command that makes it again, and what no
 # command needs any more
 MADE = """
-auction --ties     | audit.txt award.txt format.txt page.json prices.txt report.txt ties.txt ties/1.txt
+auction --ties     | audit.txt award.txt format.txt page.json prices.txt report.txt ties.txt
 auction --ties     | programs/1.mps programs/2.mps programs/3.mps programs/names.txt
 auction --ties     | certificates/1.txt certificates/2.txt certificates/3.txt
 auction --ties     | solutions/1.txt solutions/2.txt solutions/3.txt
@@ -65,7 +65,7 @@ letters            | letters/Beta.html letters/Beta.txt letters/Gamma.csv letter
 letters --receipts | receipts/Alpha.csv receipts/Alpha.html receipts/Alpha.txt receipts/Beta.csv
 letters --receipts | receipts/Beta.html receipts/Beta.txt receipts/Gamma.csv receipts/Gamma.html receipts/Gamma.txt
 """
-UNNEEDED = ["answers/1.txt", "answers/2.txt", "inequalities.txt"]
+UNNEEDED = ["answers/1.txt", "answers/2.txt", "inequalities.txt", "ties/1.txt"]
 MAKERS = {name: words for words, names in parse_rows(MADE) for name in names.split()}
 
 
@@ -148,7 +148,7 @@ def test_a_file_that_was_cut_or_changed_is_kept_and_named(folder: AuctionFolder,
         assert read_files(folder) == before
 
 
-SUMS = ["award.txt", "programs/2.mps", "prices.txt", "report.txt", "solutions/1.txt", "ties/1.txt"]
+SUMS = ["award.txt", "programs/2.mps", "prices.txt", "report.txt", "solutions/1.txt", "ties.txt"]
 
 
 @pytest.mark.parametrize("name", [*SUMS, "results/results.json"])
@@ -156,7 +156,8 @@ def test_sums_that_were_deleted_or_cut(folder: AuctionFolder, name: str) -> None
     before = read_files(folder)
     path = folder.where / f"sums/{name}.sha256"
     path.write_bytes(path.read_bytes()[:30])
-    check_stopped(run_in(folder, "auction --ties"), f"{folder.where}/{name}")
+    how = {"env": folder.make_environment()} if name.startswith("results/") else {}
+    check_stopped(run_in(folder, "auction --ties", **how), name)
     path.unlink()
     seen = run_in(folder, "auction --ties")
     if seen.status:
@@ -215,7 +216,7 @@ def test_a_record_that_says_something_else(folder: AuctionFolder, field: str) ->
 
 # what is put in the place of an audit, and what is said of the record; its sum was made right
 AUDITS = {
-    "the audit of another bid": ("lost/Beta/1.txt", "isn't of the award's input"),
+    "the audit of another bid": ("lost/Alpha/1.txt", "shows no amount that is enough"),
     "the award's own audit": ("audit.txt", "isn't of the award's input"),
     "no audit": ("input.txt", "isn't of the award's input"),
 }
@@ -383,6 +384,5 @@ def test_folders_that_are_named(office: OfficeFolder) -> None:
 
 def test_a_folder_of_another_format(folder: AuctionFolder) -> None:
     leave(folder, "format.txt", b"3\n")
-    check_stopped(
-        run_in(folder, "auction --ties"), "format.txt is of another version of wdp-office"
-    )
+    seen = run_in(folder, "auction --ties", env=folder.make_environment())
+    check_stopped(seen, "format.txt is of another version of wdp-office")

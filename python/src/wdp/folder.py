@@ -120,14 +120,19 @@ class Folder:
         it was left.
         """
         names = self.list_left(folder)
-        self._refuse_changed(names)
+        self.find_changed(names)
         for name in names:
             self.forget(name)
 
-    def forget_changed(self, folder: str) -> None:
-        """Takes away what isn't as it was left in a folder; Refused if that isn't replaced."""
-        for name in self._refuse_changed(self.list_left(folder)):
-            self.forget(name)
+    def find_changed(self, names: Sequence[str]) -> list[str]:
+        """Those of these files that are there and aren't as they were left, if this folder replaces
+        such files; else Refused, which names them.
+        """
+        there = [name for name in names if os.path.lexists(self.path(name))]
+        changed = [name for name in there if not self._is_as_left(name)]
+        if changed and (INPUT in changed or not self.replaces):
+            raise self._refuse(changed)
+        return changed
 
     def list_left(self, folder: str | None = None) -> list[str]:
         """The names of all that was left, whether it is there or not, or of what is in a folder."""
@@ -143,7 +148,7 @@ class Folder:
         """
         names = {name for name in self.list_left() if name.split("/")[0] not in _MAKERS}
         missing = {name for name in names if not os.path.lexists(self.path(name))}
-        for name in self._refuse_changed(sorted(names - missing | {*self._list_in_the_way()})):
+        for name in self.find_changed(sorted(names - missing | {*self._list_in_the_way()})):
             self.forget(name)
         return sorted(missing)
 
@@ -171,16 +176,6 @@ class Folder:
         if not os.path.lexists(self.sum_path(name)):
             return False
         return self.read_sum(name) == _format_sum(name, self._read_any(name))
-
-    def _refuse_changed(self, names: Sequence[str]) -> list[str]:
-        """Those of these files that are there and aren't as they were left, if this folder replaces
-        such files; else Refused, which names them.
-        """
-        there = [name for name in names if os.path.lexists(self.path(name))]
-        changed = [name for name in there if not self._is_as_left(name)]
-        if changed and (INPUT in changed or not self.replaces):
-            raise self._refuse(changed)
-        return changed
 
     def _refuse(self, names: Sequence[str]) -> Refused:
         """Why these files are kept, and what makes them again."""

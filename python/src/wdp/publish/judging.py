@@ -175,8 +175,8 @@ def judge_audit(
     except (NotFound, Unclear):
         raise
     except Refused as error:
-        text = f"{audit.name}: wdp verify refuses it: {error.text}"
-        raise Refused(text, part=error.part, number=error.number) from None
+        why = f"{audit.name}: wdp verify refuses it: {error.text}"
+        raise Refused(why, part=error.part, number=error.number) from None
     _check_audit(sources, audit, judgement=judgement, listed=listed)
     awards = listed.report.awards
     text = audit.text

@@ -74,6 +74,11 @@ def find_shown(
     return None
 
 
+def _format_award(solution: bytes) -> bytes:
+    """What says which award something is of: the SHA-256 of group 1's solution."""
+    return f"{compute_digest(solution.removeprefix(audits.find_mark(solution)))}\n".encode()
+
+
 @dataclass(frozen=True)
 class Goals:
     """What is asked for besides an answer for each group: certificates, all awards that tie with
@@ -139,12 +144,17 @@ class Contents:
         for name in (*names, *name_unfinished(group)):
             self.store.forget(name)
 
+    def leave_award(self) -> None:
+        """Leaves which award ties and prices are of, if that isn't there."""
+        if self.goals.is_certified and not self.store.has(AWARD):
+            solution = self.store.read(name_file("solution", FIRST_GROUP))
+            self.store.leave(AWARD, _format_award(solution))
+
     def take_award(self, solution: bytes) -> bool:
         """Takes an award of group 1; whether what is there is of another one, and is forgotten:
         ties, prices, and the groups that were added for these.
         """
-        digest = compute_digest(solution.removeprefix(audits.find_mark(solution)))
-        mark = f"{digest}\n".encode()
+        mark = _format_award(solution)
         if self.store.has(AWARD) and self.store.read(AWARD) == mark:
             return False
         of_another = [TIES, PRICES, ADDED, *self.list_kept("ties")]

@@ -77,6 +77,7 @@ class Flow:
             return status
         if not self.settle(self.contents.list_groups()):
             return 1
+        self.contents.leave_award()
         if self.contents.goals.is_priced:
             self.find_prices()
         return 0

@@ -100,8 +100,10 @@ class KeptBids:
         return bid
 
     def forget(self, key: BidKey) -> None:
-        """Forgets what is kept of a bid."""
-        for name in (name_record(key), *_list_audits(key)):
+        """Forgets what is kept of a bid; Refused if a file of it isn't as it was left."""
+        names = [name_record(key), *_list_audits(key)]
+        self.folder.find_changed(names)
+        for name in names:
             self.folder.forget(name)
 
     def _read_audit(self, name: str) -> bytes | None:
@@ -174,8 +176,8 @@ class LostRun:
     def _take_folder(self) -> None:
         """Takes away what was found of another award."""
         mark = format_mark(self.folder.read(INPUT), self.folder.read(AUDIT))
-        if self.folder.replaces:
-            self.folder.forget_changed(LOST)
+        for name in self.folder.find_changed([_AWARD]):
+            self.folder.forget(name)
         if not is_of_award(self.folder, mark):
             self.folder.clear(LOST)
             self.folder.leave(_AWARD, mark)
@@ -198,6 +200,8 @@ class LostRun:
         replaces it.
         """
         try:
+            if self.folder.find_changed([name_record(key), *_list_audits(key)]):
+                return False
             kept.read(key)
         except NotShown:
             if not self.folder.replaces:
