@@ -144,7 +144,9 @@ def test_a_file_that_was_cut_or_changed_is_kept_and_named(folder: AuctionFolder,
     for data in damage(folder.read(name)):
         folder.put(name, data)
         before = read_files(folder)
-        check_stopped(run_in(folder, MAKERS.get(name, "auction --ties")), f"{folder.where}/{name}")
+        seen = run_in(folder, MAKERS.get(name, "auction --ties"))
+        assert seen.status == 1, seen
+        assert f"{folder.where}/{name}" in seen.err
         assert read_files(folder) == before
 
 
@@ -156,8 +158,7 @@ def test_sums_that_were_deleted_or_cut(folder: AuctionFolder, name: str) -> None
     before = read_files(folder)
     path = folder.where / f"sums/{name}.sha256"
     path.write_bytes(path.read_bytes()[:30])
-    how = {"env": folder.make_environment()} if name.startswith("results/") else {}
-    check_stopped(run_in(folder, "auction --ties", **how), name)
+    check_stopped(run_in(folder, "auction --ties"), f"{folder.where}/{name}")
     path.unlink()
     seen = run_in(folder, "auction --ties")
     if seen.status:

@@ -23,8 +23,8 @@ LOST = "lost"
 LETTERS = "letters"
 RECEIPTS = "receipts"
 RESULTS = "results"
-# the folders that aren't judged with the rest, and the commands that write into them
-_MAKERS = {LOST: "lost", LETTERS: "letters", RECEIPTS: "letters --receipts", RESULTS: "auction"}
+# the folders that other commands than `auction` write into, and judge
+_MAKERS = {LOST: "lost", LETTERS: "letters", RECEIPTS: "letters --receipts"}
 _MOST_NAMED = 4  # files that a message names
 _MOST_OF_FILE = 2 * 1024 * 1024 * 1024  # bytes of a file that a step left
 _MOST_OF_SUM = 10_000  # bytes of a line with a file's SHA-256
