@@ -2,8 +2,10 @@
 import pytest
 from made_figures import Bidder, make_figures
 
+from wdp.awards import KnownAwards
 from wdp.publish.figures import Figures
 from wdp.publish.sentences import describe_proof_of_prices, make_sentences
+from wdp.texts.refusals import Refused, WrongArgument
 
 SUPPLIES = {"A": 2, "B": 1}
 ALPHA = Bidder("Alpha", [1, 0], amount=1_200, price=1_000)
@@ -106,3 +108,36 @@ def test_a_tie_is_the_first_that_is_said() -> None:
         "2 awards reach the same total. This page shows award 1. "
         "Which award holds is for the auction's rules to say, perhaps by a draw."
     )
+
+
+# how many awards are listed, whether these are all, the number that is asked for, and what is said
+NUMBERS = [
+    (2, True, 3, "there is no award 3: there are 2 awards"),
+    (1, True, 2, "there is no award 2: there is 1 award"),
+    (65, False, 66, "award 66 isn't known: 65 are listed, and there may be more"),
+    (1, False, 2, "award 2 isn't known: 1 is listed, and there may be more"),
+]
+
+
+@pytest.mark.parametrize("count, are_all, number, said", NUMBERS)
+def test_an_award_that_is_not_listed(count: int, are_all: bool, number: int, said: str) -> None:
+    known = KnownAwards(count, are_all)
+    known.check_number(count)
+    with pytest.raises(WrongArgument) as caught:
+        known.check_number(number)
+    assert caught.value.text == said
+
+
+def test_a_draw_is_of_all_awards() -> None:
+    KnownAwards(2, are_all=True).check_draw("audit.txt", is_complete=False)
+    KnownAwards(2, are_all=False).check_draw("audit.txt", is_complete=True)
+    with pytest.raises(WrongArgument, match="audit.txt shows no tie"):
+        KnownAwards(1, are_all=True).check_draw("audit.txt", is_complete=True)
+    with pytest.raises(Refused, match="lists 2 awards, and there may be more: .* --list-is-complete"):
+        KnownAwards(2, are_all=False).check_draw("audit.txt", is_complete=False)
+
+
+def test_a_bid_that_tied_lost_by_a_draw_only_if_there_was_one() -> None:
+    assert KnownAwards(2, are_all=True).describe_own_tie() == "it tied"
+    drawn = KnownAwards(2, are_all=True, is_drawn=True)
+    assert drawn.describe_own_tie() == "it tied; the draw decided"

@@ -224,7 +224,7 @@ head -c 2M /dev/zero > "$last.sig" | SHA256SUMS.sig: it has more than 100,000 by
 def test_the_tool_is_not_believed(
     folder: ResultsFolder, key: Path, monkeypatch: pytest.MonkeyPatch, signs: str, said: str
 ) -> None:
-    good = 'echo \'Good "wdp-award" signature\''
+    good = "echo 'Good \"wdp-award\" signature'"
     lines = f'for last; do :; done\n[ "$2" = sign ] || {{ {good}; exit; }}\n{signs}'
     write_script(folder.folder / "ssh-keygen", lines)
     monkeypatch.setenv("PATH", f"{folder.folder}:{os.environ['PATH']}")
