@@ -44,7 +44,8 @@ def pytest_runtest_makereport() -> Generator[None, Any, None]:
     report = (yield).get_result()
     why = report.longrepr[2] if isinstance(report.longrepr, tuple) else "it may fail"
     if report.skipped and why.removeprefix("Skipped: ") not in MAY_LACK:
-        report.outcome, report.longrepr = "failed", f"it isn't run: {why}"
+        report.outcome = "failed"
+        report.longrepr = f"it isn't run: {why}"
         vars(report).pop("wasxfail", None)
 
 
@@ -52,7 +53,8 @@ def pytest_runtest_makereport() -> Generator[None, Any, None]:
 def pytest_make_collect_report() -> Generator[None, Any, None]:
     report = (yield).get_result()
     if report.skipped:
-        report.outcome, report.longrepr = "failed", f"no test of it is run: {report.longrepr}"
+        report.outcome = "failed"
+        report.longrepr = f"no test of it is run: {report.longrepr}"
 
 
 def pytest_sessionfinish(session: pytest.Session) -> None:

@@ -118,7 +118,8 @@ def test_text_of_a_solver(wdp, name):
 def changes():
     """The words, the changed text and the line of each; the text is empty where it hasn't what is to be changed."""
     for section in faults.sections():
-        words, base = section.command.split(), section.text()
+        words = section.command.split()
+        base = section.text()
         for row in section.rows:
             old, new = (part.replace("⏎", "\n") for part in (row.old, row.new))
             line = row.line.removeprefix("wdp: ")

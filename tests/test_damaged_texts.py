@@ -12,7 +12,9 @@ from trials.worked import ALPHA, MADE_ELSEWHERE, NO_COLUMN, ONE_BID_OF_ALPHA, ON
 from trials.worked import TWO_BIDS_OF_ALPHA, auction, rules_and
 
 SIZES = "rows 3 columns 1 entries 2\n"
-CHECK, TEXT, MAP = ["check"], ["text"], ["map", "--group", "1"]
+CHECK = ["check"]
+TEXT = ["text"]
+MAP = ["map", "--group", "1"]
 ONE_WINNER = done("Alpha 1 30\ntotal 30\n")
 
 # What is told of a text that ends behind a byte, by the letter beside the byte's line, always at that line. A text that ends with the
@@ -30,7 +32,8 @@ def cuts(table, end, whole):
     before = ""
     for number, row in enumerate((TEXTS / table).read_text().splitlines(), 1):
         letters, _, line = row.partition("|")
-        letters, line = letters.rstrip(), line + end
+        letters = letters.rstrip()
+        line = line + end
         for size, letter in enumerate(letters + (letters[-1:] or ".") * len(end), 1):
             yield before + line[:size], number, letter
         assert size == len(line)
@@ -71,8 +74,10 @@ def numbers():
 
 def many_forms():
     """Forms beyond those that are read at once: a faulty one ends the reading, and the first faulty one is told."""
-    header, fields = ("", "2 Header at record 1"), ("Alpha,A,B\n30,1\n", "4 FieldCount at record 2")
-    both, apart = {4_096: fields, 4_097: header}, {4_200: fields, 4_500: header}
+    header = ("", "2 Header at record 1")
+    fields = ("Alpha,A,B\n30,1\n", "4 FieldCount at record 2")
+    both = {4_096: fields, 4_097: header}
+    apart = {4_200: fields, 4_500: header}
     for faulty in ({4_096: header}, {4_097: fields}, both, apart):
         forms = [faulty.get(number, [ALPHA])[0] for number in range(1, 5_001)]
         first = min(faulty)
@@ -91,7 +96,8 @@ def test_text(wdp, words, text, wanted):
 
 
 REPORT = done("group 1 -\ntotal 0\ncost 0\ngroup 2 Beta\ntotal 0\ncost 0\n")
-UNKNOWN, TWO_BIDS = refused("groups: 3 UnknownBidder at line 1"), done(TWO_BIDS_OF_ALPHA)
+UNKNOWN = refused("groups: 3 UnknownBidder at line 1")
+TWO_BIDS = done(TWO_BIDS_OF_ALPHA)
 # Each text at its limit in MiB and one byte above it: which it is, its words, what comes before it, its beginning, what fills it up, which
 # isn't read, or is a comment or an empty line, and what is told at the limit.
 LIMITS = [

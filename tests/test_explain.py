@@ -22,8 +22,10 @@ from trials.planted import BID_PLANTS, GROUP_PLANTS, RULES, Planted
 PARTS = b"%rules %form %groups %solution %certificate %unique %tie %prices %cover %rule".split()
 OF_VERSION_1 = ": %weights is of version 1, and wdp-office prices makes %rule in its place"
 # so many damages of each version, and auctions whose bids are left out, are tried in one test; and of those are at least so many
-DAMAGES, LEAST_DAMAGES = 350, {"": 20, "rules": 250, "form": 200, "groups": 40, "input": 75}
-AUCTIONS, LEAST_REASONS = 600, 100
+DAMAGES = 350
+LEAST_DAMAGES = {"": 20, "rules": 250, "form": 200, "groups": 40, "input": 75}
+AUCTIONS = 600
+LEAST_REASONS = 100
 LINE = re.compile(
     r"(rules|form|groups)(?: (\d+))?: (\d+) [A-Za-z]+(?: at (?:record|line) (\d+))?"
     r"(?:, earlier bid \d+|(?:, (?:field|name) (\d+))?(?:: .*)?)"
@@ -67,7 +69,8 @@ def order_of(line):
     if not match:
         return (3,) if ALONE.fullmatch(line) else ()
     form, number, record, field = (int(part or 0) for part in match.groups()[1:])
-    of_form, of_groups = (1, form, record, number, field), (2, record, field)
+    of_form = (1, form, record, number, field)
+    of_groups = (2, record, field)
     return {"rules": (0, record), "form": of_form, "groups": of_groups}[match[1]]
 
 
@@ -159,7 +162,8 @@ def test_bids_left_out(wdp, first):
     for number in range(first, first + AUCTIONS):
         draw = random.Random(f"bids {number}")
         drawn = random_auction(draw, draw.choice((4, 20, 200)))
-        text, wanted = input_text(drawn, [()]).encode(), "".join(left_out.lines(drawn))
+        text = input_text(drawn, [()]).encode()
+        wanted = "".join(left_out.lines(drawn))
         counts.update(re.findall(r": bid \d+ ([a-z]+)", wanted))
         with row(f"auction {number}"):
             assert seen(wdp, ["explain", "--bids"], text) == (0, wanted.encode(), b"")

@@ -27,7 +27,9 @@ from trials.program import ROOT
 OFFICE = Path(ROOT, "fixtures", "files", "office")
 COMMANDS = ["", "text", "compile", "map", "report", "verify"]
 # so many damages of each version, and auctions whose bids are in no program, are tried; and of each reason are at least so many
-DAMAGES, AUCTIONS, LEAST_REASONS = 100, 100, 20
+DAMAGES = 100
+AUCTIONS = 100
+LEAST_REASONS = 20
 # names of the files into which an input is cut, some of which are printed with escapes, or look like what a line begins with
 NAMES = ["a.txt", "it's", "form 1: 2 Header", "M\u00fcller", "a\nb", r"\x0a", "input: ", "b: c"]
 # the members of a fault in their order, and those that are no numbers
@@ -77,7 +79,9 @@ def make_fault_line(said):
     """The line in words of a fault."""
     assert list(said) == [name for name in FAULT if name in said]
     said = dict(said)
-    file, part, fault = said.pop("file"), said.pop("part"), said.pop("fault")
+    file = said.pop("file")
+    part = said.pop("part")
+    fault = said.pop("fault")
     line = "" if file is None else f"{file}: "
     if fault == "another form":
         assert part == "form" and said.pop("number") > 0

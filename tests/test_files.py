@@ -23,7 +23,9 @@ from trials.program_runs import TIME_LIMIT, Seen, done, refused
 from trials.program import ROOT
 from trials.worked import ALPHA, BETA, GAMMA, ONE_COLUMN, rules_and
 
-NOBODY, RANDOM_LISTS, BLOCKS = 65534, 2000, 20
+NOBODY = 65534
+RANDOM_LISTS = 2000
+BLOCKS = 20
 FILES = Path(ROOT, "fixtures", "files")
 AUCTION = ["rules.txt", "alpha.txt", "beta.txt", "gamma.txt", "groups.txt"]
 LONG = rules_and(ALPHA, BETA, GAMMA) + "%groups\n" + "-\n" * 1024
@@ -208,7 +210,8 @@ def test_a_limit_on_the_size_of_files(office: Office, is_ignored: bool) -> None:
 
     before = office.snapshot()
     how = {"given": LONG, "preexec_fn": limit, "restore_signals": False}
-    seen, ended = office.seen("compile", "-o", "out", **how), (-signal.SIGXFSZ, b"", b"")
+    seen = office.seen("compile", "-o", "out", **how)
+    ended = (-signal.SIGXFSZ, b"", b"")
     assert seen == (refused("write failed after 4096 bytes") if is_ignored else ended)
     left = {name: text for name, text in office.snapshot().items() if not name.startswith(".out.")}
     assert left == before and (not is_ignored or office.snapshot() == before)
@@ -218,7 +221,8 @@ def test_a_limit_on_the_size_of_files(office: Office, is_ignored: bool) -> None:
 def test_a_run_that_is_ended_at_any_moment(office: Office, number: signal.Signals) -> None:
     whole = office.seen("compile", given=LONG)[1]
     office.path("long.txt").write_text(LONG)
-    before, draw = office.snapshot(), random.Random(int(number))
+    before = office.snapshot()
+    draw = random.Random(int(number))
     for turn in range(60):
         office.path("out").write_text("before")
         child = office.start("compile", "long.txt", "-o", "out", stdin=subprocess.DEVNULL)
@@ -264,7 +268,8 @@ def write_at_random(office: Office, draw: random.Random, place: int, text: str) 
     name = draw.choice(odd) + str(place)
     spoiled = [text.removesuffix("\n"), "", "\ufeff" + text, "\n" + text]
     spoiled = draw.choice([text] * 12 + spoiled + [text.replace("\n", "\r\n")])
-    path, kind = office.path(name), draw.choice(["file"] * 30 + ["folder", "pipe", "none"])
+    path = office.path(name)
+    kind = draw.choice(["file"] * 30 + ["folder", "pipe", "none"])
     if kind == "folder":
         path.mkdir()
     elif kind == "pipe":

@@ -29,9 +29,13 @@ MEASURE = "no proof: expected a measure in ./proofs/names/first/Invariants.antt"
 CALLS = "no proof: it calls `c::names::second`, which is not proved"
 GONE = "./proofs/names/first_edited_1/Answers.antt:4:1: error: `gone`: `c.seven` is not in scope\n"
 # old and new texts of edits
-SEVEN, EIGHT, NAME = ("    7", "    1"), ("    8", "    1"), ("made(1)", "made(9)")
-READER, BROKEN = ("made(2)", "made(9)"), ("made(1)", "made(")
-LOW, HIGH = ("low.told()", "low.other()"), ("high.told()", "high.other()")
+SEVEN = ("    7", "    1")
+EIGHT = ("    8", "    1")
+NAME = ("made(1)", "made(9)")
+READER = ("made(2)", "made(9)")
+BROKEN = ("made(1)", "made(")
+LOW = ("low.told()", "low.other()")
+HIGH = ("high.told()", "high.other()")
 
 
 def said(statuses, before="", verdict="only=2 holes=1\n"):
@@ -58,7 +62,9 @@ def tried(tmp_path):
         """Whether each edit is refused and what is said of it, and the texts of the checks."""
         (tmp_path / "src").mkdir()
         (tmp_path / "src" / "names.rt").write_text(LIB)
-        sources, edits, checks = Sources(tmp_path), [], []
+        sources = Sources(tmp_path)
+        edits = []
+        checks = []
         for n, pair in enumerate(pairs):
             path = tmp_path / f"e{n}.edit"
             path.write_text("file: src/names.rt\nold: %s\nnew: %s\n" % pair)
@@ -77,7 +83,9 @@ def tried(tmp_path):
     return call
 
 
-IN, NOT, BAD = "refused, as it must be, in names::", "NOT REFUSED", "BAD EDIT: "
+IN = "refused, as it must be, in names::"
+NOT = "NOT REFUSED"
+BAD = "BAD EDIT: "
 OVERFLOW = NOT + ": only overflow_add isn't shown"
 # edits, a check, and the heads of what is said of each (test_edits.py has more, by the toolchain)
 ANSWERS = [
@@ -105,7 +113,8 @@ def test_answers(tried, pairs, check, wanted):
 def test_answers_that_name_what_is_gone_are_left_out(tried, tmp_path, then, is_refused):
     path = "proofs/names/%s/Answers.antt"
     (tmp_path / (path % "first")).parent.mkdir(parents=True)
-    head, more = "use a\n\n", "pub more : goal.more\nmore c = c.eight\n"
+    head = "use a\n\n"
+    more = "pub more : goal.more\nmore c = c.eight\n"
     text = head + "pub gone : goal.gone\ngone c = c.seven\n\n" + more
     (tmp_path / (path % "first")).write_text(text)
 
@@ -136,7 +145,9 @@ def test_closures():
 
 def test_what_an_earlier_run_refused_is_not_tried_again():
     """An edit's name has the edit and what its crate's proof read; what isn't refused, or is of files that were touched, isn't kept."""
-    tried, store, words = [], {}, {"REFUSED": "refused", "MISSED": "missed"}
+    tried = []
+    store = {}
+    words = {"REFUSED": "refused", "MISSED": "missed"}
     rt = SimpleNamespace(add_edits=None, need=lambda crate: 7, **words)
     crate = SimpleNamespace(name="c", count=lambda pattern: 50)
 
@@ -170,7 +181,8 @@ MEMORY = (-1, 0, 3 * 10**9, 10**15)
 
 @pytest.mark.parametrize("processors, memory", itertools.product((1, 2, 4, 64), MEMORY))
 def test_each_task_once_and_none_before_those_it_waits_for(capsys, processors, memory):
-    ended, tasks = [], {}
+    ended = []
+    tasks = {}
 
     def call_of(key):
         def call(given, jobs):
@@ -195,7 +207,8 @@ def test_tasks_that_cannot_end(capsys):
     def call(given, jobs):
         raise OSError("no room")
 
-    first, second = ("a", "proof"), ("b", "proof")
+    first = ("a", "proof")
+    second = ("b", "proof")
     with pytest.raises(ValueError):
         schedule.Lanes({first: ([second], 1, 1, call), second: ([first], 1, 1, call)}, 2, 10).run()
     with pytest.raises(OSError):
@@ -286,7 +299,8 @@ def test_steps_are_counted(capfdbinary, text, counts):
 
 
 def test_a_step_that_is_run_again_counts_once_and_one_that_is_refused_counts(tmp_path, capfd):
-    steps, again = Steps(str(tmp_path)), "mkdir was || { echo 2 passed, 0 failed; exit; }; "
+    steps = Steps(str(tmp_path))
+    again = "mkdir was || { echo 2 passed, 0 failed; exit; }; "
     step = "second", ["sh", "-c", again + "echo 1 passed, 1 failed; exit 1"]
     assert steps.run_from([("first", ["echo", "3 passed, 0 failed"]), step], 2) == [step]
     assert (steps.sums(), steps.run(*step), steps.sums()) == ((4, 1), True, (5, 0))

@@ -151,7 +151,8 @@ def test_documents_show_the_installed_commands_and_speak_of_the_clone(there):
 def test_what_was_installed_runs_from_another_folder(there, folder, tmp_path):
     """An office's files are joined, and faults of another's told; an auction, its page and the module of Python find the program."""
     moved = shutil.copytree(there, folder / "moved", symlinks=True)
-    shown, path = moved / "share/doc/wdp/examples", f"{moved / 'bin'}:{SYSTEM}"
+    shown = moved / "share/doc/wdp/examples"
+    path = f"{moved / 'bin'}:{SYSTEM}"
     env = {"PATH": path, "HOME": str(tmp_path), "PYTHONDONTWRITEBYTECODE": "1"}
 
     def here(*words, **more):

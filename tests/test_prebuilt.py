@@ -111,7 +111,8 @@ def test_several_at_once(tree: Tree) -> None:
 
 def test_what_the_record_says_of(tmp_path: Path) -> None:
     """What tools/prebuild says of a tree: an edit that must fail is no source, a folder that has the name of the toolchain's is one."""
-    tree, crates = Tree(tmp_path / "a tree", tmp_path), tmp_path / "a tree" / "crates"
+    tree = Tree(tmp_path / "a tree", tmp_path)
+    crates = tmp_path / "a tree" / "crates"
     left_out = "out .git cases must-fail *_tests __pycache__ python".split()
     shutil.copytree(ROOT, tree.root, ignore=shutil.ignore_patterns(*left_out))
     program = gzip.decompress((tree.root / "prebuilt/wdp.gz").read_bytes())

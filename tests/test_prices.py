@@ -25,8 +25,10 @@ from wdp import certify, solve
 from wdp.texts.parts import parse_parts
 from wdp.texts.zero_one import read_program
 
-AUCTIONS, BLOCK = 200, 10  # so many are priced, and so many in one test
-DAMAGES, PRICES = 30, 8  # of each auction
+AUCTIONS = 200  # that are priced
+BLOCK = 10  # in one test
+DAMAGES = 30  # of each auction
+PRICES = 8  # of each auction
 
 
 class Trial:

@@ -22,7 +22,8 @@ WANT_OF_MEMORY = re.compile(
 def calls():
     """Each program of tests with the names of those that make refused calls; no name where it isn't built."""
     for name in NAMES:
-        program, listed = CRATES / name / "out" / f"{name}_tests", ""
+        program = CRATES / name / "out" / f"{name}_tests"
+        listed = ""
         if program.exists():
             run = subprocess.run([program, "--list"], capture_output=True, text=True)
             listed = run.stdout

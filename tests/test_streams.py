@@ -17,15 +17,19 @@ from trials.program_runs import TIME_LIMIT, done, encoded, refusals, refused, ro
 from trials.worked import FOUR_COLUMNS, GAMMA, NO_COLUMN, ONE_COLUMN, SOLUTION_OF_ALL, WINNERS
 from trials.worked import auction, rules_and
 
-MIB, PAGE, INPUT_LIMIT = 1 << 20, 4096, 128 << 20
+MIB = 1 << 20
+PAGE = 4096
+INPUT_LIMIT = 128 << 20
 # what docs/wdp.1 says; and from 24 kB on the program gets to its first call, where words and environment are short
-STACK, LEAST_STACK = 512 << 10, 128 << 10
+STACK = 512 << 10
+LEAST_STACK = 128 << 10
 
 # Each command with an input and its output; and with the most groups there are, each the empty one: outputs of half a megabyte.
 NAMES = "one_form compile_gamma_and_all check_one_form map_three_winners report_cost_of_beta_by_2".split()
 CASES = {name: read_case(name) for name in NAMES}
 COMMANDS = {name: (it.words(), it.stdin, it.stdout) for name, it in CASES.items()}
-TEXT, NUMBERS = rules_and(GAMMA), range(1, 1025)
+TEXT = rules_and(GAMMA)
+NUMBERS = range(1, 1025)
 LONG = auction("-\n" * len(NUMBERS))
 LONG_OUTPUT = "".join(f"* program {k} -\n{FOUR_COLUMNS}" for k in NUMBERS)
 LONG_REPORT = LONG + ("%solution\n" + SOLUTION_OF_ALL) * len(NUMBERS)
@@ -37,8 +41,10 @@ BY_64 = {f"{name} by 64": (it[0] + WORKERS, *it[1:]) for name, it in LONG_COMMAN
 
 FAULTY = TEXT.replace("12,0,1", "1,0,1")
 FAULT = refused("form 1: 12 BelowReserve at record 2")
-UNREAD, TOO_LARGE = refused("input: read failed"), refused("input: too large")
-UNWRITTEN, UNTOLD = refused("write failed after 0 bytes"), (1, b"", b"")
+UNREAD = refused("input: read failed")
+TOO_LARGE = refused("input: too large")
+UNWRITTEN = refused("write failed after 0 bytes")
+UNTOLD = (1, b"", b"")
 OUT_OF_MEMORY = refused("out of memory")
 TOO_LITTLE_STACK = refused("too little stack: ulimit -s 512 allows enough")
 
@@ -246,11 +252,13 @@ WITH_LITTLE_MEMORY = {
 def test_little_memory(wdp, words, text):
     """However little memory there is, a run ends as with enough, or says that it is out of memory, and by no signal: the
     stack is asked for before anything else, and memory may be refused."""
-    with_memory, step = partial(with_limit, resource.RLIMIT_AS), 16 << 10
+    with_memory = partial(with_limit, resource.RLIMIT_AS)
+    step = 16 << 10
     sizes = range(MIB, 64 * MIB, step)
     # with so much the program starts
     short = (it for it in sizes if seen(wdp, ["--version"], "", **with_memory(it)) == OUT_OF_MEMORY)
-    least, wanted = next(short), seen(wdp, words, text)
+    least = next(short)
+    wanted = seen(wdp, words, text)
     steps = range(0, 2048, 16) if text == LONG else range(64)
     for size in (least + step * n for n in steps):
         with row(f"{size >> 10} kB"):

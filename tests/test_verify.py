@@ -111,7 +111,8 @@ def test_winners(wdp, first):
 
 
 # so many certificates are tried in one test; a solution, an auction, and what is damaged
-DAMAGES, CERTIFICATES = 200, ROOT / "fixtures/certificates"
+DAMAGES = 200
+CERTIFICATES = ROOT / "fixtures/certificates"
 
 
 class Certified:
@@ -119,15 +120,20 @@ class Certified:
 
     def __init__(self, wdp, text):
         parts = re.split(rb"(?m)^%(\w+)\n", text)
-        of, kind, self.damaged = dict(zip(parts[1::2], parts[2::2])), parts[-2], parts[-1]
+        of = dict(zip(parts[1::2], parts[2::2]))
+        kind = parts[-2]
+        self.damaged = parts[-1]
         self.before = text.removesuffix(self.damaged)
         uncertified = text.partition(b"%certificate")[0]
         program = programs_of(wdp, uncertified.removeprefix(b"%solution\n" + of[b"solution"]))[0]
-        ones, checker = read_solution(of[b"solution"], program, "the solution"), Checker(program)
-        self.report, self.what = seen(wdp, ["report"], uncertified)[1], "certificate 1"
+        ones = read_solution(of[b"solution"], program, "the solution")
+        checker = Checker(program)
+        self.report = seen(wdp, ["report"], uncertified)[1]
+        self.what = "certificate 1"
         self.judge = lambda it: checker.verdict(program.compute_objective(ones), it)
         if kind == b"unique":
-            self.report, self.what = self.report + b"unique\n", "unique"
+            self.report = self.report + b"unique\n"
+            self.what = "unique"
             self.judge = lambda it: checker.only_verdict([ones], it)
 
     def wanted(self, certificate):
@@ -149,7 +155,8 @@ def prepared(wdp):
 def test_damaged(wdp, prepared, first):
     """The first copies are whole."""
     for number in range(first, first + DAMAGES):
-        auction, is_whole = prepared[number % len(prepared)], number < len(prepared)
+        auction = prepared[number % len(prepared)]
+        is_whole = number < len(prepared)
         whole = auction.damaged, []
         certificate, names = whole if is_whole else damage_certificate(auction.damaged, "1", number)
         with row(f"certificate {number} ({'+'.join(names)})"):

@@ -2,6 +2,7 @@
 
 runs.txt has other solvers by a command, and such as lie, test_auction.py what they start.
 """
+import argparse
 import re
 import subprocess
 from pathlib import Path
@@ -10,7 +11,9 @@ import pytest
 
 from commands import parse_rows, read_text, run, write_script
 from wdp import solve
-from wdp.texts.refusals import NotSolved, Refused
+from wdp.checks import check_solver
+from wdp.commands.arguments import add_solver_options
+from wdp.texts.refusals import NotSolved, Refused, WrongArgument
 from wdp.texts.zero_one import ZeroOne, read_program, read_solution
 
 SMALL = read_text("fixtures", "solvers", "three.mps").encode()
@@ -27,6 +30,17 @@ def program(request: pytest.FixtureRequest) -> ZeroOne:
     """The program that is written otherwise than `wdp` does it."""
     text = OTHER_WAYS.replace("⏎", "\n").replace("\n", request.param)
     return read_program(text.encode("latin-1"))
+
+
+def test_each_solver_with_a_name_has_a_call_and_is_named_where_solvers_are() -> None:
+    parser = argparse.ArgumentParser()
+    add_solver_options(parser)
+    names = next(each.choices for each in parser._actions if each.dest == "solver" and each.choices)
+    for name in names:
+        assert solve._split_command(name)
+        assert f"`--solver {name}`" in read_text("docs", "OFFICE.md")
+        with pytest.raises(WrongArgument, match=name):
+            check_solver("")
 
 
 def test_rows_that_are_written_otherwise(program: ZeroOne) -> None:

@@ -60,14 +60,18 @@ def body_of(lines: list[str], head: int, indent: str) -> tuple[int, int] | None:
 
 def functions_of(text: str) -> list[Function]:
     """The functions of a file, in their order."""
-    lines, found, owner, is_of_trait = text.split("\n"), [], "", False
+    lines = text.split("\n")
+    found = []
+    owner = ""
+    is_of_trait = False
     for n, line in enumerate(lines):
         if block := OWNER.match(line):
             head = block[2].split("{")[0]
             owner = owner_of(head)
             is_of_trait = block[1] == "trait" or " for " in re.sub(r"\bfor<", "", head)
         elif line == "}":
-            owner, is_of_trait = "", False
+            owner = ""
+            is_of_trait = False
         head_of_function = HEAD.match(line)
         if head_of_function and (body := body_of(lines, n, head_of_function[1])):
             indent, name = head_of_function.groups()
@@ -134,7 +138,9 @@ class Edit:
 
 
 def pairs_of(text: str) -> list[tuple[str, str, str]]:
-    pairs, file, old = [], "", ""
+    pairs = []
+    file = ""
+    old = ""
     for line in text.split("\n"):
         if line.startswith("file: "):
             file = line.removeprefix("file: ").strip()

@@ -79,7 +79,9 @@ class Lanes:
         took: dict[Key, float] | None = None,
         chosen: dict[Key, int] | None = None,
     ) -> None:
-        self.tasks, self.processors, self.memory = tasks, processors, memory
+        self.tasks = tasks
+        self.processors = processors
+        self.memory = memory
         # how much work is behind each task: its own, and that of the longest chain of tasks that wait for it
         self.behind = dict.fromkeys(tasks, 0.0)
         for key in reversed([*tasks]):
@@ -148,7 +150,8 @@ class Lanes:
             ready.remove(key)
             self.start(pool_of(key), key, 1)
         while ready:
-            at_work, key = self.at_work(), ready.pop(0)
+            at_work = self.at_work()
+            key = ready.pop(0)
             places = self.processors - sum(is_filler(it.key) == fills for it in at_work)
             idle = max(self.processors - sum(it.jobs for it in at_work), 0)
             if places <= 0 or not idle and self.is_filled and (fills or self.rank(key)):

@@ -35,7 +35,9 @@ class Steps:
     another status than 0 and counts no failure."""
 
     def __init__(self, folder: str) -> None:
-        self.folder, self.printing, self.started = folder, threading.Lock(), time.time()
+        self.folder = folder
+        self.printing = threading.Lock()
+        self.started = time.time()
         self.came: dict[str, tuple[float, int, int]] = {}
         self.running: set[subprocess.Popen[bytes]] = set()
         self.is_stopped = False
@@ -45,7 +47,8 @@ class Steps:
     ) -> bool:
         """Whether nothing failed. What a step prints is shown as it comes, or in one piece at its end. A step that is run again
         counts once."""
-        started, said = time.time(), []
+        started = time.time()
+        said = []
         with self.printing:
             if self.is_stopped:
                 return False
@@ -76,7 +79,8 @@ class Steps:
             said.append(
                 b"\nfailed: the step ended with status %d and counted no failure\n" % run.returncode
             )
-        seconds, text = time.time() - started, b"" if shows_at_once else b"".join(said)
+        seconds = time.time() - started
+        text = b"" if shows_at_once else b"".join(said)
         self.show(
             b"== %s:\n%s== %d s, %d passed, %d failed\n"
             % (name.encode(), text, seconds, passed, failed)

@@ -111,7 +111,9 @@ class Proved:
     proved, and isn't, it doesn't take."""
 
     def __init__(self, rt: Any) -> None:
-        self.rt, self.names, prove = rt, dict[str, list[str]](), rt.Crate.ci
+        self.rt = rt
+        self.names = dict[str, list[str]]()
+        prove = rt.Crate.ci
 
         def ci(crate: Any, flags: Any, tests: bool) -> Any:
             status = prove(crate, flags, tests)

@@ -90,14 +90,17 @@ class Trial:
         check: Check,
         proved: list[str],
     ) -> None:
-        self.crate, self.sources, self.check = crate, sources, check
+        self.crate = crate
+        self.sources = sources
+        self.check = check
         self.edits = list(edits)
         self.names = names_of(sources, proved)
         # closures are proved with their function, and what is let go has no file
         self.holed = {name for name in proved if "fn" not in name.split("::") and "++" not in name}
         self.has_stubs = True
         self.answers: dict[str, Answer] = {}
-        self.checks, self.said = 0, ""
+        self.checks = 0
+        self.said = ""
 
     def answer(self, edit: Edit, is_refused: bool, why: str) -> None:
         self.answers[edit.path] = (
@@ -180,12 +183,13 @@ class Trial:
 
     def try_alone(self, variant: Variant) -> None:
         """Judges an edit by a check of its own."""
-        found, name, edit = self.try_all([variant]), variant.name, variant.edit
+        found = self.try_all([variant])
+        name = variant.name
+        edit = variant.edit
         if edit.path in self.answers:
             return None
-        goals, lost = goals_within(name, found), [
-            goal for other, it in found.items() if is_within(other, name) for goal in it.lost
-        ]
+        goals = goals_within(name, found)
+        lost = [goal for other, it in found.items() if is_within(other, name) for goal in it.lost]
         if name not in found:
             said = self.said.strip()
             return self.answer(
@@ -205,7 +209,9 @@ class Trial:
 
     def run(self) -> list[Answer]:
         """Whether each edit is refused, and what to say of it."""
-        copies, in_place, numbers = [], [], Counter[str]()
+        copies = []
+        in_place = []
+        numbers = Counter[str]()
         for edit in self.edits:
             of = self.names.get(edit.place, "")
             if edit.fault or not of:
@@ -290,7 +296,8 @@ def trial_of(
                 spent.append(seconds)
                 return said
 
-            started, sources = time.time(), Sources(Path(crate.folder))
+            started = time.time()
+            sources = Sources(Path(crate.folder))
             proved = proved_in(crate) or [
                 name for name, it in findings_in(check({}, [])).items() if it.is_proved
             ]

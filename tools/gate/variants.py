@@ -38,8 +38,10 @@ def answers_of(name: str) -> str:
 
 def copy_of(edit: Edit, of: str, number: int, sources: Sources) -> Variant | None:
     """The copy for an edit of a function that the check calls `of`; None where there can't be one."""
-    file, function = edit.place[0], sources.functions[edit.place[0]][edit.place[1]]
-    lines, first = sources.texts[file].split("\n"), function.head
+    file = edit.place[0]
+    function = sources.functions[edit.place[0]][edit.place[1]]
+    lines = sources.texts[file].split("\n")
+    first = function.head
     while first > 1 and ABOVE.match(lines[first - 2]):
         first -= 1
     text = "\n".join(lines[first - 1 : function.end])
@@ -78,7 +80,8 @@ def texts_of(
 ) -> dict[str, str]:
     """The sources with the variants, and the proofs of copies. Of the functions that are `stated` the statement is enough."""
     in_place = [it.edit for it in variants if not it.text]
-    edited, texts = {edit.place for edit in in_place}, {}
+    edited = {edit.place for edit in in_place}
+    texts = {}
     for file, functions in sources.functions.items():
         text = sources.texts[file]
         for other, old, new in (pair for edit in in_place for pair in edit.pairs):
@@ -115,7 +118,8 @@ def holes_for(crate: str, names: set[str]) -> dict[str, str | None]:
 def without_what_is_gone(text: str, lines: list[int], names: list[str]) -> str:
     """Answers without those that have one of these lines or names, and imports without these names, and without names of goals that
     no answer has any more: a check tells one name of an import at a time."""
-    kept, at = [], 1
+    kept = []
+    at = 1
     for piece in re.split(r"(?m)^(?=pub |use )", text):
         end = at + max(piece.count("\n"), 1)
         is_gone = any(at <= line < end for line in lines) or any(name in piece for name in names)

@@ -163,7 +163,8 @@ def steps_left_out() -> Iterator[str]:
 def of_files() -> str:
     """What is said of a file that isn't read or written, and why, as docs/REFERENCE.md shows it."""
     source = Path(ROOT, "crates", "auction_input", "src", "files.rt").read_text()
-    docs, rows = docs_of(source), []
+    docs = docs_of(source)
+    rows = []
     for name, words in MESSAGE.findall(source.replace("kind.words()", '"KIND"')):
         message = "".join(re.findall(r'"(.*?)"', words)).strip()
         rows.append([f"`{message}`", docs[name]])

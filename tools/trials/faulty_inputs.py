@@ -5,7 +5,8 @@ import random
 from trials.planted import MOST_LINES, Planted
 from trials.worked import ALPHA, auction, rules_and
 
-MIB, HUGE = 1 << 20, 3_000_000
+MIB = 1 << 20
+HUGE = 3_000_000
 
 
 def planted(count, bids, has_other_headers, number):
@@ -37,7 +38,8 @@ def limits():
     nobody = "groups: 3 UnknownBidder at line %d, name 1: 'Nobody' is no bidder's name"
     short = "form %d: 2 Header at record 1: 1 fields in place of 3"
     many = "%form\nAlpha,A,B\n" * 1_001
-    groups, calls = "%groups\nNobody\n", [nobody % 1, "form 1001: CallLimit"]
+    groups = "%groups\nNobody\n"
+    calls = [nobody % 1, "form 1001: CallLimit"]
     yield "1,001 forms", rules_and() + many + groups, calls
     yield "1,002 forms, a faulty one", rules_and("x\n") + many + groups, [short % 1, nobody % 1]
     large = rules_and(ALPHA + "\n" * 4 * MIB, "x\n") + "%groups\n" + "-\n" * 2 * MIB + "-"
@@ -46,7 +48,8 @@ def limits():
     told += ["groups: 2 EmptyLine at line 1026", told[1].replace("1025", "1026")]
     yield "1,026 groups", auction("-\n" * 1_024 + "Nobody\n\n"), told
     # a bid with a fault is none of the 4,000
-    amount, room = ("5 AmountText", 1), ("14 TooManyBids", None)
+    amount = ("5 AmountText", 1)
+    room = ("14 TooManyBids", None)
     for faults in ({4_002: [room]}, {10: [amount]}, {4_002: [amount, room]}):
         planted = Planted(random.Random("limits"), 4_002)
         planted.told = {(1, record): it for record, it in [*faults.items(), (4_003, [room])]}

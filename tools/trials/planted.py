@@ -37,7 +37,8 @@ BIDDERS = ["Alpha", "Beta", "Gamma", "Delta", "Omega", "Sigma"]
 
 # Fields that are put into a bid, by their numbers, where None leaves one out and 6 adds one; and what is told then, with its
 # field. With EARLIER the package is that of an earlier bid.
-EARLIER, TEXT = "earlier", "8 QuantityText"
+EARLIER = "earlier"
+TEXT = "8 QuantityText"
 NO_LOTS = {2: "0", 3: "0", 4: "0", 5: "0"}
 BID_PLANTS = [
     ({1: "x"}, [("5 AmountText", 1)]),
@@ -90,11 +91,15 @@ WRONG = {
     "4 RepeatedBidder": " is in the line already",
 }
 # points and reserves of the lots, and the eligibility of each bidder
-POINTS, RESERVES, ELIGIBILITY = (3, 2, 1, 1), (10, 20, 30, 40), 100
+POINTS = (3, 2, 1, 1)
+RESERVES = (10, 20, 30, 40)
+ELIGIBILITY = 100
 GOOD_GROUPS = ["-", "Alpha", "Beta+Gamma", "Sigma+Alpha+Omega"]
 GROUP_LINES = 120
 # the place of groups behind the forms, and the numbers of the forms whose columns, or whose bidder, may be others than those of the rules
-BEHIND, OTHER_COLUMNS, OTHER_BIDDER = len(BIDDERS) + 1, 2, 4
+BEHIND = len(BIDDERS) + 1
+OTHER_COLUMNS = 2
+OTHER_BIDDER = 4
 
 
 def bid(number):
@@ -112,7 +117,9 @@ class Planted:
     """An auction with faults at places that are drawn, and what is to be told of each place: the faults and their fields."""
 
     def __init__(self, draw, bids, has_other_headers=False):
-        self.draw, self.bids, self.told = draw, bids, {}
+        self.draw = draw
+        self.bids = bids
+        self.told = {}
         self.forms = {
             number: [[name, *CATEGORIES], *map(bid, range(1, bids + 1))]
             for number, name in enumerate(BIDDERS, 1)
@@ -153,7 +160,8 @@ class Planted:
         if form == BEHIND:
             self.groups[record - 1] = change
         else:
-            records, earlier = self.forms[form], self.draw.randrange(2, record, 5)
+            records = self.forms[form]
+            earlier = self.draw.randrange(2, record, 5)
             repeats = ("13 RepeatedPackage", EARLIER) in faults
             fields = [records[record - 1][0], *records[(earlier if repeats else record) - 1][1:]]
             after = {**dict(enumerate(fields, 1)), **change}

@@ -55,7 +55,9 @@ def refusals(
 ) -> Iterator[tuple[int, Callable[[], bool], dict[str, str]]]:
     """The environments of runs of which run n has its request n refused, whether the run met it, and n. Threads may make one
     request more or less: the end is where some runs met none."""
-    mark, number, missed = folder / "refused", 0, 0
+    mark = folder / "refused"
+    number = 0
+    missed = 0
     while missed < 3:
         number += 1
         mark.unlink(missing_ok=True)

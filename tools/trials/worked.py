@@ -20,13 +20,15 @@ def output(case):
 
 # The programs of no form, of Gamma's form alone, as another tool may write that, of the first bid of Alpha's form, of its first
 # two, since the third is dominated, and of all three forms, of which Beta's second bid asks for more than there is.
-NO_COLUMN, ONE_COLUMN = output("no_form"), output("one_form")
+NO_COLUMN = output("no_form")
+ONE_COLUMN = output("one_form")
 MADE_ELSEWHERE = read_case("check_made_elsewhere").stdin.decode()
 ONE_BID_OF_ALPHA = output("dominated_by_smaller_package")
 TWO_BIDS_OF_ALPHA = output("one_form_with_a_dominated_bid")
 FOUR_COLUMNS = output("three_forms")
 
-SOLUTION_OF_ALL, WINNERS = "X1_1 0.999999\nX2_1 1\nX3_1 1\n", output("map_three_winners")
+SOLUTION_OF_ALL = "X1_1 0.999999\nX2_1 1\nX3_1 1\n"
+WINNERS = output("map_three_winners")
 
 
 def rules_and(*forms):
