@@ -32,12 +32,12 @@ def rows() -> list[list[str]]:
     return [line.split() for line in lines if line.strip() and not line.startswith("#")]
 
 
-def measured() -> dict[Key, float]:
+def read_seconds() -> dict[Key, float]:
     """The processor time that each task takes with one process, in seconds, as it was measured."""
     return {(crate, kind): float(seconds) for crate, kind, seconds, *_ in rows()}
 
 
-def chosen() -> dict[Key, int]:
+def read_processes() -> dict[Key, int]:
     """With how many processes each proof is begun where there are only proofs, on four processors."""
     return {(crate, kind): int(many[0]) for crate, kind, _, *many in rows() if many}
 

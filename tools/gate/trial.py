@@ -238,7 +238,7 @@ class Trial:
         return [self.answers[edit.path] for edit in self.edits]
 
 
-def checked(
+def run_check(
     rt: Any, crate: Any, texts: dict[str, str | None], flags: list[str], kept: str
 ) -> tuple[str, float]:
     """What a check of a copy of the crate says, with these texts in place of its own, and the processor time that it took."""
@@ -290,7 +290,7 @@ def trial_of(
                 holes = (
                     ["--allow-holes"] if any(path.endswith("/Proof.antt") for path in texts) else []
                 )
-                said, seconds = checked(
+                said, seconds = run_check(
                     rt, crate, texts, ["--jobs", str(share()), *only, *holes], kept
                 )
                 spent.append(seconds)

@@ -75,7 +75,7 @@ def is_line_of(line, refusal):
     return bool(re.fullmatch(re.escape(refusal) + detail, line))
 
 
-def shown(text):
+def quote(text):
     """A field as it is shown."""
     if isinstance(text, str):
         text = text.encode("latin-1")
@@ -91,8 +91,8 @@ def shown(text):
 
 
 def of_field(number, text, wrong):
-    return ", field %d: %s%s" % (number, shown(text), wrong)
+    return ", field %d: %s%s" % (number, quote(text), wrong)
 
 
 def of_name(number, name, wrong):
-    return ", name %d: %s%s" % (number, shown(name), wrong)
+    return ", name %d: %s%s" % (number, quote(name), wrong)

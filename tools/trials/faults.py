@@ -91,7 +91,7 @@ class Section(NamedTuple):
         meanings = self.meanings()
         return [row for row in self.rows if row.fault() not in meanings]
 
-    def shown(self) -> str:
+    def format_section(self) -> str:
         """The section as docs/REFERENCE.md has it: what the commonest faults look like in a text, what is refused without being
         numbered by the sources, and what each numbered fault means."""
         prints = f"`wdp {self.command}` prints"

@@ -27,7 +27,7 @@ def built(name: str = "wdp") -> str:
     return os.path.join(ROOT, "crates", crate, "out", crate)
 
 
-def recorded(what: str) -> str | None:
+def read_record(what: str) -> str | None:
     """Return what the record of the programs that come with the tree says of: `sources`, `program NAME`, `toolchain`."""
     record = Path(ROOT, "prebuilt", "record")
     lines = record.read_text().splitlines() if record.exists() else []
@@ -62,7 +62,7 @@ def are_built() -> bool:
     return all(is_built(name) for name in list_programs())
 
 
-def unpacked(folder: str, name: str = "wdp") -> str:
+def unpack(folder: str, name: str = "wdp") -> str:
     """Unpack the program that comes with the tree into a folder."""
     program = Path(folder, name)
     program.write_bytes(gzip.decompress(Path(ROOT, "prebuilt", f"{name}.gz").read_bytes()))
@@ -76,6 +76,6 @@ def of_these_sources(folder: str, name: str = "wdp") -> str:
         return built(name)
     if not Path(ROOT, "prebuilt", f"{name}.gz").exists():
         return ""
-    program = unpacked(folder, name)
-    is_recorded = [recorded("sources"), recorded(f"program {name}")] == [sources(), sum_of(program)]
+    program = unpack(folder, name)
+    is_recorded = [read_record("sources"), read_record(f"program {name}")] == [sources(), sum_of(program)]
     return program if is_recorded else ""
