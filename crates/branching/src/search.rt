@@ -7,7 +7,7 @@ use std::alloc::{AllocError, Global};
 use std::cmp::OrderedFloat;
 
 /// The most pivots of a node.
-const NODE_PIVOTS: usize = 20_000;
+const NODE_PIVOTS: usize = 5_000;
 /// Splits that are tried, the pivots of a try, and the tries without a better one.
 const TRIES: usize = 32;
 

@@ -93,12 +93,11 @@ pub fn judged(
 {
     let alloc = checker.alloc;
     let left = Left::below(alloc, place.layout, place.sides)?;
-    let loss = place.layout.rounding_loss();
     for scale in SCALES {
         let whole = rounded(alloc, place.layout, prices, scale)?;
         match show(checker, sums, place, &left, &whole)? {
             Shown::By(leaf) => return Ok(Some(leaf)),
-            Shown::Not(gap) if gap > loss => return Ok(None),
+            Shown::Not(gap) if gap > place.layout.loss => return Ok(None),
             Shown::Not(_) => {}
         }
     }

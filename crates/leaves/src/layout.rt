@@ -31,6 +31,8 @@ pub struct Layout {
     pub constant: i128,
     /// What a unit of the search costs.
     pub unit: f64,
+    /// The most that prices lose by rounding, at any scale and in its units, if each moves by a half.
+    pub loss: i128,
 }
 
 /// What a row of a program is here.
@@ -66,6 +68,7 @@ impl Draft {
                 right_sides: Vec::new(alloc),
                 constant: 0,
                 unit: 1.0,
+                loss: 0,
             },
             roles: Vec::new(alloc),
         }
@@ -177,6 +180,7 @@ impl Draft {
             largest = largest.max(column.cost.saturating_abs());
         }
         self.layout.unit = nearest_i64_to_f64(largest) / LARGEST_COST;
+        self.layout.measure_loss();
         Ok(self.layout)
     }
 }
@@ -235,18 +239,29 @@ impl Layout {
         self.columns.iter().position(|known| known.place == column)
     }
 
-    /// The most that prices lose by rounding, at any scale and in its units, if each moves by a half.
-    pub fn rounding_loss(&self) -> i128 {
-        let mut loss: i128 = 1;
+    /// Measures what rounding loses: half of the right sides, and for each block half of the largest load of each row.
+    fn measure_loss(&mut self) {
+        let mut sides: i128 = 0;
         for side in &self.right_sides {
-            loss = loss.saturating_add(i128::from(side.saturating_abs()));
+            sides = sides.saturating_add(i128::from(side.saturating_abs()));
         }
+        let mut loads: i128 = 0;
+        for row in 0..self.right_sides.len() {
+            loads = loads.saturating_add(self.largest_load(row));
+        }
+        let of_blocks = loads.saturating_mul(self.blocks.len() as i128);
+        self.loss = (sides.saturating_add(of_blocks) / 2).saturating_add(1);
+    }
+
+    /// The largest load of a row.
+    fn largest_load(&self, row: usize) -> i128 {
+        let mut largest: i64 = 0;
         for column in &self.columns {
-            for load in &column.loads {
-                loss = loss.saturating_add(i128::from(load.saturating_abs()));
+            if let Some(load) = column.loads.get(row) {
+                largest = largest.max(load.saturating_abs());
             }
         }
-        loss
+        i128::from(largest)
     }
 
     /// The problem of these columns, which rise.

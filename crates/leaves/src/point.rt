@@ -84,6 +84,13 @@ impl Best {
         Best { ones, objective }
     }
 
+    pub fn copied(&self) -> Result<Best, AllocError> {
+        Ok(Best {
+            ones: self.ones.clone()?,
+            objective: self.objective,
+        })
+    }
+
     /// The places of its columns in the program.
     pub fn columns(&self, alloc: Global, layout: &Layout) -> Result<Vec<usize>, AllocError> {
         let mut columns = Vec::new(alloc);

@@ -5,13 +5,16 @@ use crate::point::{Best, is_feasible};
 use crate::root::{Root, solve_root};
 use crate::text::certificate_of;
 use crate::tree::{Aim, Ground, Stop, Tree};
-use branching::Search;
+use branching::{Problem, Search};
 use optimality::{Checker, Limit, new_checker};
 use program_rows::Selection;
 use std::alloc::{AllocError, Global};
 
 /// The most cells of a tableau.
 const LARGEST_TABLE: usize = 8_000_000;
+
+/// Reduced costs may be above a gap by so much before their columns are fixed.
+const MARGIN: f64 = 1e-7;
 
 /// A search begins again where a better point leaves a part of the columns less than so many fifths.
 const LEFT_FIFTHS: usize = 4;
@@ -65,11 +68,22 @@ struct Proving<'p> {
     most_steps: u64,
 }
 
-/// How a round of a search ended.
+/// How the tree of a round ended.
 #[derive(Drop)]
-enum Round {
+enum End {
     Over(Answer),
+    /// A better point leaves far fewer columns.
     Again,
+    /// The checker doesn't take the leaf by which columns are fixed.
+    NotFixed,
+}
+
+/// What a round of a search came to.
+#[derive(Drop)]
+struct Round {
+    best: Best,
+    steps: u64,
+    end: End,
 }
 
 fn places_of(alloc: Global, layout: &Layout, columns: &[usize]) -> Result<Vec<usize>, AllocError> {
@@ -127,91 +141,97 @@ impl<'p> Proving<'p> {
 }
 
 impl<'p> Proving<'p> {
-    /// One round: a tree over the columns that may be in a better point.
-    fn round(&mut self) -> Result<Round, Limit> {
-        let alloc = self.alloc;
+    /// The columns that may be in a point that is looked for.
+    fn core(&self) -> Result<Vec<usize>, AllocError> {
         let goal = match self.aim {
             Aim::Better => self.best.objective.saturating_sub(1),
             Aim::Ties(_) => self.best.objective.saturating_add(1),
         };
-        let gap = self.layout.in_units(goal) - self.root.bound;
-        let mut core = self.root.core(alloc, gap)?;
-        let others = outside(alloc, self.layout.columns.len(), core.as_slice())?;
+        let gap = self.layout.in_units(goal) - self.root.bound + MARGIN;
+        self.root.core(self.alloc, gap)
+    }
+
+    /// Grows the tree of these columns, where others are fixed. The answer, if the search is over.
+    fn try_core(&mut self, core: &[usize], others: Vec<usize>) -> Result<End, Limit> {
         if self.layout.table_size(core.len()) > LARGEST_TABLE {
-            return Ok(Round::Over(self.not_proved()?));
+            return Ok(End::Over(self.not_proved()?));
         }
-        let answer = grown(self, core.as_slice(), others)?;
-        if let Some(round) = answer {
-            return Ok(round);
+        let problem = self.layout.problem(self.alloc, core)?;
+        let Round { best, steps, end } = grown(self, core, &problem, others)?;
+        self.best = best;
+        self.steps = self.steps.saturating_add(steps);
+        Ok(end)
+    }
+
+    /// One round: a tree over the columns that may be in a point that is looked for. The answer, if the search is over.
+    fn round(&mut self) -> Result<Option<Answer>, Limit> {
+        let core = self.core()?;
+        let others = outside(self.alloc, self.layout.columns.len(), core.as_slice())?;
+        match self.try_core(core.as_slice(), others)? {
+            End::Over(answer) => return Ok(Some(answer)),
+            End::Again => return Ok(None),
+            End::NotFixed => {}
         }
-        // The checker didn't take the leaf by which columns are fixed: all of them stay.
-        core = outside(alloc, self.layout.columns.len(), &[])?;
-        if self.layout.table_size(core.len()) > LARGEST_TABLE {
-            return Ok(Round::Over(self.not_proved()?));
-        }
-        match grown(self, core.as_slice(), Vec::new(alloc))? {
-            Some(round) => Ok(round),
-            None => Ok(Round::Over(self.not_proved()?)),
+        let all = outside(self.alloc, self.layout.columns.len(), &[])?;
+        let nothing = Vec::new(self.alloc);
+        match self.try_core(all.as_slice(), nothing)? {
+            End::Over(answer) => Ok(Some(answer)),
+            End::Again | End::NotFixed => Ok(None),
         }
     }
 }
 
-/// Grows the tree of these columns, where others are fixed; nothing if the checker doesn't take that.
-fn grown(
-    proving: &mut Proving<'_>,
-    core: &[usize],
+/// Grows the tree of a problem of these columns, where others are fixed.
+fn grown<'a>(
+    proving: &'a Proving<'_>,
+    core: &'a [usize],
+    problem: &'a Problem,
     others: Vec<usize>,
-) -> Result<Option<Round>, Limit> {
+) -> Result<Round, Limit> {
     let alloc = proving.alloc;
-    let problem = proving.layout.problem(alloc, core)?;
     let tableau = problem.root(alloc)?;
-    let search = Search::new(alloc, &problem, 0.0, &tableau)?;
+    let search = Search::new(alloc, problem, 0.0, &tableau)?;
     let ground = Ground {
         alloc,
         layout: &proving.layout,
         core,
         aim: proving.aim,
     };
-    let best = Best::of_ones(&proving.layout, proving.best.ones.clone()?);
-    let start = Best {
-        ones: best.ones,
-        objective: proving.best.objective,
-    };
+    let start = proving.best.copied()?;
     let mut tree = Tree::new(ground, search, tableau, start, proving.left_out.as_slice())?;
-    let mut is_begun = others.is_empty() || proving.aim != Aim::Better;
-    let mut fixed = others;
-    for _ in 0..u64::MAX {
+    if !others.is_empty() && proving.aim == Aim::Better {
         let checker = proving.checker(tree.best.objective)?;
-        if !is_begun {
-            let columns = fixed.clone()?;
-            fixed.clear();
-            if !tree.fix_root(&checker, columns, proving.root.prices.as_slice())? {
-                return Ok(None);
-            }
-            is_begun = true;
-        }
-        let left = proving.most_steps.saturating_sub(proving.steps);
-        match tree.grow(&checker, left)? {
-            Stop::Better => {
-                let gap = tree.gap(proving.root.bound);
-                let count = proving.root.count(gap);
-                if count.saturating_mul(5) < core.len().saturating_mul(LEFT_FIFTHS) {
-                    proving.steps = proving.steps.saturating_add(tree.steps);
-                    proving.best = tree.best;
-                    return Ok(Some(Round::Again));
-                }
-            }
-            stop => {
-                proving.steps = proving.steps.saturating_add(tree.steps);
-                return Ok(Some(Round::Over(ended(proving, tree, stop)?)));
-            }
+        if !tree.fix_root(&checker, others, proving.root.prices.as_slice())? {
+            return round_of(tree, End::NotFixed);
         }
     }
-    Ok(None)
+    let left = proving.most_steps.saturating_sub(proving.steps);
+    for _ in 0..u64::MAX {
+        let checker = proving.checker(tree.best.objective)?;
+        let stop = tree.grow(&checker, left)?;
+        if stop != Stop::Better {
+            let answer = ended(proving, &tree, stop)?;
+            return round_of(tree, End::Over(answer));
+        }
+        let count = proving.root.count(tree.gap(proving.root.bound));
+        if count.saturating_mul(5) < core.len().saturating_mul(LEFT_FIFTHS) {
+            return round_of(tree, End::Again);
+        }
+    }
+    round_of(tree, End::Again)
+}
+
+/// What a round came to whose tree ended so.
+fn round_of(tree: Tree<'_>, end: End) -> Result<Round, Limit> {
+    Ok(Round {
+        best: tree.best.copied()?,
+        steps: tree.steps,
+        end,
+    })
 }
 
 /// What a tree came to.
-fn ended(proving: &Proving<'_>, tree: Tree<'_>, stop: Stop) -> Result<Answer, Limit> {
+fn ended(proving: &Proving<'_>, tree: &Tree<'_>, stop: Stop) -> Result<Answer, Limit> {
     let alloc = proving.alloc;
     let layout = &proving.layout;
     let ones = tree.best.columns(alloc, layout)?;
@@ -279,7 +299,7 @@ fn search<'p>(alloc: Global, program: &'p Selection<'p>, task: Task<'_>) -> Resu
     };
     proving.take_first()?;
     for _ in 0..u64::MAX {
-        if let Round::Over(answer) = proving.round()? {
+        if let Some(answer) = proving.round()? {
             return Ok(answer);
         }
     }

@@ -102,23 +102,25 @@ impl<'a> Tree<'a> {
             is_high: false,
             tableau: Some(root.copied(alloc)?),
         })?;
+        let mut ties = Vec::new(alloc);
+        if let Aim::Ties(_) = ground.aim {
+            ties.push(best.ones.clone()?)?;
+        }
+        let open_cells = root.size();
         let mut tree = Tree {
             ground,
             search,
             best,
-            ties: Vec::new(alloc),
+            ties,
             nodes,
             steps: 0,
             sums: Sums::new(alloc),
             sides: Vec::new(alloc),
             splits,
             open,
-            open_cells: root.size(),
+            open_cells,
             root,
         };
-        if let Aim::Ties(_) = ground.aim {
-            tree.ties.push(tree.best.ones.clone()?)?;
-        }
         tree.set_goal();
         Ok(tree)
     }
