@@ -310,7 +310,9 @@ impl<'a> Tree<'a> {
         let mut prices = prices_of(self.ground.alloc, tableau, first, problem.right_sides.len())?;
         if let Some(ray) = ray {
             if let Some(row) = tableau.rows.get(ray.row) {
-                let far = ray.ratio + (self.search.goal.abs() * 0.02 + 10.0) / ray.slope;
+                let missing = (self.search.goal - tableau.objective()).max(0.0);
+                let rise = missing * 2.0 + self.search.goal.abs() * 0.02 + 10.0;
+                let far = ray.ratio + rise / ray.slope;
                 for (price, cell) in prices.iter_mut().zip(row.cells.iter().skip(first)) {
                     let change = if ray.is_low { *cell } else { -*cell };
                     *price = (*price + far * change).max(0.0);
