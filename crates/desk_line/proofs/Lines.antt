@@ -2,8 +2,9 @@
 use Rattle.std.proofs.Common.{◌≡◌, ◌<◌, ◌≤◌, ◌+◌, ◌++◌, ◌∙◌, ℕ, zero, suc, List, [], ◌∷◌, Option, Some, None, Bool, true, false, length, take, drop, refl, ap, sym, subst, append_assoc, append-nil, arith, length-append}
 use Rattle.std.proofs.lemmas.List.{take-append-drop, drop-take, length-take-le, take-take}
 use Rattle.std.specs.Io.KnownBytes.{Consumes, append_known}
-use Rattle.desk_line.specs.Fronts.{Step, calls_in, replies_in, entries_in, state_after, AreSteps, IsWithin}
-use Rattle.desk_line.specs.Served.{Batch, Line, calls_of, line_with, line_after, AreBatches, IsAnswered, IsTaken, IsServed, disk_full, disk_full_times}
+use Rattle.desk_line.specs.Fronts.{Step, calls_in, replies_in, entries_in, state_after, AreSteps, IsFrontWithin}
+use Rattle.desk_line.specs.Served.{Batch, LineState, calls_of, line_with, line_after, AreBatches, IsServed, disk_full, disk_full_times}
+use Rattle.desk_line.specs.inside.Pieces.{IsBatchAnswered, IsPieceTaken}
 use Rattle.desk_line.specs.declared.machine.Front.{Front}
 use Rattle.desk_line.specs.declared.machine.Front.TheVariants.{Whole}
 
@@ -76,7 +77,7 @@ module _ {M : Type 0} (fronts : M → List ℕ → Front → Type 0) (answers : 
       (subst (λ (l : List ℕ). fronts m l (Whole n)) (append-nil (take n bytes)) (whole bytes [] n is))
 
   -- nothing is answered yet
-  pub answered_nothing : (m : M) (bytes : List ℕ) → IsAnswered fronts answers m m bytes [] [] 0 0 []
+  pub answered_nothing : (m : M) (bytes : List ℕ) → IsBatchAnswered fronts answers m m bytes [] [] 0 0 []
   answered_nothing m bytes = record {
     bytes_are = refl;
     steps_are = tt;
@@ -90,10 +91,10 @@ module _ {M : Type 0} (fronts : M → List ℕ → Front → Type 0) (answers : 
 
   -- a call more is answered
   pub answered-push : (first now : M) (bytes told kept : List ℕ) (used count : ℕ) (steps : List (Step M)) (n : ℕ) (s : Step M) (told' kept' : List ℕ)
-      → IsAnswered fronts answers first now bytes told kept used count steps
+      → IsBatchAnswered fronts answers first now bytes told kept used count steps
       → s.call ≡ take n (drop used bytes) → fronts now s.call (Whole (length s.call)) → 0 < n → used + n ≤ length bytes
       → answers now s.call s.reply s.entry s.next → told' ≡ told ++ s.reply → kept' ≡ kept ++ s.entry
-      → IsAnswered fronts answers first s.next bytes told' kept' (used + n) (count + 1) (steps ++ s ∷ [])
+      → IsBatchAnswered fronts answers first s.next bytes told' kept' (used + n) (count + 1) (steps ++ s ∷ [])
   answered-push first now bytes told kept used count steps n s told' kept' was is whole some within answered tells keeps = record {
     bytes_are = take_then bytes used n within ∙ ap (λ (l : List ℕ). l ++ take n (drop used bytes)) was.bytes_are
         ∙ ap (λ (l : List ℕ). calls_in steps ++ l) (sym is) ∙ sym (calls_in-push steps s);
@@ -110,7 +111,7 @@ module _ {M : Type 0} (fronts : M → List ℕ → Front → Type 0) (answers : 
   -- what a state that answered knows of the journal
   pub answered_extent : (extent : M → ℕ) → ((m n : M) (call reply entry : List ℕ) → answers m call reply entry n → extent n ≡ extent m + length entry)
       → (first now : M) (bytes told kept : List ℕ) (used count : ℕ) (steps : List (Step M))
-      → IsAnswered fronts answers first now bytes told kept used count steps → extent now ≡ extent first + length kept
+      → IsBatchAnswered fronts answers first now bytes told kept used count steps → extent now ≡ extent first + length kept
   answered_extent extent grows first now bytes told kept used count steps was =
       ap extent was.state_is ∙ extent-after extent grows first steps was.steps_are ∙ ap (λ (l : List ℕ). extent first + length l) (sym was.kept_is)
 
@@ -118,11 +119,11 @@ module _ {M : Type 0} (fronts : M → List ℕ → Front → Type 0) (answers : 
     (grows : (m n : M) (call reply entry : List ℕ) → answers m call reply entry n → extent n ≡ extent m + length entry)
     (knows : (m : M) → extent (begun m) ≡ extent m) where
   -- a piece whose entries are kept
-  pub taken_kept : (old : Line M) (now : M) (buf told kept : List ℕ) (used count : ℕ) (steps : List (Step M)) (kept' told' : Option (List ℕ))
-      (extent' failures' : ℕ) (left : List ℕ) → IsAnswered fronts answers (begun old.state) now buf told kept used count steps
+  pub taken_kept : (old : LineState M) (now : M) (buf told kept : List ℕ) (used count : ℕ) (steps : List (Step M)) (kept' told' : Option (List ℕ))
+      (extent' failures' : ℕ) (left : List ℕ) → IsBatchAnswered fronts answers (begun old.state) now buf told kept used count steps
       → extent old.state ≡ old.extent → kept' ≡ append_known old.kept kept → extent' ≡ old.extent + length kept → told' ≡ append_known old.told told
       → failures' ≡ old.failures → left ≡ drop used buf
-      → IsTaken fronts answers begun extent old (record { state = now; kept = kept'; extent = extent'; told = told'; failures = failures' }) buf left
+      → IsPieceTaken fronts answers begun extent old (record { state = now; kept = kept'; extent = extent'; told = told'; failures = failures' }) buf left
       (record { steps = steps; is_kept = true })
   taken_kept old now buf told kept used count steps kept' told' extent' failures' left was known keeps extends tells fails is = record {
     line_is = λ i. record {
@@ -139,12 +140,12 @@ module _ {M : Type 0} (fronts : M → List ℕ → Front → Type 0) (answers : 
   }
 
   -- a piece whose entries can't be written
-  pub taken_full : (old : Line M) (now back : M) (buf told kept : List ℕ) (used count : ℕ) (steps : List (Step M)) (lines : List ℕ)
+  pub taken_full : (old : LineState M) (now back : M) (buf told kept : List ℕ) (used count : ℕ) (steps : List (Step M)) (lines : List ℕ)
       (kept' told' : Option (List ℕ)) (extent' failures' : ℕ) (left : List ℕ)
-      → IsAnswered fronts answers (begun old.state) now buf told kept used count steps
+      → IsBatchAnswered fronts answers (begun old.state) now buf told kept used count steps
       → extent old.state ≡ old.extent → back ≡ begun old.state → lines ≡ disk_full_times count
       → kept' ≡ old.kept → extent' ≡ old.extent → told' ≡ append_known old.told lines → failures' ≡ old.failures + 1 → left ≡ drop used buf
-      → IsTaken fronts answers begun extent old (record { state = back; kept = kept'; extent = extent'; told = told'; failures = failures' }) buf left
+      → IsPieceTaken fronts answers begun extent old (record { state = back; kept = kept'; extent = extent'; told = told'; failures = failures' }) buf left
       (record { steps = steps; is_kept = false })
   taken_full old now back buf told kept used count steps lines kept' told' extent' failures' left was known rewound lines_are keeps extends tells fails is = record {
     line_is = λ i. record {
@@ -159,27 +160,27 @@ module _ {M : Type 0} (fronts : M → List ℕ → Front → Type 0) (answers : 
     all_known = ap extent rewound ∙ knows old.state ∙ known ∙ sym extends;
   }
 
-  line_after-push : (line : Line M) (batches : List (Batch M)) (batch : Batch M)
+  line_after-push : (line : LineState M) (batches : List (Batch M)) (batch : Batch M)
       → line_after begun line (batches ++ batch ∷ []) ≡ line_with begun (line_after begun line batches) batch
   line_after-push line [] batch = refl
   line_after-push line (b ∷ batches) batch = line_after-push (line_with begun line b) batches batch
 
-  AreBatches-push : (line : Line M) (batches : List (Batch M)) (batch : Batch M) → AreBatches fronts answers begun line batches
+  AreBatches-push : (line : LineState M) (batches : List (Batch M)) (batch : Batch M) → AreBatches fronts answers begun line batches
       → AreSteps fronts answers (begun (line_after begun line batches).state) batch.steps → AreBatches fronts answers begun line (batches ++ batch ∷ [])
   AreBatches-push line [] batch are more = (more, tt)
   AreBatches-push line (b ∷ batches) batch are more = (are.0, AreBatches-push (line_with begun line b) batches batch are.1 more)
 
   -- nothing is served yet
-  pub served_nothing : (line : Line M) → extent line.state ≡ line.extent → IsServed fronts answers begun extent line line []
+  pub served_nothing : (line : LineState M) → extent line.state ≡ line.extent → IsServed fronts answers begun extent line line []
   served_nothing line known = record { line_is = refl; batches_are = tt; all_known = known }
 
   -- a batch more
-  pub served_then : (first now next : Line M) (batches : List (Batch M)) (batch : Batch M) (bytes left : List ℕ)
-      → IsServed fronts answers begun extent first now batches → IsTaken fronts answers begun extent now next bytes left batch
+  pub served_then : (first now next : LineState M) (batches : List (Batch M)) (batch : Batch M) (bytes left : List ℕ)
+      → IsServed fronts answers begun extent first now batches → IsPieceTaken fronts answers begun extent now next bytes left batch
       → IsServed fronts answers begun extent first next (batches ++ batch ∷ [])
   served_then first now next batches batch bytes left was taken = record {
-    line_is = taken.line_is ∙ ap (λ (l : Line M). line_with begun l batch) was.line_is ∙ sym (line_after-push first batches batch);
+    line_is = taken.line_is ∙ ap (λ (l : LineState M). line_with begun l batch) was.line_is ∙ sym (line_after-push first batches batch);
     batches_are = AreBatches-push first batches batch was.batches_are
-        (subst (λ (l : Line M). AreSteps fronts answers (begun l.state) batch.steps) was.line_is taken.steps_are);
+        (subst (λ (l : LineState M). AreSteps fronts answers (begun l.state) batch.steps) was.line_is taken.steps_are);
     all_known = taken.all_known;
   }

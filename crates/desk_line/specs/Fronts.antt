@@ -4,16 +4,10 @@ use Rattle.desk_line.specs.declared.machine.Front.{Front}
 use Rattle.desk_line.specs.declared.machine.Front.TheVariants.{Whole, Short, Wrong}
 
 -- a whole call has bytes, and no more than there are
-abbrev pub IsWithin : List ℕ → Front → Type 0
-IsWithin bytes (Whole n) = (0 < n) × (n ≤ length bytes)
-IsWithin bytes Short = ⊤
-IsWithin bytes Wrong = ⊤
-
--- no whole call stands there
-abbrev pub IsNoCall : Front → Type 0
-IsNoCall (Whole n) = ⊥
-IsNoCall Short = ⊤
-IsNoCall Wrong = ⊤
+abbrev pub IsFrontWithin : List ℕ → Front → Type 0
+IsFrontWithin bytes (Whole n) = (0 < n) × (n ≤ length bytes)
+IsFrontWithin bytes Short = ⊤
+IsFrontWithin bytes Wrong = ⊤
 
 -- a call, what it is told, its entry, and the state after it
 pub record Step (M : Type 0) : Type 0 where

@@ -1,7 +1,7 @@
 -- What a line tells and keeps: its calls in batches, of each of which all is kept, or nothing.
-use Rattle.std.specs.Prelude.{ℕ, List, [], ◌∷◌, ◌≡◌, ◌≤◌, ◌+◌, ◌++◌, Bool, true, false, Option, zero, suc, if◌then◌else◌, length, take, codes, ⊤}
+use Rattle.std.specs.Prelude.{ℕ, List, [], ◌∷◌, ◌≡◌, ◌+◌, ◌++◌, Bool, true, false, Option, zero, suc, if◌then◌else◌, length, codes, ⊤}
 use Rattle.std.specs.Io.KnownBytes.{append_known}
-use Rattle.desk_line.specs.Fronts.{Step, calls_in, replies_in, entries_in, state_after, AreSteps, IsNoCall}
+use Rattle.desk_line.specs.Fronts.{Step, calls_in, replies_in, entries_in, state_after, AreSteps}
 use Rattle.desk_line.specs.declared.machine.Front.{Front}
 
 -- what is told of each call of a batch that isn't kept
@@ -20,7 +20,7 @@ pub record Batch (M : Type 0) : Type 0 where
 
 -- what a line has come to: the state of its machine, what is kept and what was told, where that is known, how many bytes are
 -- kept, and how many writes failed
-pub record Line (M : Type 0) : Type 0 where
+pub record LineState (M : Type 0) : Type 0 where
   pub state : M
   pub kept : Option (List ℕ)
   pub extent : ℕ
@@ -34,7 +34,7 @@ module _ {M : Type 0} where
   calls_of (batch ∷ batches) = calls_in batch.steps ++ calls_of batches
 
   -- a batch more: each call is told its reply, and its entry is kept; or nothing of the batch is, where a write failed
-  abbrev pub line_with : (M → M) → Line M → Batch M → Line M
+  abbrev pub line_with : (M → M) → LineState M → Batch M → LineState M
   line_with begun line batch =
       if batch.is_kept then record {
         state = state_after (begun line.state) batch.steps;
@@ -51,46 +51,20 @@ module _ {M : Type 0} where
       }
 
   -- all batches, in order
-  abbrev pub line_after : (M → M) → Line M → List (Batch M) → Line M
+  abbrev pub line_after : (M → M) → LineState M → List (Batch M) → LineState M
   line_after begun line [] = line
   line_after begun line (batch ∷ batches) = line_after begun (line_with begun line batch) batches
 
 module _ {M : Type 0} (fronts : M → List ℕ → Front → Type 0) (answers : M → List ℕ → List ℕ → List ℕ → M → Type 0) where
   -- the calls of each batch are answered as the state then may answer them
-  abbrev pub AreBatches : (M → M) → Line M → List (Batch M) → Type 0
+  abbrev pub AreBatches : (M → M) → LineState M → List (Batch M) → Type 0
   AreBatches begun line [] = ⊤
   AreBatches begun line (batch ∷ batches) =
       AreSteps fronts answers (begun line.state) batch.steps × AreBatches begun (line_with begun line batch) batches
 
--- no whole call stands at the front of these bytes
-pub record HasNoCall {M : Type 0} (fronts : M → List ℕ → Front → Type 0) (m : M) (bytes : List ℕ) : Type 0 where
-  pub front : Front
-  pub stands : fronts m bytes front
-  pub none : IsNoCall front
-
--- what was answered of some bytes: the calls of these steps, at their front
-pub record IsAnswered {M : Type 0} (fronts : M → List ℕ → Front → Type 0) (answers : M → List ℕ → List ℕ → List ℕ → M → Type 0)
-    (first now : M) (bytes told kept : List ℕ) (used count : ℕ) (steps : List (Step M)) : Type 0 where
-  pub bytes_are : take used bytes ≡ calls_in steps
-  pub steps_are : AreSteps fronts answers first steps
-  pub told_is : told ≡ replies_in steps
-  pub kept_is : kept ≡ entries_in steps
-  pub state_is : now ≡ state_after first steps
-  pub count_is : count ≡ length steps
-  pub few : count ≤ used
-  pub within : used ≤ length bytes
-
--- a piece of an input is taken: with what was left before it, it is the calls of this batch, and what is left now
-pub record IsTaken {M : Type 0} (fronts : M → List ℕ → Front → Type 0) (answers : M → List ℕ → List ℕ → List ℕ → M → Type 0) (begun : M → M)
-    (extent : M → ℕ) (old now : Line M) (bytes left : List ℕ) (batch : Batch M) : Type 0 where
-  pub line_is : now ≡ line_with begun old batch
-  pub bytes_are : bytes ≡ calls_in batch.steps ++ left
-  pub steps_are : AreSteps fronts answers (begun old.state) batch.steps
-  pub all_known : extent now.state ≡ now.extent
-
 -- what a line has come to is what these batches make of it
 pub record IsServed {M : Type 0} (fronts : M → List ℕ → Front → Type 0) (answers : M → List ℕ → List ℕ → List ℕ → M → Type 0) (begun : M → M)
-    (extent : M → ℕ) (first now : Line M) (batches : List (Batch M)) : Type 0 where
+    (extent : M → ℕ) (first now : LineState M) (batches : List (Batch M)) : Type 0 where
   pub line_is : now ≡ line_after begun first batches
   pub batches_are : AreBatches fronts answers begun first batches
   pub all_known : extent now.state ≡ now.extent

@@ -3,7 +3,8 @@
 ghost use Rattle.std.specs.Prelude.{◌≡◌, ◌≤◌, ◌++◌, List, length, drop, IfOk, OnOk};
 ghost use Rattle.std.specs.Io.KnownBytes.{Consumes};
 ghost use Rattle.desk_line.specs.Fronts.{Step};
-ghost use Rattle.desk_line.specs.Served.{Batch, HasNoCall, IsAnswered, IsServed, IsTaken, calls_of, disk_full_times};
+ghost use Rattle.desk_line.specs.Served.{Batch, IsServed, calls_of, disk_full_times};
+ghost use Rattle.desk_line.specs.inside.Pieces.{HasNoCall, IsBatchAnswered, IsPieceTaken};
 ghost use Rattle.desk_line.specs.declared.line.Stop.TheVariants.{OutOfMemory, Untold as untold};
 
 use crate::machine::{Front, Machine};
@@ -61,7 +62,7 @@ struct Answered {
 
 // Answers the calls at the front of these bytes.
 fn answer<M: Machine>(alloc: Global, machine: &mut M, bytes: &[u8]) -> Result<Answered, AllocError>
-    ensures answered { IfOk result (λ a. (steps : List (Step M)) × IsAnswered M.fronts M.answers
+    ensures answered { IfOk result (λ a. (steps : List (Step M)) × IsBatchAnswered M.fronts M.answers
         machine.old machine.new bytes.now a.told.items a.kept.items a.used a.count steps) }
     ensures none { IfOk result (λ a. HasNoCall M.fronts machine.new (drop a.used bytes.now)) }
 {
@@ -124,7 +125,7 @@ fn take_piece<M: Machine, O: Outside>(
     out: &mut O,
 ) -> Result<bool, Stop>
     requires { M.extent machine.old ≡ O.extent out.old }
-    ensures { OnOk result ((batch : Batch M) × IsTaken M.fronts M.answers M.begun M.extent (record {
+    ensures { OnOk result ((batch : Batch M) × IsPieceTaken M.fronts M.answers M.begun M.extent (record {
       state = machine.old;
       kept = O.durable out.old;
       extent = O.extent out.old;

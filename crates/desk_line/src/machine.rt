@@ -1,7 +1,7 @@
 //! What answers calls.
 
 ghost use Rattle.std.specs.Prelude.{◌≡◌, ◌+◌, ◌++◌, List, ℕ, length, take, OnOk};
-ghost use Rattle.desk_line.specs.Fronts.{IsWithin, Follows};
+ghost use Rattle.desk_line.specs.Fronts.{IsFrontWithin, Follows};
 ghost use Rattle.desk_line.specs.declared.machine.Front.{Front};
 ghost use Rattle.desk_line.specs.declared.machine.Front.TheVariants.{Whole};
 ghost use Rattle.desk_line.specs.declared.machine.Mark.{Mark};
@@ -72,7 +72,7 @@ pub trait Machine {
             → self.new ≡ m) };
 
     /// A whole call has bytes, and no more than there are.
-    ghost front_within: { (m : Self) (bytes : List ℕ) (f : Front) → fronts m bytes f → IsWithin bytes f };
+    ghost front_within: { (m : Self) (bytes : List ℕ) (f : Front) → fronts m bytes f → IsFrontWithin bytes f };
 
     /// A whole call is one whatever follows it.
     ghost front_whole: { (m : Self) (bytes more : List ℕ) (n : ℕ)

@@ -1,6 +1,6 @@
 use Rattle.std.proofs.Common.{◌≡◌, ◌≤◌, ◌+◌, ◌++◌, ◌∙◌, true, false, List, length, ℕ, drop, ap, sym, subst, arith}
 use Rattle.std.specs.Io.KnownBytes.{append_known}
-use Rattle.desk_line.specs.Served.{IsAnswered, HasNoCall}
+use Rattle.desk_line.specs.inside.Pieces.{IsBatchAnswered, HasNoCall}
 use Rattle.desk_line.proofs.Lines.{answered_extent, taken_kept, taken_full}
 use Rattle.desk_line.proofs.line.take_piece.Goals as goal
 
@@ -35,9 +35,9 @@ returns-in-Ok g c =
     let found = c.in_ok-answered.ensures.answered in
     let answered = c.in_ok-answered.answered in
     let bytes : c.as_slice.result.now ≡ buf = c.as_slice.ensures.value ∙ c.in_ok-extend_from_slice.ensures.items in
-    let was = subst (λ (s : g.row.M.Denot). IsAnswered m.fronts m.answers s c.answer.new.machine buf answered.told.items answered.kept.items answered.used
+    let was = subst (λ (s : g.row.M.Denot). IsBatchAnswered m.fronts m.answers s c.answer.new.machine buf answered.told.items answered.kept.items answered.used
     answered.count found.0) c.begin.ensures
-    (subst (λ (b : List ℕ). IsAnswered m.fronts m.answers c.begin.new.self c.answer.new.machine b answered.told.items answered.kept.items answered.used
+    (subst (λ (b : List ℕ). IsBatchAnswered m.fronts m.answers c.begin.new.self c.answer.new.machine b answered.told.items answered.kept.items answered.used
     answered.count found.0) bytes found.1) in
     let left = c.in_ok-drop_front.ensures ∙ ap (drop answered.used) c.in_ok-extend_from_slice.ensures.items in (
       record { steps = found.0; is_kept = true },
@@ -63,9 +63,9 @@ returns-in-Err-Full g c =
     let found = c.in_ok-answered.ensures.answered in
     let answered = c.in_ok-answered.answered in
     let bytes : c.as_slice.result.now ≡ buf = c.as_slice.ensures.value ∙ c.in_ok-extend_from_slice.ensures.items in
-    let was = subst (λ (s : g.row.M.Denot). IsAnswered m.fronts m.answers s c.answer.new.machine buf answered.told.items answered.kept.items answered.used
+    let was = subst (λ (s : g.row.M.Denot). IsBatchAnswered m.fronts m.answers s c.answer.new.machine buf answered.told.items answered.kept.items answered.used
     answered.count found.0) c.begin.ensures
-    (subst (λ (b : List ℕ). IsAnswered m.fronts m.answers c.begin.new.self c.answer.new.machine b answered.told.items answered.kept.items answered.used
+    (subst (λ (b : List ℕ). IsBatchAnswered m.fronts m.answers c.begin.new.self c.answer.new.machine b answered.told.items answered.kept.items answered.used
     answered.count found.0) bytes found.1) in
     let left = c.in_ok-drop_front.ensures ∙ ap (drop answered.used) c.in_ok-extend_from_slice.ensures.items in
     let is_full = c.in-Err-Full.field-0-is in
