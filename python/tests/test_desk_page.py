@@ -3,6 +3,7 @@
 Chromium without a window is steered by its own protocol.
 """
 import asyncio
+import base64
 import json
 import re
 import subprocess
@@ -20,7 +21,7 @@ WIDTHS = (320, 768, 1280)
 TAB, ENTER, SPACE = ("Tab", 9, ""), ("Enter", 13, "\r"), (" ", 32, " ")
 # how far the page is wider than its window, and what has no name for who can't see it
 MEASURE = """JSON.stringify({
-  beyond: document.documentElement.scrollWidth - window.innerWidth,
+  beyond: document.documentElement.scrollWidth - document.documentElement.clientWidth,
   nameless: [...document.querySelectorAll("input:not([type=hidden]), button")].filter(
     (each) => !(each.labels && each.labels.length) && !each.textContent && !each.ariaLabel).length,
   small: [...document.querySelectorAll("button, p")].filter(
@@ -98,7 +99,7 @@ class Tab:
             measured = json.loads(await self.evaluate(MEASURE))
             assert measured == {"beyond": 0, "nameless": 0, "small": 0}, (name, width)
             shot = await self.ask("Page.captureScreenshot", captureBeyondViewport=True)
-            (folder / f"{name}-{width}.png.base64").write_text(shot["data"])
+            (folder / f"{name}-{width}.png").write_bytes(base64.b64decode(shot["data"]))
 
 
 @asynccontextmanager
