@@ -100,6 +100,12 @@ def test_a_case_that_is_cut_or_goes_on():
         parse_case(text + b"\n")
 
 
+def test_a_status_that_is_no_digit():
+    for status in (b"x\n", b"1 ", b"\n\n", b"-1"):
+        with pytest.raises(ValueError, match="^the status isn't a digit"):
+            parse_case(make_case().replace(b"2 ===\n1\n", b"2 ===\n" + status))
+
+
 def test_a_damaged_case_is_named(tmp_path, monkeypatch):
     monkeypatch.setattr(cases, "CASES", tmp_path)
     (tmp_path / "one").write_bytes(make_case()[:-1])
