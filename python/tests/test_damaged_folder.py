@@ -387,3 +387,20 @@ def test_a_folder_of_another_format(folder: AuctionFolder) -> None:
     leave(folder, "format.txt", b"3\n")
     seen = run_in(folder, "auction --ties", env=folder.make_environment())
     check_stopped(seen, "format.txt is of another version of wdp-office")
+
+
+def test_a_folder_of_version_1_goes_on(folder: AuctionFolder) -> None:
+    """Its prices are found anew, by the rule, and the results that it has stay, by another name."""
+    before = read_files(folder)
+    leave(folder, "prices.txt", b"%prices\nAlpha 32\n%cover\nbound 0\n%weights\n1\n%groups\n")
+    for name in ("format.txt", "award.txt"):
+        (folder.where / name).unlink()
+        (folder.where / f"sums/{name}.sha256").unlink()
+    shutil.rmtree(folder.where / "sums/results")
+    folder.put("results/results.html", b"of version 1\n")
+    seen = run_in(folder, "auction --ties")
+    assert seen.status == 0, seen
+    assert "the prices in the folder are of version 1: they are found anew" in seen.err
+    after = read_files(folder)
+    assert after["results.earlier/results.html"] == b"of version 1\n"
+    assert {name: text for name, text in after.items() if "earlier" not in name} == before
