@@ -314,6 +314,9 @@ def test_letters_to_those_who_win_nothing(tmp_path: Path, wdp: str) -> None:
     assert "\nPlease confirm that you have sent no form.\n" in receipt
     assert "$" not in receipt
     assert not folder.has("receipts/Delta.csv")
+    assert "\n$ " not in delta
+    assert write_letters(folder, "--with-audit").status == 0
+    delta = read_letter(folder, "letters/Delta.txt")
     assert "\n$ wdp forms audit.txt | grep '^%form Delta '\n%form Delta -\n" in delta
 
 
