@@ -9,7 +9,7 @@ import struct
 import zipfile
 from collections.abc import Iterator, Mapping
 from contextlib import contextmanager
-from dataclasses import dataclass
+from dataclasses import dataclass, field
 from io import BytesIO
 from xml.etree.ElementTree import Element, ParseError, XMLPullParser
 
@@ -134,49 +134,14 @@ class XmlPart:
 
     def iterate(self, container: str | None, tag: str) -> Iterator[Element]:
         """The elements of this name, one by one, that are in the root, or in a container of it."""
-        level = 1 if container is None else 2
-        path: list[Element] = []
-        depth = kept = inside = others = 0
-        is_within = False
+        walk = _Walk(self, container, tag)
         for event, found in self._parse():
-            if event == "end":
-                depth -= 1
-                if depth <= level:
-                    path.pop()
-                    is_found = is_within and depth == level
-                    is_within = is_within and not is_found
-                    if is_found:
-                        yield found
-                        # (what follows it may be there already)
-                        del path[-1][others]
-                continue
-            depth += 1
-            if is_within:
-                inside += 1
-                if inside > _MOST_OF_A_ROW or depth > _MOST_NESTED:
-                    self._refuse_size()
-                continue
-            if depth == 1:
-                self._begin(found)
-            kept += 1 + len(found.keys())
-            if kept > _MOST_KEPT or depth > _MOST_NESTED:
-                self._refuse_size()
-            if depth == level:
-                others = 0
-            if depth == level + 1:
-                is_in = container is None or self.name(path[-1].tag) == container
-                is_within = is_in and self.name(found.tag) == tag
-                others += not is_within
-                inside = 0
-            if depth <= level + 1:
-                path.append(found)
-
-    def _refuse_size(self) -> None:
-        """Raises BadWorkbook for what is larger than a sheet with a form."""
-        most = (
-            f"{_MOST_KEPT:,} elements and attributes beside its rows, {_MOST_OF_A_ROW:,} in a row"
-        )
-        raise BadWorkbook(f"its XML has more than {most}, or {_MOST_NESTED} levels")
+            if event == "start":
+                walk.begin(found)
+            elif walk.end():
+                yield found
+                # (what follows it may be there already)
+                del walk.path[-1][walk.others]
 
     def _parse(self) -> Iterator[tuple[str, Element]]:
         """The beginnings and ends of elements, as the parser finds them."""
@@ -196,7 +161,7 @@ class XmlPart:
                 elif not is_begun:
                     self._namespaces[event[1][0]] = event[1][1]
 
-    def _begin(self, root: Element) -> None:
+    def begin(self, root: Element) -> None:
         """Takes the root: its namespace is that of the part, and it names others that a reader
         ignores if it doesn't know them.
         """
@@ -248,6 +213,68 @@ class XmlPart:
     def is_ignorable(self, name: str) -> bool:
         """Whether a name is one that a reader ignores if it doesn't know its namespace."""
         return name.startswith("{") and name[1:].partition("}")[0] in self._ignorable
+
+
+@dataclass(slots=True)
+class _Walk:
+    """Where the reading of a part is, which looks for elements of one name in the root, or in a
+    container of it: the elements round the place, down to that container; how many are kept; how
+    many are in the last one that was looked for; and how many before it in the container are others.
+    """
+
+    part: XmlPart
+    container: str | None
+    tag: str
+    path: list[Element] = field(default_factory=list)
+    depth: int = 0
+    kept: int = 0
+    inside: int = 0
+    others: int = 0
+    is_within: bool = False
+
+    @property
+    def level(self) -> int:
+        """How many elements are round one that is looked for."""
+        return 1 if self.container is None else 2
+
+    def begin(self, element: Element) -> None:
+        """Takes the beginning of an element."""
+        self.depth += 1
+        if self.is_within:
+            self.inside += 1
+        else:
+            self._keep(element)
+        if self.depth > _MOST_NESTED or self.kept > _MOST_KEPT or self.inside > _MOST_OF_A_ROW:
+            most = f"{_MOST_KEPT:,} elements and attributes beside its rows"
+            rest = f"{_MOST_OF_A_ROW:,} in a row, or {_MOST_NESTED} levels"
+            raise BadWorkbook(f"its XML has more than {most}, {rest}")
+
+    def _keep(self, element: Element) -> None:
+        """Takes the beginning of an element that is kept, or that is looked for."""
+        level = self.level
+        if self.depth == 1:
+            self.part.begin(element)
+        elif self.depth == level + 1:
+            name = self.part.name
+            is_in = self.container is None or name(self.path[-1].tag) == self.container
+            self.is_within = is_in and name(element.tag) == self.tag
+            self.others += not self.is_within
+            self.inside = 0
+        if self.depth == level:
+            self.others = 0
+        self.kept += 0 if self.is_within else 1 + len(element.keys())
+        if self.depth <= level + 1:
+            self.path.append(element)
+
+    def end(self) -> bool:
+        """Takes the end of an element; whether it is one that is looked for."""
+        self.depth -= 1
+        if self.depth > 2 or self.depth > self.level:
+            return False
+        self.path.pop()
+        is_found = self.is_within and self.depth == self.level
+        self.is_within = self.is_within and not is_found
+        return is_found
 
 
 @dataclass(frozen=True)
