@@ -4,7 +4,7 @@ from bisect import bisect_left, bisect_right
 from collections import Counter, defaultdict
 from collections.abc import Iterable, Iterator
 from dataclasses import dataclass, field
-from functools import cache
+from functools import cache, cached_property
 
 from wdp.office.looks import Colour, Look
 
@@ -136,12 +136,17 @@ class Values:
         """The first cell of an area whose font can't be told from one of these colours; nothing if
         there is none.
         """
-        for column, cells, places in self._find(area) if colours else ():
-            near = {look for look in set(cells.looks) if look.is_near_any(colours)}
-            for place in places if near else ():
+        near = {look for look in self._looks if look.is_near_any(colours)}
+        for column, cells, places in self._find(area) if near else ():
+            for place in places:
                 if cells.looks[place] in near:
                     return f"{format_column(column)}{cells.rows[place]}"
         return ""
+
+    @cached_property
+    def _looks(self) -> set[Look]:
+        """The looks of all cells, once these are read."""
+        return {look for cells in self.columns.values() for look in cells.looks}
 
     def list_different(self) -> list[str]:
         """The bids' cells that look in another way than most of their column, with how they do."""
