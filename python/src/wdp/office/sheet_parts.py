@@ -12,7 +12,7 @@ from wdp.office.faults import quote
 from wdp.office.looks import OFF, Colour, Condition, Styles, format_colour, is_on, mix
 from wdp.office.remarks import Remarks
 
-_MOST_AREAS = 1_000  # merged, of conditions, or under drawings
+_MOST_AREAS = 500  # merged, of conditions, or under drawings
 _FROZEN = ("frozen", "frozenSplit")
 # what a sheet may be linked to beside comments, drawings and tables: nothing of it is seen in cells
 _HARMLESS = (
