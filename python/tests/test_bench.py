@@ -71,6 +71,7 @@ MEASURING = {
     "desk": ["load", "--sessions", "2", "--bids", "1-2", "--port", "18480"],
     "hostile_workbooks": ["lying"],
     "mutated_workbooks": ["20"],
+    "bare_machine": ["--list"],
 }
 SHOWN = {
     "certificates": "(?s).*that nobody wins more: made in .*prices: made in .*that nobody else wins as much: made in",
@@ -82,6 +83,8 @@ SHOWN = {
     "hostile": r"(?s).*\| submitted .*\n\n[01] within bounds, [01] beyond\n$",
     "hostile_workbooks": r"(?s).*\| lying .*\n\n[01] within bounds, [01] beyond\n$",
     "mutated_workbooks": r"\d+ read, \d+ refused, 0 in tracebacks\n$",
+    "bare_machine": r"(?s)README.md:\n  \./wdp text examples/one_form\.txt\n.*docs/OFFICE.md:\n  apt-get .*docs/PYTHON.md:\n  apt-get .*"
+    r"installs:\n  make install && wdp --version\n",
 }
 # (on a machine that does other work a time may be beyond its bound)
 STATUSES = {"hostile": (0, 1), "hostile_workbooks": (0, 1)}
