@@ -334,7 +334,7 @@ def test_a_small_form_cant_be_guessed_from_the_journal(folder: DeskFolder) -> No
 def test_a_form_without_bids_has_to_be_meant(folder: DeskFolder) -> None:
     empty = b"Alpha,A,B\n"
     with folder.serve() as served:
-        served.put()
+        assert served.put().word == "accepted"
         for query in ("", "?check"):
             answer = served.put(body=empty, number=1, query=query)
             assert answer.status == 422 or query
@@ -443,7 +443,7 @@ def test_a_call_after_the_jump_is_told_that_the_desk_asks(folder: DeskFolder) ->
 
 def test_a_journal_of_later_times_asks(folder: DeskFolder) -> None:
     with folder.serve() as served:
-        served.put()
+        assert served.put().word == "accepted"
     times = SetClock()
     times.at -= 10**12
 

@@ -11,10 +11,11 @@ import sys
 from pathlib import Path
 from typing import Any
 
-from wdp.desk.reading import Reading, Standing, parse_head
+from wdp.desk.reading import READY, Reading, Standing, parse_head
+from wdp.texts.refusals import Unclear
 
 _LONGEST_LINE = 256 * 1024 * 1024  # bytes of an answer's first line, which has the faults
-_PATIENCE = 60  # seconds of anybody's clock, if the machine is so busy that a child gets none
+_PATIENCE = 600  # seconds for a child that waits and doesn't work, so that no limit ends it
 TOO_LONG = "it takes too long to read; save it as CSV"
 
 
@@ -44,6 +45,11 @@ class _Child:
             return None
         return reading
 
+    async def wait_until_ready(self) -> None:
+        """Waits until the process can read; Unclear if it ends before."""
+        if await self._output.readline() != READY:
+            raise Unclear("a child that reads forms doesn't start")
+
     async def end(self) -> None:
         """Ends the process."""
         with contextlib.suppress(ProcessLookupError):
@@ -58,13 +64,14 @@ class Readers:
         module = [sys.executable, "-m", "wdp.desk.reading"]
         self._command = [*module, program, str(rules), holder]
         self._count = count
-        self._idle: asyncio.Queue[_Child] = asyncio.Queue()
+        # places for children: one that waits for a form, or none, which has to be started
+        self._places: asyncio.Queue[_Child | None] = asyncio.Queue()
         self._children: set[_Child] = set()
 
     async def start(self) -> None:
-        """Starts the children."""
+        """Starts the children, and waits until they can read."""
         for child in await asyncio.gather(*(self._start_child() for _ in range(self._count))):
-            self._idle.put_nowait(child)
+            self._places.put_nowait(child)
 
     async def _start_child(self) -> _Child:
         source = str(Path(__file__).resolve().parents[2])
@@ -79,22 +86,24 @@ class Readers:
         )
         child = _Child(process)
         self._children.add(child)
+        await child.wait_until_ready()
         return child
 
     async def _ask(self, request: dict[str, Any], data: bytes) -> Reading:
-        child = await self._idle.get()
+        child = await self._places.get()
         reading = None
         try:
+            child = child or await self._start_child()
             reading = await asyncio.wait_for(child.ask(request, data), _PATIENCE)
         except asyncio.TimeoutError:
             pass
         finally:
             # (a child whose answer wasn't read to its end has the rest of it in its pipe)
-            if reading is None:
+            if reading is None and child is not None:
                 self._children.discard(child)
                 await child.end()
-                child = await self._start_child()
-            self._idle.put_nowait(child)
+                child = None
+            self._places.put_nowait(child)
         return reading or Reading(faults=[("", TOO_LONG)])
 
     async def read(self, data: bytes, session_key: str, standing: Standing) -> Reading:

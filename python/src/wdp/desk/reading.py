@@ -23,6 +23,7 @@ from wdp.office.sheets import File
 from wdp.texts.accepted import AcceptedRules, parse_rules
 from wdp.texts.tables import Records, compute_digest, decode
 
+READY = b"ready\n"
 SECONDS = 5  # of processor, for each form
 MEMORY = 1024 * 1024 * 1024  # bytes
 _NAME = "form"
@@ -204,7 +205,9 @@ def _allow_seconds() -> None:
 
 
 def serve(reader: Reader, source: BinaryIO, output: BinaryIO) -> None:
-    """Answers requests to the end of the source."""
+    """Answers requests to the end of the source, once it has said that it is ready."""
+    output.write(READY)
+    output.flush()
     while line := source.readline():
         request = json.loads(line)
         data = source.read(request["size"])

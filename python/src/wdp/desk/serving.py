@@ -39,6 +39,7 @@ from wdp.texts.tables import Records, compute_digest, decode
 HEADER_SECONDS = 20  # until the first request of a connection has come
 _KEEP_ALIVE_SECONDS = 30
 _END_SECONDS = 10  # for calls that are in hand when the desk ends
+_LAST_SECONDS = 2  # for replies that are being sent then
 _BACKLOG = 4_096
 ENDED = 3  # the status if the filter ended
 JUMPED = 4  # and if the clock was set
@@ -212,7 +213,7 @@ async def _listen(
                 backlog=_BACKLOG,
             )
         with short_path(where / SOCKET) as path:
-            await web.UnixSite(runner, path).start()
+            await web.UnixSite(runner, path, shutdown_timeout=_LAST_SECONDS).start()
         yield
         server.close()
     finally:
