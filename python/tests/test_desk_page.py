@@ -157,8 +157,9 @@ def test_a_bidder_needs_the_keyboard_alone(served: Served, tmp_path: Path) -> No
             await tab.go_to("Hand in these bids")
             await tab.press(ENTER)
             await tab.wait("document.querySelectorAll('.fault').length === 1")
-            focus = "document.activeElement.ariaLabel + ' ' + document.activeElement.value"
-            assert await tab.evaluate(focus) == "Amount of bid 1 30x"
+            # (the focus goes to the cell once the page knows what stands)
+            await tab.wait("document.activeElement.ariaLabel === 'Amount of bid 1'")
+            assert await tab.evaluate("document.activeElement.value") == "30x"
             beside = "document.activeElement.parentElement.querySelector('.fault').textContent"
             assert "'30x' isn't 1 to 18 digits" in await tab.evaluate(beside)
             await tab.check_widths(tmp_path, "faulty")
@@ -172,9 +173,8 @@ def test_a_bidder_needs_the_keyboard_alone(served: Served, tmp_path: Path) -> No
             assert "\nbidder Alpha, session 1\nanswer accepted 1\n" in receipt
             await tab.check_widths(tmp_path, "accepted")
             assert served.look()["stands"]["bids"] == 2
-            assert "Your form 1 stands" in await tab.evaluate(
-                "document.getElementById('stands').textContent"
-            )
+            stands = "document.getElementById('stands').textContent"
+            await tab.wait(f"{stands}.startsWith('Your form 1 stands: 2 bids')")
             await tab.evaluate("window.confirm = () => true")
             await tab.go_to("Withdraw what stands")
             await tab.press(ENTER)

@@ -11,6 +11,8 @@ const closes = Date.parse(at("closes").dateTime);
 // the form whose faults are shown: the input of each cell by its line and column
 let shown = [];
 
+const count = (number, thing) => `${number} ${thing}${number === 1 ? "" : "s"}`;
+
 function make(name, text, more = {}) {
   const element = Object.assign(document.createElement(name), more);
   if (text !== undefined) element.textContent = text;
@@ -21,9 +23,10 @@ function make(name, text, more = {}) {
 
 function showLeft() {
   const left = Math.floor((closes - clock - (Date.now() - started)) / 1000);
+  const days = Math.floor(left / 86400);
   const pad = (value) => String(value).padStart(2, "0");
   at("left").textContent = left <= 0 ? "The time is over." :
-    `${Math.floor(left / 3600)}:${pad(Math.floor(left / 60) % 60)}:${pad(left % 60)} left.`;
+    `${days ? `${count(days, "day")} and ` : ""}${Math.floor(left / 3600) % 24}:${pad(Math.floor(left / 60) % 60)}:${pad(left % 60)} left.`;
 }
 
 // the table of bids
@@ -105,7 +108,6 @@ function over() {
 }
 
 const show = (time) => `${time.slice(0, 19).replace("T", " ")} UTC`;
-const count = (number, thing) => `${number} ${thing}${number === 1 ? "" : "s"}`;
 
 async function look() {
   const reply = await call("GET", "form");
