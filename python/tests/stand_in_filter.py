@@ -151,7 +151,7 @@ class Filter:
         self.pieces: list[bytes] = []
         self.replies: list[bytes] = []
 
-    def open(self) -> None:
+    def open(self) -> None:  # noqa: C901
         while (front := FRONT.match(self.input.data)) is None or len(
             self.input.data
         ) < front.end() + int(front[2]):
@@ -221,7 +221,9 @@ class Filter:
             self.journal.end = durable + len(data)
             tell(b"".join(self.replies))
 
-    def answer(self, words: list[bytes], text: bytes, sealed: bytes, durable: int) -> bytes:
+    def answer(  # noqa: C901
+        self, words: list[bytes], text: bytes, sealed: bytes, durable: int
+    ) -> bytes:
         journal = self.journal
         kind = words[0][1:]
         if kind == b"close":
