@@ -147,7 +147,7 @@ def test_files(wdp, wdp_solve, tmp_path):
     words = ["rules.txt", "rest.txt", "-o", "audit.txt"]
     assert seen(wdp_solve, words, b"", cwd=tmp_path) == done("")
     assert (tmp_path / "audit.txt").read_bytes() == solved(wdp_solve, WORKED)
-    fault = b"wdp: none.txt: not found\n"
+    fault = b"wdp: none.txt: no such file or directory\n"
     assert seen(wdp_solve, ["none.txt"], b"", cwd=tmp_path) == (1, b"", fault)
     assert seen(wdp_solve, ["--from", "none.txt"], WORKED, cwd=tmp_path) == (1, b"", fault)
 
