@@ -152,8 +152,7 @@ module _ (auction : Auction) (within : IsBook auction.sale.lots auction.sale.boo
       subst (AreTruePrices auction first) is (record {
         at_most = fine;
         suffice = suffice;
-        covers = rounded.0;
-        at_least = rounded.1;
+        paid = rounded;
         by_rule = rule-holds given by_rule auction.rule_texts suffice rule_is;
       })
 

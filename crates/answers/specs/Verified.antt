@@ -15,7 +15,7 @@ use Rattle.outcome.specs.Report.{amounts_of_group, cost, report_text}
 use Rattle.prices.specs.Alone.{AreCostsAlone}
 use Rattle.prices.specs.Blocking.{ArePrices}
 use Rattle.prices.specs.Parts.{AreSame, AreThePrices, Suffice}
-use Rattle.prices.specs.Prices.{CoversEveryGroup, MeetReserves, reserves_in}
+use Rattle.prices.specs.Prices.{reserves_in}
 use Rattle.bid_desk.specs.Sale.{Sale}
 use Rattle.outcome.specs.Following.{AreAllGreatest}
 use Rattle.outcome.specs.Others.{AreTrueOthers, Others, others_text, tie_text}
@@ -47,8 +47,7 @@ ArePricesOfRule auction first parts price =
 pub record AreTruePrices (auction : Auction) (first : List Choice) (p : Priced) : Type 0 where
   pub at_most : ArePrices auction.sale.book first p.parts (price_in p.prices)
   pub suffice : Suffice (reserves_in auction.rules) auction.sale.lots auction.sale.book first p.parts (price_in p.prices)
-  pub covers : CoversEveryGroup auction.sale.lots auction.sale.book first (in_pounds p.parts (price_in p.prices))
-  pub at_least : MeetReserves (reserves_in auction.rules) auction.sale.book first (in_pounds p.parts (price_in p.prices))
+  pub paid : Suffice (reserves_in auction.rules) auction.sale.lots auction.sale.book first 1 (in_pounds p.parts (price_in p.prices))
   pub by_rule : p.by_rule ≡ true → ArePricesOfRule auction first p.parts (price_in p.prices)
 
 -- a report on an allocation of greatest total for each group, of which the first leaves nobody out, and on the groups' opportunity costs; after

@@ -53,19 +53,26 @@ whole_at_most parts n m z one low small = by_lt_z (pos m) z
     absurd (omega (arith, ints)))
     (λ below. below)
 
+once : (z w : ℤ) → z ≤ℤ w → (pos 1 *ℤ z) ≤ℤ w
+once z w low = omega (arith, ints)
+
 pub rounded_up_suffice : RoundedUpSuffice
-rounded_up_suffice reserves lots book first parts price suffice = (
-  (λ group without greatest. whole_at_most parts (paid_by_group price group first) (paid_by_group (in_pounds parts price) group first)
+rounded_up_suffice reserves lots book first parts price suffice = record {
+  some = omega arith;
+  covers = λ group without greatest.
+      once (cost lots book first group without) (pos (paid_by_group (in_pounds parts price) group first))
+      (whole_at_most parts (paid_by_group price group first) (paid_by_group (in_pounds parts price) group first)
       (cost lots book first group without) suffice.some (suffice.covers group without greatest)
-      (sum_below parts price (filter (λ c. has group c.bidder) first) suffice.some)),
-  All-from_recursion _ first (all_agree (λ c. parts * weighed_choice reserves book c ≤ price c.bidder)
-      (λ c. weighed_choice reserves book c ≤ in_pounds parts price c.bidder) first
+      (sum_below parts price (filter (λ c. has group c.bidder) first) suffice.some));
+  meet = All-from_recursion _ first (all_agree (λ c. parts * weighed_choice reserves book c ≤ price c.bidder)
+      (λ c. 1 * weighed_choice reserves book c ≤ in_pounds parts price c.bidder) first
       (λ c low.
       let up = up_enough parts (price c.bidder) suffice.some in
       let scaled : parts * weighed_choice reserves book c ≤ parts * in_pounds parts price c.bidder = omega arith in
-      le_of_mul-le-mul_left scaled suffice.some)
-      (recursion_from_All _ first suffice.meet)),
-)
+      let whole : weighed_choice reserves book c ≤ in_pounds parts price c.bidder = le_of_mul-le-mul_left scaled suffice.some in
+      omega arith)
+      (recursion_from_All _ first suffice.meet));
+}
 
 -- of one amount in two scales
 no_higher : (p q m n : ℕ) → 1 ≤ p → 1 ≤ q → q * m ≡ p * n → div_ceil m p ≤ div_ceil n q

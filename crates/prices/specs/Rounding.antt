@@ -5,13 +5,12 @@ use Rattle.auction_terms.specs.Packages.{Lots}
 use Rattle.auction_terms.specs.Allocations.{Book}
 use Rattle.outcome.specs.Pricing.{in_pounds}
 use Rattle.prices.specs.Parts.{AreThePrices, Suffice}
-use Rattle.prices.specs.Prices.{CoversEveryGroup, MeetReserves}
 
--- prices that suffice cover every group and meet the reserves, once they are rounded up
+-- prices that suffice do so once they are rounded up, too: of whole pounds one part makes a pound
 abbrev pub RoundedUpSuffice : Type 0
 RoundedUpSuffice = (reserves : List ℕ) (lots : Lots) (book : Book) (first : List Choice) (parts : ℕ) (price : ℕ → ℕ)
     → Suffice reserves lots book first parts price
-    → CoversEveryGroup lots book first (in_pounds parts price) × MeetReserves reserves book first (in_pounds parts price)
+    → Suffice reserves lots book first 1 (in_pounds parts price)
 
 -- the prices of the rule, rounded up to whole pounds, are the same, whoever finds them
 abbrev pub RoundedUpIsOne : Type 0
