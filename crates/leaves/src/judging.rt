@@ -1,6 +1,6 @@
 //! Leaves that the checker of certificates takes.
 
-ghost use Rattle.optimality.specs.inside.Checking.{IsPrepared};
+ghost use Rattle.optimality.specs.Checking.{IsPrepared};
 
 use crate::bound::{Prices, leaf_of};
 use crate::layout::Layout;

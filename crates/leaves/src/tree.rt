@@ -1,6 +1,6 @@
 //! The tree of a search. It goes down the side of a split first that has more of the point; the text has the low sides first.
 
-ghost use Rattle.optimality.specs.inside.Checking.{IsPrepared};
+ghost use Rattle.optimality.specs.Checking.{IsPrepared};
 
 use crate::judging::{Place, judged, judged_point};
 use crate::layout::Layout;

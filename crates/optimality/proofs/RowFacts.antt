@@ -16,8 +16,8 @@ use Rattle.program_rows.specs.Points.{coefficient_at}
 use Rattle.program_rows.specs.Parts.{AreEntries, IsProgram}
 use Rattle.optimality.specs.declared.row_forms.RowForm.{RowForm}
 use Rattle.optimality.specs.Certificates.{Form, number_in}
-use Rattle.optimality.specs.inside.Adding.{form_at}
-use Rattle.optimality.specs.inside.RowForms.{form_held, with_term, with_entries, with_columns, row_forms, forms_held}
+use Rattle.optimality.specs.Adding.{form_at}
+use Rattle.optimality.specs.RowForms.{form_held, with_term, with_entries, with_columns, row_forms, forms_held}
 
 -- ---------- what the code does ----------
 

@@ -3,7 +3,7 @@ use Rattle.std.proofs.Common.{◌≡◌, Result, Ok, Err, subst, sym}
 use Rattle.std.specs.Prelude.{IsErrAnd}
 use Rattle.optimality.specs.declared.refusal.Limit.{Limit}
 use Rattle.optimality.specs.declared.refusal.Limit.TheVariants.{Memory, TooLarge}
-use Rattle.optimality.specs.inside.Stopping.{TooLargeOnly}
+use Rattle.optimality.specs.Stopping.{TooLargeOnly}
 
 -- by a last call
 pub too-large-weaker : {X P Q : Type 0} → (r : Result X Limit) → TooLargeOnly P r → (P → Q) → TooLargeOnly Q r

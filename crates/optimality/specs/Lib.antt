@@ -10,4 +10,10 @@ pub mod Branches
 pub mod Verdict
 pub mod Sizes
 pub mod OnlyPoints
+pub mod Adding
+pub mod Checking
+pub mod Holding
+pub mod Leaves
+pub mod RowForms
+pub mod Stopping
 pub mod inside

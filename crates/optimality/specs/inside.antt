@@ -1,13 +1,7 @@
-pub mod Adding
 pub mod Answers
 pub mod Branches
 pub mod ByEntries
 pub mod Certificates
-pub mod Checking
-pub mod Holding
-pub mod Leaves
 pub mod LineMeaning
 pub mod Naming
-pub mod RowForms
 pub mod Sizes
-pub mod Stopping

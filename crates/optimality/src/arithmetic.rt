@@ -3,7 +3,7 @@
 ghost use Rattle.std.specs.Int.{w64};
 ghost use Rattle.std.specs.Prelude.{◌≡◌, ◌+◌, ◌*◌, ◌^◌, ◌≤◌, ◌≤ℤ◌, ◌+ℤ◌, ◌-ℤ◌, ◌*ℤ◌, FitsSigned, IfOk, IfSome, MatchOption};
 ghost use Rattle.std.specs.Prelude.{if◌then◌else◌, neg_ℤ, pos, unsigned_abs};
-ghost use Rattle.optimality.specs.inside.Stopping.{TooLargeOnly};
+ghost use Rattle.optimality.specs.Stopping.{TooLargeOnly};
 
 use crate::refusal::Limit;
 

@@ -2,14 +2,14 @@
 //! takes, or if there is no memory.
 
 ghost use Rattle.std.specs.Prelude.{◌≡◌, IfSome, ◌<◌, ◌+ℤ◌, ◌*ℤ◌, Some, length, slice_get};
-ghost use Rattle.optimality.specs.inside.Adding.{AreGivenMore, AreNone, AreOf, HaveRows, least_with};
+ghost use Rattle.optimality.specs.Adding.{AreGivenMore, AreNone, AreOf, HaveRows, least_with};
 ghost use Rattle.optimality.specs.inside.ByEntries.{columns_given, entries_given};
 ghost use Rattle.std.specs.List.{enumerate_from};
 ghost use Rattle.std.specs.Option.{option_map};
 ghost use Rattle.optimality.specs.Certificates.{sum_of};
-ghost use Rattle.optimality.specs.inside.Checking.{IsPrepared};
-ghost use Rattle.optimality.specs.inside.Holding.{cuts_of};
-ghost use Rattle.optimality.specs.inside.Adding as adding;
+ghost use Rattle.optimality.specs.Checking.{IsPrepared};
+ghost use Rattle.optimality.specs.Holding.{cuts_of};
+ghost use Rattle.optimality.specs.Adding as adding;
 ghost use Rattle.optimality.specs.Reduced as reduced;
 
 use crate::arithmetic::{narrow, plus_multiple};

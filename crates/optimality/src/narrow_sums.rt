@@ -3,10 +3,10 @@
 
 ghost use Rattle.std.specs.Int.{w64};
 ghost use Rattle.std.specs.Prelude.{◌≡◌, ◌<◌, ◌≤◌, ◌≤ℤ◌, ◌+ℤ◌, ◌*ℤ◌, ◌^◌, FitsSigned, IfSome, MatchOption, length, neg_ℤ, pos, unsigned_abs};
-ghost use Rattle.optimality.specs.inside.Adding as adding;
-ghost use Rattle.optimality.specs.inside.Adding.{AreGivenMore, AreNone, at_place, cuts_given, form_at, form_given, rows_given};
-ghost use Rattle.optimality.specs.inside.Holding.{cut_of, cuts_of};
-ghost use Rattle.optimality.specs.inside.RowForms.{forms_held};
+ghost use Rattle.optimality.specs.Adding as adding;
+ghost use Rattle.optimality.specs.Adding.{AreGivenMore, AreNone, at_place, cuts_given, form_at, form_given, rows_given};
+ghost use Rattle.optimality.specs.Holding.{cut_of, cuts_of};
+ghost use Rattle.optimality.specs.RowForms.{forms_held};
 
 use crate::arithmetic::{narrow, plus_multiple, signed};
 use crate::checker::OpenSplit;

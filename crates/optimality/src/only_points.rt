@@ -5,7 +5,7 @@ ghost use Rattle.optimality.specs.Answers.{IsLimit, IsVerdict};
 ghost use Rattle.optimality.specs.OnlyPoints as only;
 ghost use Rattle.optimality.specs.OnlyPoints.{IsLargeOnlyAt, IsShownOnlyBy, all_but, all_others, free_ones, one_above, only_fault};
 ghost use Rattle.optimality.specs.inside.Branches.{branch_of, branches_of};
-ghost use Rattle.optimality.specs.inside.Checking.{IsPrepared};
+ghost use Rattle.optimality.specs.Checking.{IsPrepared};
 ghost use Rattle.program_rows.specs.declared.certificate_fault.CertificateFaultKind.TheVariants.{TooLarge};
 ghost use Rattle.program_rows.specs.Only.{AreOnlyLeast};
 ghost use Rattle.program_rows.specs.Points.{IsPoint, objective};

@@ -2,9 +2,9 @@
 
 ghost use Rattle.std.specs.Int.{w16};
 ghost use Rattle.std.specs.Prelude.{◌≡◌, ◌<◌, ◌^◌, [], FitsSigned, IfOk, MatchOption, OnOk, replicate};
-ghost use Rattle.optimality.specs.inside.Checking.{AreRowsOf};
-ghost use Rattle.optimality.specs.inside.RowForms as rows;
-ghost use Rattle.optimality.specs.inside.RowForms.{forms_held, with_columns, with_entries};
+ghost use Rattle.optimality.specs.Checking.{AreRowsOf};
+ghost use Rattle.optimality.specs.RowForms as rows;
+ghost use Rattle.optimality.specs.RowForms.{forms_held, with_columns, with_entries};
 
 use crate::by_rows::least_alone;
 use program_rows::{Entries, Selection};
@@ -41,7 +41,7 @@ fn short_term(place: usize, number: i64) -> Option<(u32, i16)>
 
 impl RowForm {
     ghost use Rattle.std.specs.Prelude.{◌≡◌, ◌++◌, [], ◌∷◌, OnOk};
-    ghost use Rattle.optimality.specs.inside.RowForms.{form_held};
+    ghost use Rattle.optimality.specs.RowForms.{form_held};
 
     fn new(alloc: Global) -> RowForm
         ensures { form_held result ≡ [] }

@@ -9,7 +9,7 @@ ghost use Rattle.auction_terms.specs.LineFields.{fields};
 ghost use Rattle.std.specs.List.{position_or_len};
 ghost use Rattle.auction_terms.specs.Lines.{bytes_of};
 ghost use Rattle.std.specs.Option.{ok_or};
-ghost use Rattle.optimality.specs.inside.Checking.{IsPrepared};
+ghost use Rattle.optimality.specs.Checking.{IsPrepared};
 ghost use Rattle.optimality.specs.inside.Naming.{nameable, unknown_of};
 ghost use Rattle.auction_terms.specs.Stages.{and_then};
 ghost use Rattle.program_rows.specs.ProgramNames.{row_names};

@@ -2,7 +2,7 @@
 use Rattle.std.specs.Prelude.{ℕ, suc, List, [], ◌∷◌, ℤ, pos, ◌+ℤ◌, ◌*ℤ◌}
 use Rattle.program_rows.specs.Program.{TableColumn}
 use Rattle.optimality.specs.Certificates.{Form, sum_of}
-use Rattle.optimality.specs.inside.Adding.{at_place, number_at}
+use Rattle.optimality.specs.Adding.{at_place, number_at}
 
 -- the entries of a column, each times the multiplier of its row
 abbrev pub entries_given : List ℤ → Form → ℤ

@@ -1,5 +1,5 @@
 use Rattle.std.proofs.Common.{◌≡◌, ℕ, drop, ◌+ℤ◌}
-use Rattle.optimality.specs.inside.Adding.{number_at}
+use Rattle.optimality.specs.Adding.{number_at}
 use Rattle.optimality.specs.inside.ByEntries.{columns_given}
 use Rattle.optimality.proofs.by_columns.add_columns.Given as goal
 

@@ -2,7 +2,7 @@ use Rattle.std.proofs.Common.{get_or, pos, rules, subst, ℤ}
 use Rattle.std.proofs.lemmas.Int.{to_z-of_z}
 use mir.Syntax.{w64, w128}
 use mir.Val.{SFits}
-use Rattle.optimality.specs.inside.Adding.{AreGivenMore, at_place}
+use Rattle.optimality.specs.Adding.{AreGivenMore, at_place}
 use Rattle.optimality.proofs.ByColumnFacts.{multipliers-step}
 use Rattle.optimality.proofs.by_columns.add_multipliers.Goals as goal
 

@@ -1,6 +1,6 @@
 use Rattle.std.proofs.Common.{◌≡◌, ℕ, drop, ◌+ℤ◌}
 use Rattle.optimality.specs.Certificates.{number_in}
-use Rattle.optimality.specs.inside.Adding.{number_at}
+use Rattle.optimality.specs.Adding.{number_at}
 use Rattle.optimality.proofs.by_columns.add_multipliers.Given as goal
 
 -- the multipliers so far, and those of the terms that are left

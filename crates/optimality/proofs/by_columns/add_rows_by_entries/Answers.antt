@@ -2,7 +2,7 @@ use Rattle.std.proofs.Common.{◌≡◌, ◌∙◌, ℕ, ℤ, List, ap, arith, l
 use Rattle.std.proofs.lemmas.List.{take_at}
 use Rattle.std.proofs.lemmas.Option.{IfSome_then}
 use Rattle.optimality.specs.Certificates.{number_in}
-use Rattle.optimality.specs.inside.Adding.{number_at}
+use Rattle.optimality.specs.Adding.{number_at}
 use Rattle.optimality.proofs.ByColumnFacts.{columns-have}
 use Rattle.optimality.proofs.by_columns.add_rows_by_entries.Goals as goal
 

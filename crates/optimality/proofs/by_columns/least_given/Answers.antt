@@ -2,7 +2,7 @@ use Rattle.std.proofs.Common.{◌≤◌, arith, length, rules}
 use Rattle.std.proofs.lemmas.Int.{to_z-of_z}
 use mir.Syntax.{w64, w128}
 use mir.Val.{SFits, to_z}
-use Rattle.optimality.specs.inside.Adding.{number_at}
+use Rattle.optimality.specs.Adding.{number_at}
 use Rattle.optimality.proofs.ByColumnFacts.{least-end, least-step}
 use Rattle.optimality.proofs.LeafFacts.{with_given}
 use Rattle.optimality.proofs.by_columns.least_given.Goals as goal

@@ -1,5 +1,5 @@
 use Rattle.std.proofs.Common.{◌≡◌, drop, ◌+ℤ◌}
-use Rattle.optimality.specs.inside.Adding.{number_at}
+use Rattle.optimality.specs.Adding.{number_at}
 use Rattle.optimality.proofs.ColumnSumFacts.{least_sum}
 use Rattle.optimality.proofs.LeafFacts.{with_given}
 use Rattle.optimality.proofs.by_columns.least_given.Given as goal

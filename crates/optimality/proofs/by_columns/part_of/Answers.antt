@@ -2,7 +2,7 @@ use Rattle.std.proofs.Common.{◌∙◌, ap₂, refl, rules, ℤ, ◌+ℤ◌}
 use Rattle.std.proofs.lemmas.Int.{to_z-of_z}
 use mir.Syntax.{w64, w128}
 use mir.Val.{SFits}
-use Rattle.optimality.specs.inside.Adding.{number_at}
+use Rattle.optimality.specs.Adding.{number_at}
 use Rattle.optimality.proofs.LeafFacts.{given-cost}
 use Rattle.optimality.proofs.by_columns.part_of.Goals as goal
 

@@ -1,13 +1,13 @@
 use Rattle.std.proofs.Common.{◌≡◌, ◌∙◌, ◌≤◌, ◌+◌, ◌*◌, ◌^◌, ap, ap₂, subst, sym, pos, rules, ℕ, ℤ, neg_ℤ, ◌+ℤ◌}
 use Rattle.std.specs.Prelude.{if◌then◌else◌, unsigned_abs}
 use Rattle.optimality.specs.inside.Sizes.{form_size}
-use Rattle.optimality.specs.inside.Holding.{cut_of}
+use Rattle.optimality.specs.Holding.{cut_of}
 use Rattle.std.proofs.lemmas.Int.{to_z-of_z}
 use Rattle.std.proofs.lemmas.Result.{on_ok_weaker}
 use mir.Syntax.{w128}
 use mir.Val.{SFits}
 use Rattle.optimality.specs.Certificates.{Form}
-use Rattle.optimality.specs.inside.Adding.{number_at, form_given}
+use Rattle.optimality.specs.Adding.{number_at, form_given}
 use Rattle.optimality.proofs.StepFacts.{side-given}
 use Rattle.optimality.proofs.SizeFacts.{side-size, signed-size}
 use Rattle.optimality.proofs.StopFacts.{too-large-weaker}

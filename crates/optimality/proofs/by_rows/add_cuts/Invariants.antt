@@ -1,6 +1,6 @@
 use Rattle.std.proofs.Common.{◌≡◌, ℕ, drop, ◌+ℤ◌}
-use Rattle.optimality.specs.inside.Adding.{number_at, cuts_given}
-use Rattle.optimality.specs.inside.Holding.{cuts_of}
+use Rattle.optimality.specs.Adding.{number_at, cuts_given}
+use Rattle.optimality.specs.Holding.{cuts_of}
 use Rattle.optimality.proofs.by_rows.add_cuts.Given as goal
 
 -- the sums so far, and what the cuts that are left give

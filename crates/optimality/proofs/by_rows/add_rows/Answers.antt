@@ -2,11 +2,11 @@ use Rattle.std.proofs.Common.{◌*◌, get_or, pos, rules, ℕ, ℤ}
 use Rattle.std.specs.Prelude.{◌*ℤ◌, unsigned_abs}
 use Rattle.optimality.specs.Certificates.{number_in}
 use Rattle.optimality.specs.inside.Sizes.{form_size}
-use Rattle.optimality.specs.inside.Adding.{form_at, number_at}
+use Rattle.optimality.specs.Adding.{form_at, number_at}
 use Rattle.std.proofs.lemmas.Int.{to_z-of_z}
 use mir.Syntax.{w128}
 use mir.Val.{SFits}
-use Rattle.optimality.specs.inside.RowForms.{forms_held}
+use Rattle.optimality.specs.RowForms.{forms_held}
 use Rattle.optimality.proofs.StepFacts.{rows-step}
 use Rattle.optimality.proofs.SizeFacts.{row-within, step-within, reach}
 use Rattle.optimality.proofs.StopFacts.{too-large-passed}

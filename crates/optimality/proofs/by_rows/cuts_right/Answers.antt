@@ -5,7 +5,7 @@ use mir.Syntax.{w128}
 use mir.Val.{SFits, to_z}
 use Rattle.optimality.specs.Certificates.{Cut}
 use Rattle.optimality.specs.declared.checker.OpenSplit.{OpenSplit}
-use Rattle.optimality.specs.inside.Holding.{cut_of}
+use Rattle.optimality.specs.Holding.{cut_of}
 use Rattle.optimality.proofs.SizeFacts.{cut-right-within, cuts-step-within}
 use Rattle.optimality.proofs.StepFacts.{cuts-right-step}
 use Rattle.optimality.proofs.StopFacts.{too-large-passed}

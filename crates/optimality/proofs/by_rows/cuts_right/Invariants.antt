@@ -1,6 +1,6 @@
 use Rattle.std.proofs.Common.{◌≡◌, drop, ◌+ℤ◌}
 use Rattle.optimality.proofs.ColumnSumFacts.{cuts_right}
-use Rattle.optimality.specs.inside.Holding.{cuts_of}
+use Rattle.optimality.specs.Holding.{cuts_of}
 use Rattle.optimality.proofs.by_rows.cuts_right.Given as goal
 
 -- the sum so far, and that of the cuts that are left

@@ -1,6 +1,6 @@
 use Rattle.std.proofs.Common.{◌≡◌, ◌*◌, ◌^◌, ◌≤◌, drop, ◌+ℤ◌}
 use Rattle.std.specs.Prelude.{unsigned_abs}
-use Rattle.optimality.specs.inside.Adding as adding
+use Rattle.optimality.specs.Adding as adding
 use Rattle.optimality.proofs.by_rows.least_alone.Given as goal
 
 -- the sum so far, and that of the columns that are left; each cost is at most 2^63 in size

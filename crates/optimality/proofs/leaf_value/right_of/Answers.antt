@@ -3,7 +3,7 @@ use Rattle.std.specs.Prelude.{unsigned_abs}
 use Rattle.std.proofs.lemmas.Int.{to_z-of_z}
 use mir.Syntax.{w128}
 use mir.Val.{SFits}
-use Rattle.optimality.specs.inside.Holding.{cuts_of}
+use Rattle.optimality.specs.Holding.{cuts_of}
 use Rattle.optimality.proofs.ColumnSizeFacts.{right-within}
 use Rattle.optimality.proofs.ColumnSumFacts.{cuts_right, rows_right}
 use Rattle.optimality.proofs.StopFacts.{too-large-weaker}

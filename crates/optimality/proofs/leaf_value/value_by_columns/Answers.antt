@@ -4,7 +4,7 @@ use Rattle.std.proofs.lemmas.Int.{to_z-of_z}
 use mir.Syntax.{w128}
 use mir.Val.{SFits}
 use Rattle.optimality.specs.Reduced.{reduced}
-use Rattle.optimality.specs.inside.Holding.{cuts_of}
+use Rattle.optimality.specs.Holding.{cuts_of}
 use Rattle.optimality.proofs.AlikeFacts.{rows-alike}
 use Rattle.optimality.proofs.ColumnSumFacts.{cuts_right, least_sum, rows_right}
 use Rattle.optimality.proofs.leaf_value.value_by_columns.Goals as goal

@@ -3,7 +3,7 @@ use Rattle.std.specs.Prelude.{◌*ℤ◌, slice_set}
 use Rattle.std.proofs.lemmas.Int.{to_z-of_z}
 use mir.Syntax.{w64, w128}
 use mir.Val.{SFits}
-use Rattle.optimality.specs.inside.Adding.{AreGivenMore, at_place, number_at}
+use Rattle.optimality.specs.Adding.{AreGivenMore, at_place, number_at}
 use Rattle.optimality.proofs.PlaceFacts.{more-set}
 use Rattle.optimality.proofs.narrow_sums.add_product.Goals as goal
 

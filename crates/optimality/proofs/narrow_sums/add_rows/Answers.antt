@@ -2,7 +2,7 @@ use Rattle.std.proofs.Common.{get_or, pos, rules}
 use Rattle.std.proofs.lemmas.Int.{to_z-of_z}
 use mir.Syntax.{w128}
 use mir.Val.{SFits}
-use Rattle.optimality.specs.inside.RowForms.{forms_held}
+use Rattle.optimality.specs.RowForms.{forms_held}
 use Rattle.optimality.proofs.StepFacts.{rows-step}
 use Rattle.optimality.proofs.narrow_sums.add_rows.Goals as goal
 

@@ -3,7 +3,7 @@ use Rattle.std.specs.Prelude.{◌*ℤ◌}
 use Rattle.std.proofs.lemmas.Int.{to_z-of_z}
 use mir.Syntax.{w16, w64}
 use mir.Val.{SFits}
-use Rattle.optimality.specs.inside.Adding.{AreGivenMore, at_place}
+use Rattle.optimality.specs.Adding.{AreGivenMore, at_place}
 use Rattle.optimality.proofs.PlaceFacts.{form-step, form-end}
 use Rattle.optimality.proofs.ProductBoundFacts.{short_high, short_low, short_product}
 use Rattle.optimality.proofs.narrow_sums.add_short_products.Goals as goal

@@ -2,7 +2,7 @@ use Rattle.std.proofs.Common.{◌≡◌, ◌<◌, ℕ, ℤ, arith, length, rules
 use Rattle.std.proofs.lemmas.Int.{to_z-of_z}
 use Rattle.std.proofs.lemmas.Bool.Decides.{nat_tests}
 use mir.Val.{SFits}
-use Rattle.optimality.specs.inside.RowForms.{forms_held, with_term}
+use Rattle.optimality.specs.RowForms.{forms_held, with_term}
 use Rattle.optimality.proofs.RowFacts.{entry-taken, term-nowhere, term-pushed}
 use Rattle.optimality.proofs.row_forms.add_column.Goals as goal
 use Rattle.optimality.proofs.row_forms.add_column.Goals.{then-row-forms+in_ok-push, else-row-forms}

@@ -1,5 +1,5 @@
 use Rattle.std.proofs.Common.{◌≡◌, drop}
-use Rattle.optimality.specs.inside.RowForms.{forms_held, with_entries}
+use Rattle.optimality.specs.RowForms.{forms_held, with_entries}
 use Rattle.optimality.proofs.row_forms.add_column.Given as goal
 
 -- the entries that are left, added to the forms so far

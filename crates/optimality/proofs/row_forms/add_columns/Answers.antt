@@ -1,4 +1,4 @@
-use Rattle.optimality.specs.inside.RowForms.{forms_held}
+use Rattle.optimality.specs.RowForms.{forms_held}
 use Rattle.optimality.proofs.RowFacts.{columns-step}
 use Rattle.optimality.proofs.row_forms.add_columns.Goals as goal
 

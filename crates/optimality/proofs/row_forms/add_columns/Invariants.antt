@@ -1,5 +1,5 @@
 use Rattle.std.proofs.Common.{◌≡◌, drop}
-use Rattle.optimality.specs.inside.RowForms.{forms_held, with_columns}
+use Rattle.optimality.specs.RowForms.{forms_held, with_columns}
 use Rattle.optimality.proofs.row_forms.add_columns.Given as goal
 
 -- the columns that are left, added to the forms so far

@@ -1,5 +1,5 @@
 use Rattle.std.proofs.Common.{◌≡◌, [], replicate}
-use Rattle.optimality.specs.inside.RowForms.{forms_held}
+use Rattle.optimality.specs.RowForms.{forms_held}
 use Rattle.optimality.proofs.row_forms.empty_forms.Given as goal
 
 -- the forms so far

@@ -3,7 +3,7 @@ use Rattle.std.specs.Prelude.{unsigned_abs}
 use Rattle.std.proofs.lemmas.Int.{to_z-of_z}
 use mir.Syntax.{w64, w128}
 use mir.Val.{SFits}
-use Rattle.optimality.specs.inside.Adding.{AreGivenMore, at_place, number_at}
+use Rattle.optimality.specs.Adding.{AreGivenMore, at_place, number_at}
 use Rattle.optimality.proofs.PlaceFacts.{terms-step}
 use Rattle.optimality.proofs.PlaceSizeFacts.{more-within}
 use Rattle.optimality.proofs.ProductBoundFacts.{abs-within}

@@ -1,7 +1,7 @@
 use Rattle.std.proofs.Common.{◌≡◌, ℕ, ◌*◌, ◌^◌, ◌≤◌, drop, ◌+ℤ◌}
 use Rattle.std.specs.Prelude.{unsigned_abs}
 use Rattle.optimality.specs.Certificates.{number_in}
-use Rattle.optimality.specs.inside.Adding.{number_at}
+use Rattle.optimality.specs.Adding.{number_at}
 use Rattle.optimality.proofs.sums.add_terms.Given as goal
 
 -- the sums so far, and what the terms that are left give; each term is at most 2^63 in size

@@ -2,7 +2,7 @@ use Rattle.std.proofs.Common.{◌≡◌, ap, arith}
 use Rattle.std.specs.Prelude.{unsigned_abs}
 use Rattle.std.proofs.lemmas.Int.{ints}
 use Rattle.optimality.specs.Certificates.{number_in}
-use Rattle.optimality.specs.inside.Adding.{number_at}
+use Rattle.optimality.specs.Adding.{number_at}
 use Rattle.optimality.proofs.PlaceSizeFacts.{number-size}
 use Rattle.optimality.proofs.sums.added_up.Goals as goal
 

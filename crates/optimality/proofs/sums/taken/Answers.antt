@@ -3,7 +3,7 @@ use Rattle.std.specs.Prelude.{unsigned_abs}
 use Rattle.std.proofs.lemmas.Int.{to_z-of_z}
 use mir.Syntax.{w128}
 use mir.Val.{SFits}
-use Rattle.optimality.specs.inside.Adding.{number_at}
+use Rattle.optimality.specs.Adding.{number_at}
 use Rattle.optimality.proofs.PlaceFacts.{taken-pushed}
 use Rattle.optimality.proofs.PlaceSizeFacts.{size-pushed}
 use Rattle.optimality.proofs.sums.taken.Goals as goal

@@ -4,7 +4,7 @@ use Rattle.std.proofs.lemmas.Int.{ints, to_z-of_z}
 use Rattle.std.proofs.lemmas.Result.{on_ok_weaker}
 use mir.Syntax.{w128}
 use mir.Val.{SFits}
-use Rattle.optimality.specs.inside.Adding.{AreGivenMore, at_place}
+use Rattle.optimality.specs.Adding.{AreGivenMore, at_place}
 use Rattle.optimality.proofs.sums.Sums.add_product.Goals as goal
 
 pub returns-clause-value : goal.returns-clause-value

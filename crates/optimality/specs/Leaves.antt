@@ -6,8 +6,8 @@ use Rattle.optimality.specs.Shows.{leaf_value}
 use Rattle.optimality.specs.Sizes.{costs_size}
 use Rattle.optimality.specs.declared.checker.Leaf.{Leaf}
 use Rattle.optimality.specs.declared.checker.OpenSplit.{OpenSplit}
-use Rattle.optimality.specs.inside.Holding.{cuts_of}
-use Rattle.optimality.specs.inside.Stopping.{given_size}
+use Rattle.optimality.specs.Holding.{cuts_of}
+use Rattle.optimality.specs.Stopping.{given_size}
 
 -- the value of a leaf, with the cuts of the open splits
 abbrev pub value_of : Table → List OpenSplit → Leaf → ℤ

@@ -3,8 +3,8 @@ use Rattle.std.specs.Prelude.{◌≡◌, IfSome}
 use Rattle.optimality.specs.declared.checker.Checker.{Checker}
 use Rattle.optimality.specs.declared.row_forms.RowForms.{RowForms}
 use Rattle.auction_terms.specs.Lines.{bytes_of}
-use Rattle.optimality.specs.inside.Adding.{least_alone}
-use Rattle.optimality.specs.inside.RowForms.{forms_held, row_forms}
+use Rattle.optimality.specs.Adding.{least_alone}
+use Rattle.optimality.specs.RowForms.{forms_held, row_forms}
 use Rattle.program_rows.specs.Program.{Table}
 use Rattle.program_rows.specs.ProgramNames.{row_names}
 

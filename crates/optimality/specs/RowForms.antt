@@ -3,7 +3,7 @@ use Rattle.std.specs.Prelude.{ℕ, suc, List, [], ◌∷◌, ◌++◌, length, m
 use Rattle.program_rows.specs.Program.{Table, TableColumn}
 use Rattle.optimality.specs.declared.row_forms.RowForm.{RowForm}
 use Rattle.optimality.specs.Certificates.{Form}
-use Rattle.optimality.specs.inside.Adding.{form_at}
+use Rattle.optimality.specs.Adding.{form_at}
 
 -- a term more in the form of a row
 abbrev pub with_term : ℕ → ℕ × ℤ → List Form → List Form

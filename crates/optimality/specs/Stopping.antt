@@ -10,7 +10,7 @@ use Rattle.optimality.specs.declared.refusal.Limit.{Limit}
 use Rattle.optimality.specs.declared.refusal.Limit.TheVariants.{Memory, TooLarge}
 use Rattle.optimality.specs.declared.refusal.Refusal.{Refusal}
 use Rattle.optimality.specs.declared.refusal.Refusal.TheVariants.{Stopped, Fault}
-use Rattle.optimality.specs.inside.Adding.{number_at}
+use Rattle.optimality.specs.Adding.{number_at}
 
 -- only where this holds
 abbrev pub TooLargeOnly : {X : Type 0} → Type 0 → Result X Limit → Type 0
