@@ -29,6 +29,8 @@ mod SizeFacts
 pub mod VerifiedFacts
 pub mod AwardFacts
 mod FormAwardFacts
+mod FormLineFacts
+mod DigestFacts
 pub mod VerifyFacts
 pub mod WrittenOnFacts
 mod WorkedDescribed

@@ -20,5 +20,6 @@ pub mod Runs
 pub mod Sizes
 pub mod Verified
 pub mod FollowsFromForms
+pub mod VerifiedForms
 pub mod VerifiedInputs
 pub mod inside

@@ -7,6 +7,7 @@ ghost use Rattle.answers.specs.FaithfulAnswers.{CompiledIsFaithful, TextIsFaithf
 ghost use Rattle.answers.specs.FeasibleAnswers.{MappedIsFeasible, ReportedIsFeasible};
 ghost use Rattle.answers.specs.FollowsFromForms.{AwardFollowsFromForms};
 ghost use Rattle.answers.specs.Verified.{AwardFollows, AwardsFollow, NoOtherIsSo, UniqueIsOnly};
+ghost use Rattle.answers.specs.VerifiedForms.{AwardFollowsFromDigests};
 ghost use Rattle.answers.specs.VerifiedInputs.{VerifiedIsTrue};
 
 /// What `text` answers of an input is a text that is faithful to the auction that the input describes: each 0-1 point of its
@@ -68,6 +69,12 @@ pub fn the_award_follows_from_the_bids()
 /// `unique`, both have the same winners with the same bids, and each winner pays the same.
 pub fn the_award_follows_from_the_forms()
     ensures { AwardFollowsFromForms }
+{}
+
+/// Of two outputs of `verify --forms` with the same lines of forms, whose reports end with the lines `by the rule` and `unique`, the
+/// winners, their prices and their exact prices are the same; or two different texts of rules or forms of the two inputs have one digest.
+pub fn the_award_follows_from_the_digests()
+    ensures { AwardFollowsFromDigests }
 {}
 
 /// What `explain` prints for a command is what the command does of the same input: it refuses it for the first fault that is reported, and
