@@ -3,17 +3,9 @@
 
 ghost use Rattle.std.specs.Prelude.{◌≡◌};
 
-mod disk;
 mod noted;
-mod out;
-mod stack;
-mod terminal;
 
-use crate::disk::Disk;
 use crate::noted::Noted;
-use crate::out::Out;
-use crate::stack::{print_lack, touch};
-use crate::terminal::StandardInput;
 use answers::{print_file_line, run};
 use auction_input::Source;
 use byte_sinks::{Sink, StdSink};
@@ -21,6 +13,10 @@ use std::env;
 use std::process::ExitCode;
 use std::sync::Wait;
 use std::thread::Threads;
+use system_files::{Disk, Out, StandardInput, print_lack, touch};
+
+const HINT: &[u8] =
+    b"wdp: reads standard input; a line with Ctrl-D alone ends it, and wdp COMMAND FILE reads a file\n";
 
 // The exit status, once the output has come to its end: that of the run, but 1 where a whole file can't take its place.
 fn ended<F: Sink>(out: Out<'_>, is_whole: bool, status: u8, faults: &mut F) -> u8
@@ -39,7 +35,7 @@ fn ended<F: Sink>(out: Out<'_>, is_whole: bool, status: u8, faults: &mut F) -> u
 // is looked at.
 #[inline(never)]
 fn work<R: Threads + Wait + Sync + AllocGlobal>(rt: &R, system: &HostRuntime) -> ExitCode {
-    let mut input = Source::new(StandardInput::new(system));
+    let mut input = Source::new(StandardInput::new(system, HINT));
     let mut out = Out::new(system);
     let mut faults = Noted::new(StdSink::new(system.stderr()));
     let words = env::args(system);

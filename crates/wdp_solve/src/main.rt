@@ -1,17 +1,9 @@
 //! From the sealed bids of an auction to winners that are proved.
 #![tactic(auto)]
 
-mod disk;
-mod out;
-mod stack;
-mod terminal;
 mod unsolved;
 mod words;
 
-use crate::disk::Disk;
-use crate::out::Out;
-use crate::stack::{print_lack, touch};
-use crate::terminal::StandardInput;
 use crate::unsolved::print_unsolved;
 use crate::words::{Asked, is_version, words_of};
 use answers::{
@@ -29,6 +21,10 @@ use std::env;
 use std::process::ExitCode;
 use std::sync::Wait;
 use std::thread::Threads;
+use system_files::{Disk, Out, StandardInput, print_lack, touch};
+
+const HINT: &[u8] =
+    b"wdp-solve: reads standard input; a line with Ctrl-D alone ends it, and wdp-solve FILE reads a file\n";
 
 /// What the words name, read.
 #[derive(Drop)]
@@ -128,7 +124,7 @@ fn solve_asked<R: Threads + Wait + Sync + AllocGlobal, F: Sink>(
         print_file_refusal(&asked.named, refusal, faults);
         return 1;
     }
-    let mut standard = Source::new(StandardInput::new(system));
+    let mut standard = Source::new(StandardInput::new(system, HINT));
     let Some(given) = read_given(rt.alloc(), &disk, asked, &mut standard, faults) else {
         return 1;
     };

@@ -3,19 +3,21 @@
 use std::io;
 use std::io::{IsTerminal, Read, Write};
 
-const HINT: &[u8] =
-    b"wdp: reads standard input; a line with Ctrl-D alone ends it, and wdp COMMAND FILE reads a file\n";
-
-/// Standard input. Before its first read a terminal gets a line that says how an input ends.
+/// Standard input. Before its first read a terminal gets the program's line that says how an input ends.
 #[derive(Drop)]
 pub struct StandardInput<'r> {
     rt: &'r HostRuntime,
+    hint: &'r [u8],
     is_read: bool,
 }
 
 impl<'r> StandardInput<'r> {
-    pub fn new(rt: &'r HostRuntime) -> StandardInput<'r> {
-        StandardInput { rt, is_read: false }
+    pub fn new(rt: &'r HostRuntime, hint: &'r [u8]) -> StandardInput<'r> {
+        StandardInput {
+            rt,
+            hint,
+            is_read: false,
+        }
     }
 }
 
@@ -23,7 +25,7 @@ impl Read for StandardInput<'_> {
     fn read(&mut self, block: &mut [u8]) -> io::Result<usize> {
         let mut input = self.rt.stdin();
         if !self.is_read && input.is_terminal() {
-            let _ = self.rt.stderr().write(HINT);
+            let _ = self.rt.stderr().write(self.hint);
         }
         self.is_read = true;
         input.read(block)
