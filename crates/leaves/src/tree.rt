@@ -17,10 +17,13 @@ use std::alloc::{AllocError, Global};
 const OPEN_CELLS: usize = 16_000_000;
 
 /// Columns are fixed at a node if they are this part of the open ones, in tenths.
-const FIXED_TENTHS: usize = 3;
+const FIXED_TENTHS: usize = 1;
 
 /// By how much rounding may lift a bound that isn't judged, as a part of it.
 const MARGIN: f64 = 1e-7;
+
+/// By how much rounding may lift a bound that is judged.
+const TINY: f64 = 1e-9;
 
 /// What a search looks for.
 #[derive(Clone, Copy, PartialEq, Eq, Debug)]
@@ -129,7 +132,10 @@ impl<'a> Tree<'a> {
     fn set_goal(&mut self) {
         let layout = self.ground.layout;
         self.search.goal = match self.ground.aim {
-            Aim::Better => layout.in_units(self.best.objective.saturating_sub(1)),
+            Aim::Better => {
+                let goal = layout.in_units(self.best.objective.saturating_sub(1));
+                goal + TINY * (goal.abs() + 1.0)
+            }
             Aim::Ties(_) => {
                 let goal = layout.in_units(self.best.objective);
                 goal + MARGIN * (goal.abs() + 1.0)
@@ -218,6 +224,9 @@ impl<'a> Tree<'a> {
         let prices = self.prices(&tableau, ray)?;
         if self.close(checker, place, prices.as_slice())? {
             return Ok(None);
+        }
+        if ray.is_none() {
+            return self.visit_open(checker, place, depth, is_high, tableau);
         }
         self.part(checker, place, tableau, &[])
     }
@@ -393,7 +402,14 @@ impl<'a> Tree<'a> {
         let open = tableau.columns.iter().take(self.ground.core.len());
         let count = open.filter(|column| column.high > 0.0).count();
         let is_many = costly.len().saturating_mul(10) >= count.saturating_mul(FIXED_TENTHS);
-        if self.ground.aim != Aim::Better || costly.is_empty() || !is_many {
+        if costly.is_empty() || !is_many {
+            return self.push_sides(place, tableau, chosen);
+        }
+        if self.ground.aim != Aim::Better {
+            // Nothing is written of it.
+            for column in &costly {
+                tableau.set_high(*column, 0.0);
+            }
             return self.push_sides(place, tableau, chosen);
         }
         let columns = self.places_of(costly.as_slice())?;
