@@ -5,7 +5,7 @@ mod unsolved;
 mod words;
 
 use crate::unsolved::print_unsolved;
-use crate::words::{Asked, is_version, words_of};
+use crate::words::{Asked, is_memory, is_version, words_of};
 use answers::{
     VERSION, print_file_line, print_file_refusal, print_refusal, print_unread, write_pieces,
 };
@@ -17,10 +17,10 @@ use byte_sinks::{Sink, StdSink};
 use clap::Error;
 use solving::solve;
 use std::alloc::{AllocError, Global};
-use std::env;
 use std::process::ExitCode;
 use std::sync::Wait;
 use std::thread::Threads;
+use std::{env, io};
 use system_files::{Disk, Out, StandardInput, print_lack, touch};
 
 const HINT: &[u8] =
@@ -140,6 +140,10 @@ fn print_words<F: Sink>(alloc: Global, error: &Error, out: &mut Out<'_>, faults:
     if is_version(error) {
         return show(b"wdp-solve ", VERSION.as_bytes(), out, faults);
     }
+    if is_memory(error) {
+        print_refusal(&[], &Refusal::OutOfMemory, faults);
+        return 1;
+    }
     let Ok(text) = format!(in alloc; "{error}") else {
         print_refusal(&[], &Refusal::OutOfMemory, faults);
         return 1;
@@ -174,15 +178,25 @@ fn ended<F: Sink>(out: Out<'_>, is_whole: bool, status: u8, faults: &mut F) -> u
     }
 }
 
+/// Tells why there are no words, and gives the exit status.
+fn print_wordless<F: Sink>(error: &io::Error, faults: &mut F) -> u8 {
+    if error.kind() == io::ErrorKind::OutOfMemory {
+        print_refusal(&[], &Refusal::OutOfMemory, faults);
+        return 1;
+    }
+    let _ = write_pieces(&[b"wdp: a word is no text\n"], faults);
+    2
+}
+
 // Does what the words ask for, and gives the exit status. A call of its own, so that `main` has next to no stack before that
 // is looked at.
 #[inline(never)]
 fn work<R: Threads + Wait + Sync + AllocGlobal>(rt: &R, system: &HostRuntime) -> ExitCode {
     let mut out = Out::new(system);
     let mut faults = StdSink::new(system.stderr());
-    let Ok(words) = env::args(system) else {
-        let _ = write_pieces(&[b"wdp: a word is no text\n"], &mut faults);
-        return ExitCode::from(2);
+    let words = match env::args(system) {
+        Ok(words) => words,
+        Err(error) => return ExitCode::from(print_wordless(&error, &mut faults)),
     };
     let status = match words_of(rt.alloc(), words) {
         Ok(asked) => {

@@ -164,3 +164,8 @@ pub fn words_of(alloc: Global, words: Args) -> Result<Asked, Error> {
 pub fn is_version(error: &Error) -> bool {
     error.kind() == ErrorKind::DisplayVersion
 }
+
+/// Whether memory ran out while the words were read.
+pub fn is_memory(error: &Error) -> bool {
+    error.kind() == ErrorKind::OutOfMemory
+}
