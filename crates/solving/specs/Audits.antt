@@ -14,27 +14,27 @@ use Rattle.answers.specs.Answer.{answer}
 use Rattle.answers.specs.Sold.{HasSold}
 
 -- the bytes that came in, text after text
-abbrev pub bytes_given : Input → List ℕ
-bytes_given given = flat_map (λ (text : NamedText). text.bytes) given.texts
+abbrev pub given_bytes : Input → List ℕ
+given_bytes given = flat_map (λ (text : NamedText). text.bytes) given.texts
 
 -- a text that ends with the bytes that came in
 abbrev pub EndsWith : Input → List ℕ → Type 0
-EndsWith given text = (found : List ℕ) × (text ≡ found ++ bytes_given given)
+EndsWith given text = (found : List ℕ) × (text ≡ found ++ given_bytes given)
 
 -- a text that ends with the bytes that came in, and that a request accepts as an input; it has sold the auction that it describes
-pub record IsAccepted (asked : Request) (given : Input) (text : List ℕ) : Type 0 where
+pub record IsAcceptedText (asked : Request) (given : Input) (text : List ℕ) : Type 0 where
   pub ends : EndsWith given text
   pub accepted : (report : List ℕ) × (answer asked (input_of text) ≡ Ok report)
   pub sold : HasSold asked (input_of text)
 
 -- a text was written that a request accepts, and nothing else
 abbrev pub WritesAccepted : Request → Input → Outlet → Outlet → Type 0
-WritesAccepted asked given before after = (text : List ℕ) × IsAccepted asked given text × GoesWhole before after text
+WritesAccepted asked given before after = (text : List ℕ) × IsAcceptedText asked given text × GoesWhole before after text
 
 -- nothing was written; or a put failed, after the first bytes of a text that a request accepts
 pub data IsLeft (asked : Request) (given : Input) (before after : Outlet) : Refusal → Type 0 where
   unwritten : {r : Refusal} → after ≡ before → IsLeft asked given before after r
-  in_part : {written : ℕ} → (text : List ℕ) → IsAccepted asked given text → GoesInPart before after text written
+  in_part : {written : ℕ} → (text : List ℕ) → IsAcceptedText asked given text → GoesInPart before after text written
       → IsLeft asked given before after (refusal.Write (write.Sink written))
 
 -- why there is no audit, and what is left then: nothing; the first bytes of a text that a put cut off; or solutions that aren't proved, where they were

@@ -5,7 +5,7 @@ ghost use Rattle.auction_terms.specs.declared.limits.TheConstants.{MOST_WORKERS}
 ghost use Rattle.auction_input.specs.Input.{input_of, text_bytes};
 ghost use Rattle.auction_input.specs.ParsedParts.{only_text};
 ghost use Rattle.byte_sinks.specs.Sinks.{Sends};
-ghost use Rattle.solving.specs.Audits.{IsLeft, WritesAccepted, bytes_given};
+ghost use Rattle.solving.specs.Audits.{IsLeft, WritesAccepted, given_bytes};
 
 use crate::nowhere::Nowhere;
 use answers::{answer, verify, write_pieces};
@@ -28,7 +28,7 @@ fn add_texts(text: &mut Vec<u8>, texts: &[NamedText]) -> Result<(), AllocError>
 
 /// What was found, and then the bytes that came in, as one input. It isn't larger than an input may be.
 fn input_with(alloc: Global, found: &[u8], given: &Input) -> Result<Input, Refusal>
-    ensures { IfOk result (λ input. input ≡ input_of (found.now ++ bytes_given given.now)) }
+    ensures { IfOk result (λ input. input ≡ input_of (found.now ++ given_bytes given.now)) }
 {
     let mut text = Vec::from_slice(alloc, found)?;
     add_texts(&mut text, given.texts())?;
