@@ -25,7 +25,7 @@ use Rattle.optimality.specs.Sizes.{IsLargeFrom, IsLargeLine, IsLargeParsed, cut_
 use Rattle.optimality.specs.inside.Sizes.{form_size}
 use Rattle.optimality.specs.Verdict.{open_after as after_line, taken, fault_from}
 use Rattle.optimality.specs.declared.checker.OpenSplit.{OpenSplit}
-use Rattle.optimality.specs.Adding.{AreAlike, AreNoLarger}
+use Rattle.optimality.specs.inside.Adding.{AreAlike, AreNoLarger}
 use Rattle.optimality.specs.inside.Branches.{branch_of, GoOnAlike}
 use Rattle.optimality.proofs.ColumnSumFacts.{cuts_number, cuts_right, least_sum, rows_number, rows_right}
 use Rattle.optimality.proofs.LeafFacts.{least-same}

@@ -13,7 +13,8 @@ use Rattle.program_rows.specs.Program.{Table, TableColumn}
 use Rattle.program_rows.specs.Parts.{AreEntries, IsProgram}
 use Rattle.optimality.specs.Certificates.{Form, number_in, sum_of}
 use Rattle.optimality.specs.Reduced.{least_part}
-use Rattle.optimality.specs.Adding.{AreGivenMore, HaveRows, at_place, number_at}
+use Rattle.optimality.specs.Adding.{AreGivenMore, at_place, number_at}
+use Rattle.optimality.specs.inside.Adding.{HaveRows}
 use Rattle.optimality.specs.inside.ByEntries.{columns_given, entries_given}
 use Rattle.optimality.proofs.ColumnSumFacts.{least_sum, rows_number}
 use Rattle.optimality.proofs.PlaceFacts.{given-step, rest}

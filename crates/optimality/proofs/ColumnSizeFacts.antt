@@ -15,9 +15,10 @@ use Rattle.optimality.specs.Certificates.{Form, Cut, number_in}
 use Rattle.optimality.specs.Reduced.{least_part, right_side_at}
 use Rattle.optimality.specs.Sizes.{coefficients_size, costs_size, cut_size, leaf_size, row_size, size_of}
 use Rattle.optimality.specs.inside.Sizes.{form_size}
-use Rattle.optimality.specs.Adding.{number_at, AreNoLarger, IsTaken, change_at, cuts_given, form_at, least_alone, rows_given, sizes_below}
+use Rattle.optimality.specs.Adding.{number_at, IsTaken, form_at, least_alone}
+use Rattle.optimality.specs.inside.Adding.{AreNoLarger, change_at, cuts_given, rows_given, sizes_below}
 use Rattle.optimality.specs.RowForms.{row_forms}
-use Rattle.optimality.specs.Stopping.{given_size, right_size}
+use Rattle.optimality.specs.inside.Stopping.{given_size, right_size}
 use Rattle.optimality.proofs.ColumnSumFacts.{cuts_right, rows_right}
 use Rattle.optimality.proofs.PlaceSizeFacts.{below-taken, below-taken-from, given-within, no-larger}
 use Rattle.optimality.proofs.RowSizeFacts.{row-form-within}

@@ -2,9 +2,10 @@
 use Rattle.std.proofs.Common.{◌≡◌, ℕ, ◌+◌, ◌*◌, ◌^◌, ◌<◌, ◌≤◌, List, length, drop, get_or, subst, ℤ, pos, ◌+ℤ◌}
 use Rattle.std.specs.Prelude.{◌*ℤ◌, unsigned_abs}
 use Rattle.optimality.specs.Certificates.{Form}
-use Rattle.optimality.specs.Adding.{AreGivenMore, at_place, form_given, number_at}
+use Rattle.optimality.specs.Adding.{AreGivenMore, at_place, number_at}
+use Rattle.optimality.specs.inside.Adding.{form_given}
 use Rattle.optimality.specs.inside.Sizes.{form_size}
-use Rattle.optimality.specs.Stopping.{ReachesLimit}
+use Rattle.optimality.specs.inside.Stopping.{ReachesLimit}
 use Rattle.optimality.proofs.PlaceFacts.{form-step, form-end}
 use Rattle.optimality.proofs.SizeFacts.{form-step-within, reach}
 

@@ -28,7 +28,7 @@ use Rattle.optimality.specs.declared.refusal.Refusal.{Refusal}
 use Rattle.optimality.specs.declared.refusal.Refusal.TheVariants.{Stopped, Fault}
 use Rattle.optimality.specs.inside.Answers.{IsRefusedCertificate}
 use Rattle.optimality.specs.inside.Branches.{AnswersAlike, GoOnAlike}
-use Rattle.optimality.specs.Stopping.{RefusedLargeOnly}
+use Rattle.optimality.specs.inside.Stopping.{RefusedLargeOnly}
 
 -- ---------- what is reported ----------
 

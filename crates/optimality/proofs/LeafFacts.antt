@@ -13,8 +13,10 @@ use Rattle.program_rows.specs.Points.{coefficient_at}
 use Rattle.program_rows.specs.Parts.{IsProgram}
 use Rattle.optimality.specs.Certificates.{Form, Cut, number_in}
 use Rattle.optimality.specs.Reduced.{reduced, least_part}
-use Rattle.optimality.specs.Adding.{number_at, AreGivenMore, AreNone, HaveAll, HaveRows, IsTaken, at_place}
-use Rattle.optimality.specs.Adding.{cuts_given, form_at, rows_given, least_alone, least_with, change_at}
+use Rattle.optimality.specs.Adding.{number_at, AreGivenMore, AreNone, IsTaken, at_place}
+use Rattle.optimality.specs.inside.Adding.{HaveAll, HaveRows}
+use Rattle.optimality.specs.Adding.{form_at, least_alone}
+use Rattle.optimality.specs.inside.Adding.{cuts_given, rows_given, least_with, change_at}
 use Rattle.optimality.specs.RowForms.{row_forms}
 use Rattle.optimality.proofs.ColumnSumFacts.{least_sum, rows_number}
 use Rattle.optimality.proofs.ProductFacts.{times-sum, times-natural}

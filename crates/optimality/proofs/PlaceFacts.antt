@@ -9,7 +9,8 @@ use Rattle.std.proofs.lemmas.Int.{ints, by_lt_z}
 use Rattle.std.proofs.lemmas.Bool.Decides.{nat_tests}
 use lib.IntN.{*ℤ-zero}
 use Rattle.optimality.specs.Certificates.{Form, number_in, side}
-use Rattle.optimality.specs.Adding.{number_at, has_place, AreListed, AreAsBefore, AreGivenMore, at_place, form_given, IsTaken}
+use Rattle.optimality.specs.Adding.{number_at, AreGivenMore, at_place, IsTaken}
+use Rattle.optimality.specs.inside.Adding.{has_place, AreListed, AreAsBefore, form_given}
 use Rattle.optimality.proofs.ProductFacts.{times-sum}
 
 -- ---------- a write ----------

@@ -8,7 +8,8 @@ use Rattle.std.proofs.lemmas.Bool.Decides.{nat_tests}
 use Rattle.optimality.specs.Certificates.{Form, Cut, number_in}
 use Rattle.optimality.specs.Sizes.{size_of}
 use Rattle.optimality.specs.inside.Sizes.{form_size}
-use Rattle.optimality.specs.Adding.{number_at, AreNoLarger, AreGivenMore, IsTaken, at_place, size_in, sizes_below, cuts_given, form_at, rows_given}
+use Rattle.optimality.specs.Adding.{number_at, AreGivenMore, IsTaken, at_place, form_at}
+use Rattle.optimality.specs.inside.Adding.{AreNoLarger, size_in, sizes_below, cuts_given, rows_given}
 use Rattle.optimality.proofs.SizeFacts.{abs-sum, sum-within, at-within, times-within}
 
 -- ---------- sums over places ----------

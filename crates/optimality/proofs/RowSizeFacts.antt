@@ -13,7 +13,8 @@ use Rattle.program_rows.specs.Parts.{AreEntries, IsProgram}
 use Rattle.optimality.specs.Certificates.{Form}
 use Rattle.optimality.specs.Sizes.{coefficients_size, size_of}
 use Rattle.optimality.specs.inside.Sizes.{form_size}
-use Rattle.optimality.specs.Adding.{form_at, size_in}
+use Rattle.optimality.specs.Adding.{form_at}
+use Rattle.optimality.specs.inside.Adding.{size_in}
 use Rattle.optimality.specs.RowForms.{with_term, with_entries, with_columns, row_forms}
 use Rattle.optimality.proofs.RowFacts.{length-term, length-entries, length-columns}
 

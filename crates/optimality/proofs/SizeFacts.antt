@@ -9,7 +9,8 @@ use Rattle.std.proofs.lemmas.Int.{ints, unsigned_abs-mul}
 use Rattle.optimality.specs.Certificates.{Form, Cut, number_in, side, sum_of}
 use Rattle.optimality.specs.Sizes.{size_of}
 use Rattle.optimality.specs.inside.Sizes.{form_size}
-use Rattle.optimality.specs.Adding.{form_at, form_given}
+use Rattle.optimality.specs.Adding.{form_at}
+use Rattle.optimality.specs.inside.Adding.{form_given}
 use Rattle.optimality.specs.Holding.{cut_of, cuts_of}
 use Rattle.optimality.specs.Reduced.{right_side_at}
 use Rattle.optimality.specs.declared.checker.OpenSplit.{OpenSplit}

@@ -7,7 +7,8 @@ use Rattle.program_rows.specs.Program.{TableRow}
 use Rattle.optimality.specs.declared.checker.OpenSplit.{OpenSplit}
 use Rattle.optimality.specs.Certificates.{Form, side, number_in}
 use Rattle.optimality.specs.Reduced.{right_side_at}
-use Rattle.optimality.specs.Adding.{AreGivenMore, number_at, cuts_given, form_at, form_given, rows_given}
+use Rattle.optimality.specs.Adding.{AreGivenMore, number_at, form_at}
+use Rattle.optimality.specs.inside.Adding.{cuts_given, form_given, rows_given}
 use Rattle.optimality.specs.Holding.{cut_of, cuts_of}
 use Rattle.optimality.proofs.ColumnSumFacts.{cuts_right, rows_right}
 use Rattle.optimality.proofs.PlaceFacts.{rest, given-step, negated-in}

@@ -5,3 +5,6 @@ pub mod Certificates
 pub mod LineMeaning
 pub mod Naming
 pub mod Sizes
+pub mod Adding
+pub mod Leaves
+pub mod Stopping

@@ -2,7 +2,8 @@
 //! takes, or if there is no memory.
 
 ghost use Rattle.std.specs.Prelude.{◌≡◌, IfSome, ◌<◌, ◌+ℤ◌, ◌*ℤ◌, Some, length, slice_get};
-ghost use Rattle.optimality.specs.Adding.{AreGivenMore, AreNone, AreOf, HaveRows, least_with};
+ghost use Rattle.optimality.specs.Adding.{AreGivenMore, AreNone};
+ghost use Rattle.optimality.specs.inside.Adding.{AreOf, HaveRows, least_with};
 ghost use Rattle.optimality.specs.inside.ByEntries.{columns_given, entries_given};
 ghost use Rattle.std.specs.List.{enumerate_from};
 ghost use Rattle.std.specs.Option.{option_map};

@@ -1,8 +1,10 @@
 //! The least that a leaf's columns come to, by the rows and cuts that it names, in 128 bits.
 
 ghost use Rattle.std.specs.Prelude.{◌≡◌, ◌<◌, ◌≤◌, ◌+◌, ◌*◌, ◌^◌, Some, IfOk, ◌+ℤ◌, ◌*ℤ◌, length, pos, unsigned_abs, OnOk};
-ghost use Rattle.optimality.specs.Adding.{change_at, least_with, number_at, sizes_below, AreGivenMore, cuts_given, form_given, form_at, rows_given};
-ghost use Rattle.optimality.specs.Stopping.{TooLargeOnly, ReachesLimit};
+ghost use Rattle.optimality.specs.Adding.{number_at, AreGivenMore, form_at};
+ghost use Rattle.optimality.specs.inside.Adding.{change_at, least_with, sizes_below, cuts_given, form_given, rows_given};
+ghost use Rattle.optimality.specs.Stopping.{TooLargeOnly};
+ghost use Rattle.optimality.specs.inside.Stopping.{ReachesLimit};
 ghost use Rattle.optimality.specs.Sizes.{costs_size, size_of};
 ghost use Rattle.std.specs.List.{zip};
 ghost use Rattle.optimality.specs.Holding.{cut_of, cuts_of};

@@ -2,14 +2,17 @@
 
 ghost use Rattle.std.specs.Prelude.{◌≡◌, ◌≤◌, ◌*◌, ◌^◌, ◌-ℤ◌, ◌*ℤ◌, ◌+ℤ◌, ℕ, IfOk, IfSome, OnOk, int_lt, length, pos, unsigned_abs};
 ghost use Rattle.std.specs.List.{enumerate_from, zip};
-ghost use Rattle.optimality.specs.Adding.{AreAlike, AreNoLarger, cuts_given, number_at, rows_given};
+ghost use Rattle.optimality.specs.Adding.{number_at};
+ghost use Rattle.optimality.specs.inside.Adding.{AreAlike, AreNoLarger, cuts_given, rows_given};
 ghost use Rattle.optimality.specs.Checking.{AreRowsOf, IsPrepared};
 ghost use Rattle.optimality.specs.Holding.{cuts_of};
-ghost use Rattle.optimality.specs.Leaves.{reduced_size, value_of};
+ghost use Rattle.optimality.specs.Leaves.{value_of};
+ghost use Rattle.optimality.specs.inside.Leaves.{reduced_size};
 ghost use Rattle.optimality.specs.Certificates.{sum_of};
 ghost use Rattle.optimality.specs.Reduced as reduced;
 ghost use Rattle.optimality.specs.RowForms.{forms_held, row_forms as forms_of};
-ghost use Rattle.optimality.specs.Stopping.{TooLargeOnly, given_size, right_size};
+ghost use Rattle.optimality.specs.Stopping.{TooLargeOnly};
+ghost use Rattle.optimality.specs.inside.Stopping.{given_size, right_size};
 ghost use Rattle.optimality.specs.Sizes.{leaf_size};
 
 use crate::arithmetic::{minus, plus, times};

@@ -4,7 +4,7 @@ ghost use Rattle.std.specs.Prelude.{◌≡◌, IfOk, false, length, IfErr, ◌==
 ghost use Rattle.auction_terms.specs.LineFields.{fields, is_skipped};
 ghost use Rattle.optimality.specs.inside.Answers.{AnswersSeen, IsStopped, AnswersClosed};
 ghost use Rattle.optimality.specs.Checking.{IsPrepared};
-ghost use Rattle.optimality.specs.Stopping.{RefusedLargeOnly};
+ghost use Rattle.optimality.specs.inside.Stopping.{RefusedLargeOnly};
 ghost use Rattle.optimality.specs.LineMeaning.{SplitLine, BoundLine, parsed_certificate_line};
 ghost use Rattle.optimality.specs.inside.LineMeaning.{split_after, bound_after};
 ghost use Rattle.std.specs.List.{list_all};

@@ -4,7 +4,8 @@
 ghost use Rattle.std.specs.Int.{w64};
 ghost use Rattle.std.specs.Prelude.{◌≡◌, ◌<◌, ◌≤◌, ◌≤ℤ◌, ◌+ℤ◌, ◌*ℤ◌, ◌^◌, FitsSigned, IfSome, MatchOption, length, neg_ℤ, pos, unsigned_abs};
 ghost use Rattle.optimality.specs.Adding as adding;
-ghost use Rattle.optimality.specs.Adding.{AreGivenMore, AreNone, at_place, cuts_given, form_at, form_given, rows_given};
+ghost use Rattle.optimality.specs.Adding.{AreGivenMore, AreNone, at_place, form_at};
+ghost use Rattle.optimality.specs.inside.Adding.{cuts_given, form_given, rows_given};
 ghost use Rattle.optimality.specs.Holding.{cut_of, cuts_of};
 ghost use Rattle.optimality.specs.RowForms.{forms_held};
 

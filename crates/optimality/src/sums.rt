@@ -2,9 +2,12 @@
 
 ghost use Rattle.std.specs.Prelude.{◌≡◌, ◌<◌, ◌≤◌, ◌+◌, ◌^◌, ◌-ℤ◌, ◌≤ℤ◌, IfSome, OnOk, neg_ℤ, pos, unsigned_abs, vec_len, ℕ};
 ghost use Rattle.std.specs.Prelude.{false, slice_set, true, ◌*ℤ◌, ◌*◌, IfOk};
-ghost use Rattle.optimality.specs.Adding.{AreGivenMore, AreListed, AreNone, IsTaken, at_place, AreAsBefore};
-ghost use Rattle.optimality.specs.Adding.{has_place, form_given, number_at, AreAlike, AreOf, AreNoLarger, size_in};
-ghost use Rattle.optimality.specs.Stopping.{TooLargeOnly, ReachesLimit};
+ghost use Rattle.optimality.specs.Adding.{AreGivenMore, AreNone, IsTaken, at_place};
+ghost use Rattle.optimality.specs.inside.Adding.{AreListed, AreAsBefore};
+ghost use Rattle.optimality.specs.Adding.{number_at};
+ghost use Rattle.optimality.specs.inside.Adding.{has_place, form_given, AreAlike, AreOf, AreNoLarger, size_in};
+ghost use Rattle.optimality.specs.Stopping.{TooLargeOnly};
+ghost use Rattle.optimality.specs.inside.Stopping.{ReachesLimit};
 ghost use Rattle.optimality.specs.inside.Sizes.{form_size};
 ghost use Rattle.optimality.specs.Certificates.{number_in};
 ghost use Rattle.optimality.specs.Adding as adding;

@@ -1,7 +1,8 @@
 use Rattle.std.proofs.Common.{◌≡◌, List, rules, subst}
 use Rattle.std.proofs.lemmas.Option.{IfSome_then}
 use Rattle.optimality.specs.Certificates.{Form}
-use Rattle.optimality.specs.Adding.{AreGivenMore, rows_given}
+use Rattle.optimality.specs.Adding.{AreGivenMore}
+use Rattle.optimality.specs.inside.Adding.{rows_given}
 use Rattle.optimality.specs.RowForms.{forms_held, row_forms}
 use Rattle.optimality.proofs.LeafFacts.{rows-have}
 use Rattle.optimality.proofs.by_columns.add_rows.Goals as goal

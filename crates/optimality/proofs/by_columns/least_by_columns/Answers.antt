@@ -4,7 +4,8 @@ use Rattle.std.proofs.lemmas.Int.{to_z-of_z}
 use Rattle.std.proofs.lemmas.Option.{IfSome_then}
 use mir.Syntax.{w64, w128}
 use mir.Val.{SFits}
-use Rattle.optimality.specs.Adding.{AreGivenMore, AreNone, HaveAll, HaveRows, cuts_given, least_with, number_at}
+use Rattle.optimality.specs.Adding.{AreGivenMore, AreNone, number_at}
+use Rattle.optimality.specs.inside.Adding.{HaveAll, HaveRows, cuts_given, least_with}
 use Rattle.optimality.specs.Holding.{cuts_of}
 use Rattle.optimality.proofs.LeafFacts.{all-have, given-is}
 use Rattle.optimality.proofs.by_columns.least_by_columns.Goals as goal

@@ -7,7 +7,8 @@ use Rattle.std.proofs.lemmas.Result.{on_ok_weaker}
 use mir.Syntax.{w128}
 use mir.Val.{SFits}
 use Rattle.optimality.specs.Certificates.{Form}
-use Rattle.optimality.specs.Adding.{number_at, form_given}
+use Rattle.optimality.specs.Adding.{number_at}
+use Rattle.optimality.specs.inside.Adding.{form_given}
 use Rattle.optimality.proofs.StepFacts.{side-given}
 use Rattle.optimality.proofs.SizeFacts.{side-size, signed-size}
 use Rattle.optimality.proofs.StopFacts.{too-large-weaker}

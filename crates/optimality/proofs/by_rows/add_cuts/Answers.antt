@@ -3,7 +3,8 @@ use Rattle.std.specs.Prelude.{◌*ℤ◌, unsigned_abs}
 use Rattle.optimality.specs.Certificates.{Cut, number_in}
 use Rattle.optimality.specs.inside.Sizes.{form_size}
 use Rattle.optimality.specs.declared.checker.OpenSplit.{OpenSplit}
-use Rattle.optimality.specs.Adding.{AreGivenMore, form_given, number_at}
+use Rattle.optimality.specs.Adding.{AreGivenMore, number_at}
+use Rattle.optimality.specs.inside.Adding.{form_given}
 use Rattle.optimality.specs.Holding.{cut_of}
 use Rattle.optimality.proofs.StepFacts.{cuts-step}
 use Rattle.optimality.proofs.SizeFacts.{cut-within, cuts-step-within, reach}

@@ -6,10 +6,11 @@ use Rattle.std.proofs.lemmas.Result.{on_ok_weaker}
 use mir.Syntax.{w128}
 use mir.Val.{SFits}
 use Rattle.optimality.specs.Certificates.{Form}
-use Rattle.optimality.specs.Adding.{AreGivenMore, number_at, form_at, form_given}
+use Rattle.optimality.specs.Adding.{AreGivenMore, number_at, form_at}
+use Rattle.optimality.specs.inside.Adding.{form_given}
 use Rattle.optimality.specs.RowForms.{form_held, forms_held}
 use Rattle.optimality.specs.inside.Sizes.{form_size}
-use Rattle.optimality.specs.Stopping.{ReachesLimit}
+use Rattle.optimality.specs.inside.Stopping.{ReachesLimit}
 use Rattle.optimality.proofs.PlaceFacts.{forms-given}
 use Rattle.optimality.proofs.SizeFacts.{first-within, second-within, reach}
 use Rattle.optimality.proofs.StopFacts.{too-large-passed, too-large-weaker}

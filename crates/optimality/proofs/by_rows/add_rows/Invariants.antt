@@ -1,5 +1,6 @@
 use Rattle.std.proofs.Common.{◌≡◌, ℕ, drop, ◌+ℤ◌}
-use Rattle.optimality.specs.Adding.{number_at, rows_given}
+use Rattle.optimality.specs.Adding.{number_at}
+use Rattle.optimality.specs.inside.Adding.{rows_given}
 use Rattle.optimality.specs.RowForms.{forms_held}
 use Rattle.optimality.proofs.by_rows.add_rows.Given as goal
 

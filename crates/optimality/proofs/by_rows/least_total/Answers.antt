@@ -3,7 +3,7 @@ use Rattle.std.specs.Prelude.{unsigned_abs}
 use Rattle.std.proofs.lemmas.Int.{to_z-of_z}
 use mir.Syntax.{w128}
 use mir.Val.{SFits, to_z}
-use Rattle.optimality.specs.Adding.{change_at}
+use Rattle.optimality.specs.inside.Adding.{change_at}
 use Rattle.optimality.proofs.ColumnSizeFacts.{by-either, change-below}
 use Rattle.optimality.proofs.LeafFacts.{total-step, total-end}
 use Rattle.optimality.proofs.PlaceSizeFacts.{below-taken}

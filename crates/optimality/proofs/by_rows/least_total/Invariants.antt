@@ -1,7 +1,8 @@
 use Rattle.std.proofs.Common.{◌≡◌, ◌+◌, ◌*◌, ◌≤◌, length, pos, ◌+ℤ◌, vec_len}
 use Rattle.std.specs.Prelude.{unsigned_abs}
 use Rattle.optimality.specs.Sizes.{costs_size}
-use Rattle.optimality.specs.Adding.{least_with, number_at, sizes_below}
+use Rattle.optimality.specs.Adding.{number_at}
+use Rattle.optimality.specs.inside.Adding.{least_with, sizes_below}
 use Rattle.optimality.proofs.by_rows.least_total.Given as goal
 
 -- the total so far, and what the sums that are left change of it; their sizes, and with them that of the total

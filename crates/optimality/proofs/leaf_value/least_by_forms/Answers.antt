@@ -5,7 +5,8 @@ use Rattle.std.proofs.lemmas.Result.{IfOk-weaker}
 use mir.Syntax.{w128}
 use mir.Val.{SFits}
 use Rattle.optimality.specs.Sizes.{costs_size}
-use Rattle.optimality.specs.Adding.{number_at, least_alone, least_with}
+use Rattle.optimality.specs.Adding.{number_at, least_alone}
+use Rattle.optimality.specs.inside.Adding.{least_with}
 use Rattle.optimality.specs.Holding.{cuts_of}
 use Rattle.optimality.proofs.ColumnSizeFacts.{alone-size, scaled-size, sizes-given}
 use Rattle.optimality.proofs.LeafFacts.{least-is}

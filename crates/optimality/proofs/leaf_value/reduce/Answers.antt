@@ -3,7 +3,8 @@ use Rattle.std.specs.Prelude.{unsigned_abs}
 use Rattle.std.proofs.lemmas.Int.{ints}
 use Rattle.std.proofs.lemmas.Result.{on_ok_weaker}
 use Rattle.optimality.specs.Certificates.{Form}
-use Rattle.optimality.specs.Adding.{number_at, cuts_given, form_at, rows_given}
+use Rattle.optimality.specs.Adding.{number_at, form_at}
+use Rattle.optimality.specs.inside.Adding.{cuts_given, rows_given}
 use Rattle.optimality.specs.Holding.{cuts_of}
 use Rattle.optimality.specs.RowForms.{row_forms}
 use Rattle.optimality.specs.Sizes.{size_of}

@@ -5,12 +5,12 @@ use Rattle.std.proofs.lemmas.Result.{IfOk-weaker}
 use mir.Syntax.{w128}
 use mir.Val.{SFits}
 use Rattle.optimality.specs.Reduced.{reduced}
-use Rattle.optimality.specs.Adding.{AreAlike}
+use Rattle.optimality.specs.inside.Adding.{AreAlike}
 use Rattle.optimality.specs.Holding.{cuts_of}
 use Rattle.optimality.proofs.AlikeFacts.{rows-alike}
 use Rattle.optimality.proofs.ColumnSumFacts.{cuts_right, least_sum, rows_right}
 use Rattle.optimality.specs.Sizes.{costs_size}
-use Rattle.optimality.specs.Stopping.{given_size}
+use Rattle.optimality.specs.inside.Stopping.{given_size}
 use Rattle.optimality.proofs.ColumnSizeFacts.{leaf-parts, right-within}
 use Rattle.optimality.proofs.SizeFacts.{abs-less, abs-sum}
 use Rattle.optimality.proofs.StopFacts.{too-large-passed, too-large-weaker}

@@ -5,7 +5,8 @@ use Rattle.std.proofs.lemmas.Option.{IfSome_then}
 use mir.Syntax.{w64, w128}
 use mir.Val.{SFits}
 use Rattle.optimality.specs.Certificates.{Form}
-use Rattle.optimality.specs.Adding.{number_at, form_given}
+use Rattle.optimality.specs.Adding.{number_at}
+use Rattle.optimality.specs.inside.Adding.{form_given}
 use Rattle.optimality.proofs.StepFacts.{side-given}
 use Rattle.optimality.proofs.narrow_sums.add_cut.Goals as goal
 

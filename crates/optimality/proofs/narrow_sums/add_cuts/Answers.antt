@@ -1,6 +1,7 @@
 use Rattle.std.proofs.Common.{get_or, pos, rules, subst}
 use Rattle.optimality.specs.declared.checker.OpenSplit.{OpenSplit}
-use Rattle.optimality.specs.Adding.{AreGivenMore, form_given}
+use Rattle.optimality.specs.Adding.{AreGivenMore}
+use Rattle.optimality.specs.inside.Adding.{form_given}
 use Rattle.optimality.specs.Holding.{cut_of}
 use Rattle.optimality.proofs.StepFacts.{cuts-step}
 use Rattle.optimality.proofs.narrow_sums.add_cuts.Goals as goal

@@ -1,5 +1,6 @@
 use Rattle.std.proofs.Common.{◌≡◌, ℕ, drop, ◌+ℤ◌}
-use Rattle.optimality.specs.Adding.{number_at, cuts_given}
+use Rattle.optimality.specs.Adding.{number_at}
+use Rattle.optimality.specs.inside.Adding.{cuts_given}
 use Rattle.optimality.specs.Holding.{cuts_of}
 use Rattle.optimality.proofs.narrow_sums.add_cuts.Given as goal
 

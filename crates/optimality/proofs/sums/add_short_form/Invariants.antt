@@ -1,5 +1,6 @@
 use Rattle.std.proofs.Common.{◌≡◌, ℕ, drop, ◌+ℤ◌}
-use Rattle.optimality.specs.Adding.{number_at, form_given}
+use Rattle.optimality.specs.Adding.{number_at}
+use Rattle.optimality.specs.inside.Adding.{form_given}
 use Rattle.optimality.proofs.sums.add_short_form.Given as goal
 
 -- the sums so far, and what the terms that are left give

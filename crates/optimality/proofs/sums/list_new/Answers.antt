@@ -1,5 +1,5 @@
 use Rattle.std.proofs.Common.{◌≡◌, false, true, List, ℕ, subst, sym}
-use Rattle.optimality.specs.Adding.{has_place}
+use Rattle.optimality.specs.inside.Adding.{has_place}
 use Rattle.optimality.proofs.PlaceFacts.{place-pushed, pushed-keeps}
 use Rattle.optimality.proofs.sums.list_new.Goals as goal
 

@@ -1,5 +1,5 @@
 use Rattle.std.proofs.Common.{◌+◌, ◌-◌, vec_len}
-use Rattle.optimality.specs.Adding.{AreAsBefore}
+use Rattle.optimality.specs.inside.Adding.{AreAsBefore}
 use Rattle.optimality.proofs.sums.reach.Given as goal
 
 -- the list says the same

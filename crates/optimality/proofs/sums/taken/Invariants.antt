@@ -1,7 +1,8 @@
 use Rattle.std.proofs.Common.{◌≡◌, ℕ, ◌+◌, ◌≤◌, ◌+ℤ◌, vec_len}
 use Rattle.std.specs.Prelude.{unsigned_abs}
 use Rattle.optimality.specs.Certificates.{number_in}
-use Rattle.optimality.specs.Adding.{number_at, size_in}
+use Rattle.optimality.specs.Adding.{number_at}
+use Rattle.optimality.specs.inside.Adding.{size_in}
 use Rattle.optimality.proofs.sums.taken.Given as goal
 
 -- what was taken, and what is left

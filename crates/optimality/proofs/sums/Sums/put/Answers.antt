@@ -3,7 +3,8 @@ use Rattle.std.specs.Prelude.{◌-ℤ◌}
 use Rattle.std.proofs.lemmas.Int.{ints, to_z-of_z}
 use mir.Syntax.{w128}
 use mir.Val.{SFits}
-use Rattle.optimality.specs.Adding.{AreListed, AreGivenMore, at_place, number_at}
+use Rattle.optimality.specs.Adding.{AreGivenMore, at_place, number_at}
+use Rattle.optimality.specs.inside.Adding.{AreListed}
 use Rattle.optimality.proofs.PlaceFacts.{more-set, listed-too}
 use Rattle.optimality.proofs.sums.Sums.put.Goals as goal
 

@@ -1,5 +1,5 @@
 use Rattle.std.proofs.Common.{List, ℕ, ℤ, subst, sym}
-use Rattle.optimality.specs.Adding.{AreListed}
+use Rattle.optimality.specs.inside.Adding.{AreListed}
 use Rattle.optimality.proofs.PlaceFacts.{listed-taken}
 use Rattle.optimality.proofs.sums.Sums.take.Goals as goal
 
