@@ -79,7 +79,7 @@ SHOWN = {
     r"  of 4 groups 4 have the same total, 4 the same cost, 4 the same winners; the prices come to 30 before and to 30 now\n"
     r"  cbc alone, 1 groups",
     "peers": r"(?s).*\| explain",
-    "desk": r"(?s)2 sessions at once.*\n  floor .*'accepted': 2.*\n  service .*'accepted': 2.* times the floor's processor time\n$",
+    "desk": r"(?s)2 sessions at once.*\n  floor .*'accepted': 2.*\n  service .*'accepted': 2.* the floor's processor time\n$",
     "hostile": r"(?s).*\| submitted .*\n\n[01] within bounds, [01] beyond\n$",
     "hostile_workbooks": r"(?s).*\| lying .*\n\n[01] within bounds, [01] beyond\n$",
     "mutated_workbooks": r"\d+ read, \d+ refused, 0 in tracebacks\n$",

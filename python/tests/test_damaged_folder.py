@@ -133,7 +133,10 @@ def test_a_file_that_is_missing_and_that_nobody_needs(folder: AuctionFolder, nam
 
 
 def damage(data: bytes) -> Iterator[bytes]:
-    """A file that was cut, and one of which a byte was changed."""
+    """A file that was cut, and one of which a byte was changed; of an empty one, one that has more."""
+    if not data:
+        yield b"\n"
+        return
     yield data[: len(data) // 2]
     place = len(data) // 3
     yield data[:place] + bytes([data[place] ^ 1]) + data[place + 1 :]

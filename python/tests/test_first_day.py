@@ -216,7 +216,6 @@ def test_receipts_come_with_the_forms(tmp_path: Path, wdp: str) -> None:
     digest = hashlib.sha256(folder.read("receipts/Alpha.csv")).hexdigest()
     printed = f"$ sha256sum Alpha.csv\n{digest}  Alpha.csv\n"
     assert printed in folder.read("receipts/Alpha.txt").decode()
-    assert f"%form Alpha 1 {digest}" in folder.read("receipts/Alpha.txt").decode()
     assert "sha256sum" not in folder.read("receipts/Gamma.txt").decode()
 
 

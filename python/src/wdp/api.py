@@ -599,6 +599,7 @@ def _leave_outcome(contents: Contents, outcome: Outcome) -> None:
     pairs = zip(outcome.solutions.texts[:count], outcome.certificates[:count], strict=True)
     for group, (solution, certificate) in enumerate(pairs, 1):
         contents.leave_group(group, solution=solution.encode(), certificate=certificate.encode())
+    contents.take_award(outcome.solutions.texts[0].encode())
     if outcome.ties or outcome.unique is not None:
         unique = None if outcome.unique is None else outcome.unique.encode()
         contents.leave_ties([text.encode() for text in outcome.ties], unique)

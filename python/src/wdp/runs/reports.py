@@ -147,6 +147,8 @@ class Publisher:
         )
         audit = self.contents.format_audit() if is_certified else None
         judged = judge_sources(self.means.program, make_sources(data, report, audit))
+        if self.writes_results:
+            self._keep_earlier_results()
         if audit is None:
             self._leave({UNCERTIFIED: report})
         else:
@@ -175,7 +177,6 @@ class Publisher:
         )
         results = judged.make_results(options)
         if self.writes_results:
-            self._keep_earlier_results()
             self.folder.leave_folder(RESULTS, results.make_files())
         self._tell_prices(results.figures)
         self._tell_awards(results.figures)
