@@ -164,7 +164,19 @@ def test_what_was_installed_runs_from_another_folder(there, folder, tmp_path):
     rules, forms, faulty, groups = (
         shown / "office" / name for name in ("rules.csv", "forms", "faulty", "groups.txt")
     )
-    assert here("wdp-office", "gather", rules, forms, groups, "--use", forms / "form-heron-2.csv", *GATHER)[0] == 0
+    assert (
+        here(
+            "wdp-office",
+            "gather",
+            rules,
+            forms,
+            groups,
+            "--use",
+            forms / "form-heron-2.csv",
+            *GATHER,
+        )[0]
+        == 0
+    )
     assert sha256((tmp_path / "input.txt").read_bytes()).hexdigest() == INPUT_SHA256
     status, told = here("wdp-office", "explain", rules, faulty, groups, "--allow-missing", "Teal")
     assert (status, told.splitlines()[-1].split()[-1]) == (1, "faults")

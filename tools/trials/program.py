@@ -77,5 +77,8 @@ def of_these_sources(folder: str, name: str = "wdp") -> str:
     if not Path(ROOT, "prebuilt", f"{name}.gz").exists():
         return ""
     program = unpack(folder, name)
-    is_recorded = [read_record("sources"), read_record(f"program {name}")] == [sources(), sum_of(program)]
+    is_recorded = [read_record("sources"), read_record(f"program {name}")] == [
+        sources(),
+        sum_of(program),
+    ]
     return program if is_recorded else ""
