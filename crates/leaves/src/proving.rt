@@ -1,5 +1,8 @@
 //! A search for the best point of a program, begun again where a better point leaves far fewer columns.
 
+ghost use Rattle.std.specs.Prelude.{IfOk};
+ghost use Rattle.optimality.specs.Checking.{IsPrepared};
+
 use crate::layout::{Layout, lay_out};
 use crate::point::{Best, is_feasible};
 use crate::root::{Root, solve_root};
@@ -115,7 +118,9 @@ fn outside(alloc: Global, count: usize, core: &[usize]) -> Result<Vec<usize>, Al
 }
 
 impl<'p> Proving<'p> {
-    fn checker(&self, least: i128) -> Result<Checker<'p>, AllocError> {
+    fn checker(&self, least: i128) -> Result<Checker<'p>, AllocError>
+        ensures { IfOk result (λ checker. IsPrepared checker) }
+    {
         new_checker(self.alloc, b"\n\n\n\n", self.program, least)
     }
 
@@ -181,13 +186,12 @@ impl<'p> Proving<'p> {
     }
 }
 
-/// Grows the tree of a problem of these columns, where others are fixed.
-fn grown<'a>(
+/// A tree of one node over a problem of these columns.
+fn planted<'a>(
     proving: &'a Proving<'_>,
     core: &'a [usize],
     problem: &'a Problem,
-    others: Vec<usize>,
-) -> Result<Round, Limit> {
+) -> Result<Tree<'a>, AllocError> {
     let alloc = proving.alloc;
     let tableau = problem.root(alloc)?;
     let search = Search::new(alloc, problem, 0.0, &tableau)?;
@@ -197,28 +201,58 @@ fn grown<'a>(
         core,
         aim: proving.aim,
     };
-    let start = proving.best.copied()?;
-    let mut tree = Tree::new(ground, search, tableau, start, proving.left_out.as_slice())?;
-    if !others.is_empty() && proving.aim == Aim::Better {
-        let checker = proving.checker(tree.best.objective)?;
-        if !tree.fix_root(&checker, others, proving.root.prices.as_slice())? {
-            return round_of(tree, End::NotFixed);
-        }
+    let best = proving.best.copied()?;
+    Tree::new(ground, search, tableau, best, proving.left_out.as_slice())
+}
+
+/// Fixes columns at the root of a tree. Whether the checker takes that.
+fn fix_others(
+    proving: &Proving<'_>,
+    tree: &mut Tree<'_>,
+    others: Vec<usize>,
+) -> Result<bool, Limit> {
+    if others.is_empty() || proving.aim != Aim::Better {
+        return Ok(true);
     }
+    let checker = proving.checker(tree.best.objective)?;
+    tree.fix_root(&checker, others, proving.root.prices.as_slice())
+}
+
+/// Grows a tree to where it stops.
+fn grow_once(proving: &Proving<'_>, tree: &mut Tree<'_>) -> Result<Stop, Limit> {
     let left = proving.most_steps.saturating_sub(proving.steps);
+    let checker = proving.checker(tree.best.objective)?;
+    tree.grow(&checker, left)
+}
+
+/// Grows a tree from one better point to the next, until it is over or far fewer than so many columns are left.
+fn grow(proving: &Proving<'_>, tree: &mut Tree<'_>, columns: usize) -> Result<End, Limit> {
     for _ in 0..u64::MAX {
-        let checker = proving.checker(tree.best.objective)?;
-        let stop = tree.grow(&checker, left)?;
+        let stop = grow_once(proving, tree)?;
         if stop != Stop::Better {
-            let answer = ended(proving, &tree, stop)?;
-            return round_of(tree, End::Over(answer));
+            return Ok(End::Over(ended(proving, tree, stop)?));
         }
         let count = proving.root.count(tree.gap(proving.root.bound));
-        if count.saturating_mul(5) < core.len().saturating_mul(LEFT_FIFTHS) {
-            return round_of(tree, End::Again);
+        if count.saturating_mul(5) < columns.saturating_mul(LEFT_FIFTHS) {
+            return Ok(End::Again);
         }
     }
-    round_of(tree, End::Again)
+    Ok(End::Again)
+}
+
+/// Grows the tree of a problem of these columns, where others are fixed.
+fn grown<'a>(
+    proving: &'a Proving<'_>,
+    core: &'a [usize],
+    problem: &'a Problem,
+    others: Vec<usize>,
+) -> Result<Round, Limit> {
+    let mut tree = planted(proving, core, problem)?;
+    if !fix_others(proving, &mut tree, others)? {
+        return round_of(tree, End::NotFixed);
+    }
+    let end = grow(proving, &mut tree, core.len())?;
+    round_of(tree, end)
 }
 
 /// What a round came to whose tree ended so.
@@ -267,26 +301,48 @@ pub fn prove(alloc: Global, program: &Selection<'_>, task: Task<'_>) -> Result<A
     }
 }
 
-fn search<'p>(alloc: Global, program: &'p Selection<'p>, task: Task<'_>) -> Result<Answer, Limit> {
-    let Some(mut layout) = lay_out(alloc, program)? else {
-        return Ok(Answer::NotProved {
-            ones: task.known.to_vec(alloc)?,
-            objective: 0,
-        });
-    };
+/// The points that are left out, by the places of their columns.
+fn places_left_out(
+    alloc: Global,
+    layout: &Layout,
+    points: &[Vec<usize>],
+) -> Result<Vec<Vec<usize>>, AllocError> {
     let mut left_out = Vec::new(alloc);
-    for columns in task.left_out {
-        left_out.push(places_of(alloc, &layout, columns.as_slice())?)?;
+    for columns in points {
+        left_out.push(places_of(alloc, layout, columns.as_slice())?)?;
     }
-    let mut best = Best::of_columns(alloc, &layout, task.known)?;
+    Ok(left_out)
+}
+
+/// Leaves points out of a layout.
+fn leave_out(layout: &mut Layout, points: &[Vec<usize>]) -> Result<(), AllocError> {
+    for ones in points {
+        layout.leave_out(ones.as_slice())?;
+    }
+    Ok(())
+}
+
+/// The point that a search begins at.
+fn first_best(alloc: Global, layout: &Layout, task: &Task<'_>) -> Result<Best, AllocError> {
+    let mut best = Best::of_columns(alloc, layout, task.known)?;
     if let Some(least) = task.least {
         best.objective = least;
     }
-    for ones in &left_out {
-        layout.leave_out(ones.as_slice())?;
-    }
+    Ok(best)
+}
+
+/// A search that is about to begin.
+fn begun<'p>(
+    alloc: Global,
+    program: &'p Selection<'p>,
+    task: &Task<'_>,
+    mut layout: Layout,
+) -> Result<Proving<'p>, AllocError> {
+    let left_out = places_left_out(alloc, &layout, task.left_out)?;
+    let best = first_best(alloc, &layout, task)?;
+    leave_out(&mut layout, left_out.as_slice())?;
     let root = solve_root(alloc, &layout)?;
-    let mut proving = Proving {
+    Ok(Proving {
         alloc,
         program,
         layout,
@@ -296,7 +352,11 @@ fn search<'p>(alloc: Global, program: &'p Selection<'p>, task: Task<'_>) -> Resu
         root,
         best,
         most_steps: task.most_steps,
-    };
+    })
+}
+
+/// Searches round after round.
+fn search_on(proving: &mut Proving<'_>) -> Result<Answer, Limit> {
     proving.take_first()?;
     for _ in 0..u64::MAX {
         if let Some(answer) = proving.round()? {
@@ -304,4 +364,15 @@ fn search<'p>(alloc: Global, program: &'p Selection<'p>, task: Task<'_>) -> Resu
         }
     }
     Ok(proving.not_proved()?)
+}
+
+fn search<'p>(alloc: Global, program: &'p Selection<'p>, task: Task<'_>) -> Result<Answer, Limit> {
+    let Some(layout) = lay_out(alloc, program)? else {
+        return Ok(Answer::NotProved {
+            ones: task.known.to_vec(alloc)?,
+            objective: 0,
+        });
+    };
+    let mut proving = begun(alloc, program, &task, layout)?;
+    search_on(&mut proving)
 }
