@@ -7,9 +7,9 @@ use Rattle.auction_input.specs.declared.request.Request.{Request}
 use Rattle.auction_input.specs.declared.request.Request.TheVariants.{Report, Verify}
 use Rattle.byte_sinks.specs.Sinks.{GoesInPart, GoesWhole, Outlet}
 use Rattle.byte_sinks.specs.declared.writer.WriteFault.TheVariants as write
-use Rattle.solving.specs.declared.solve.Unsolved.{Unsolved}
-use Rattle.solving.specs.declared.solve.Unsolved.TheVariants as unsolved
-use Rattle.solving.specs.declared.solve.Wanted.{Wanted}
+use Rattle.solving.specs.declared.solver.Unsolved.{Unsolved}
+use Rattle.solving.specs.declared.solver.Unsolved.TheVariants as unsolved
+use Rattle.solving.specs.declared.solver.Wanted.{Wanted}
 use Rattle.answers.specs.Answer.{answer}
 use Rattle.answers.specs.Sold.{HasSold}
 

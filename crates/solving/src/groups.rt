@@ -25,7 +25,7 @@ pub struct Found {
 }
 
 /// What was found of a program.
-fn found(
+fn found_of(
     alloc: Global,
     program: &Selection<'_>,
     ones: &[usize],
@@ -56,7 +56,7 @@ pub fn search(
         most_steps,
     };
     match prove(alloc, program, task)? {
-        Answer::Proved(proof) => found(
+        Answer::Proved(proof) => found_of(
             alloc,
             program,
             proof.ones.as_slice(),
@@ -64,9 +64,9 @@ pub fn search(
             Some(proof.certificate),
         ),
         Answer::NotProved { ones, objective } => {
-            found(alloc, program, ones.as_slice(), objective, None)
+            found_of(alloc, program, ones.as_slice(), objective, None)
         }
-        Answer::TooMany(_) => found(alloc, program, known.as_slice(), 0, None),
+        Answer::TooMany(_) => found_of(alloc, program, known.as_slice(), 0, None),
     }
 }
 
@@ -93,7 +93,7 @@ fn found_alike(
         return Ok(None);
     }
     let ones = columns_of(alloc, program, first.choices.as_slice())?;
-    Ok(Some(found(alloc, program, ones.as_slice(), first.objective, Some(text))?))
+    Ok(Some(found_of(alloc, program, ones.as_slice(), first.objective, Some(text))?))
 }
 
 /// The searches without each group, of which the first is done.

@@ -8,8 +8,8 @@ mod known;
 mod losers;
 mod nowhere;
 mod parts;
-mod solve;
+mod solver;
 mod ties;
 
 pub use audit::{write_audit, write_unproved};
-pub use solve::{Options, Unsolved, Wanted, solve};
+pub use solver::{Options, Unsolved, Wanted, solve};

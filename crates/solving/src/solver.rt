@@ -231,6 +231,56 @@ fn solve_input<R: Threads + Wait + Sync + AllocGlobal>(
     Ok(solve_programs(rt, &programs, &auction.groups, known, options)?)
 }
 
+/// What is found of an input, from the points of a text of solutions, if there is one.
+fn find<R: Threads + Wait + Sync + AllocGlobal>(
+    rt: &R,
+    given: &Input,
+    solutions: Option<&NamedText>,
+    options: Options,
+) -> Result<Solved, Refusal>
+    requires some { 1 ≤ options.workers }
+    requires few { options.workers ≤ MOST_WORKERS }
+{
+    let known = match solutions {
+        Some(text) => read_known(rt, given, text, options.workers)?,
+        None => Vec::new(rt.alloc()),
+    };
+    solve_input(rt, given, known.as_slice(), options)
+}
+
+/// Writes what was found of an input, and then the bytes that came in.
+fn write_solved<R: Threads + Wait + Sync + AllocGlobal, S: Sink>(
+    rt: &R,
+    given: &Input,
+    solved: &Solved,
+    options: Options,
+    out: &mut S,
+) -> Result<(), Unsolved>
+    requires some { 1 ≤ options.workers }
+    requires few { options.workers ≤ MOST_WORKERS }
+    ensures audit { OnOk result (WritesAccepted (Request.Verify options.workers) given.now
+        (S.state out.old) (S.state out.new)) }
+    ensures unsolved { IfErr result (IsUnsolved options.workers given.now
+        (S.state out.old) (S.state out.new)) }
+{
+    let workers = options.workers;
+    match solved {
+        Solved::Proved(parts) => match write_audit(rt, given, parts.as_slice(), workers, out) {
+            Ok(()) => Ok(()),
+            Err(refusal) => Err(Unsolved::Refused(refusal)),
+        },
+        Solved::NotProved { wanted, solutions } => {
+            if !options.unproved {
+                return Err(Unsolved::NotProved(*wanted));
+            }
+            match write_unproved(rt, given, solutions.as_slice(), workers, out) {
+                Ok(()) => Err(Unsolved::NotProved(*wanted)),
+                Err(refusal) => Err(Unsolved::Refused(refusal)),
+            }
+        }
+    }
+}
+
 /// Writes the audit of an input: a solution and a certificate for each group, the ties if they are asked for, and then the bytes that
 /// came in. `verify` accepts what is written. Points of a text of solutions are begun with, if there is one.
 pub fn solve<R: Threads + Wait + Sync + AllocGlobal, S: Sink>(
@@ -247,21 +297,6 @@ pub fn solve<R: Threads + Wait + Sync + AllocGlobal, S: Sink>(
     ensures unsolved { IfErr result (IsUnsolved options.workers given.now
         (S.state out.old) (S.state out.new)) }
 {
-    let workers = options.workers;
-    let known = match solutions {
-        Some(text) => read_known(rt, given, text, workers)?,
-        None => Vec::new(rt.alloc()),
-    };
-    match solve_input(rt, given, known.as_slice(), options)? {
-        Solved::Proved(parts) => {
-            write_audit(rt, given, parts.as_slice(), workers, out)?;
-            Ok(())
-        }
-        Solved::NotProved { wanted, solutions } => {
-            if options.unproved {
-                write_unproved(rt, given, solutions.as_slice(), workers, out)?;
-            }
-            Err(Unsolved::NotProved(wanted))
-        }
-    }
+    let solved = find(rt, given, solutions, options)?;
+    write_solved(rt, given, &solved, options, out)
 }
