@@ -1,15 +1,16 @@
 //! What the words ask for.
 
+ghost use Rattle.std.specs.Prelude.{◌≤◌};
+ghost use Rattle.auction_terms.specs.declared.limits.TheConstants.{MOST_WORKERS};
+
 use answers::{Command as Named, VERSION};
 use auction_input::Request;
+use auction_terms::MOST_WORKERS;
 use clap::error::ErrorKind;
 use clap::{Arg, ArgAction, ArgMatches, Command, Error, value_parser};
 use solving::Options;
 use std::alloc::{AllocError, Global};
 use std::env::Args;
-
-/// The most workers.
-const MOST_WORKERS: usize = 64;
 
 /// The steps of a search where the words don't say how many.
 const STEPS: &str = "100000000000";
@@ -27,6 +28,8 @@ pub struct Asked {
     pub named: Named,
     /// The file of solutions to begin with.
     pub solutions: Option<String>,
+    ghost some: { 1 ≤ options.workers },
+    ghost few: { options.workers ≤ MOST_WORKERS },
 }
 
 /// An option that has a value.
@@ -99,9 +102,23 @@ fn has_flag(matches: &ArgMatches<'_>, id: &str) -> bool {
     }
 }
 
-/// The number that an option has, which the parser has tested.
-fn number_of(matches: &ArgMatches<'_>, id: &str) -> u64 {
-    match matches.get_str(id) {
+/// How many workers there are. The parser has tested the number.
+fn workers_of(matches: &ArgMatches<'_>) -> usize
+    ensures some { 1 ≤ result }
+    ensures few { result ≤ MOST_WORKERS }
+{
+    let Some(text) = matches.get_str("workers") else {
+        return 1;
+    };
+    match text.parse::<usize>() {
+        Ok(number) if 1 <= number && number <= MOST_WORKERS => number,
+        _ => 1,
+    }
+}
+
+/// The most steps of a search. The parser has tested the number.
+fn steps_of(matches: &ArgMatches<'_>) -> u64 {
+    match matches.get_str("steps") {
         Some(text) => text.parse::<u64>().unwrap_or(1),
         None => 1,
     }
@@ -129,14 +146,12 @@ fn files_of(alloc: Global, matches: &ArgMatches<'_>) -> Result<Vec<String>, Allo
 }
 
 fn read(alloc: Global, matches: &ArgMatches<'_>) -> Result<Asked, AllocError> {
-    let workers = number_of(matches, "workers")
-        .min(MOST_WORKERS as u64)
-        .max(1) as usize;
+    let workers = workers_of(matches);
     Ok(Asked {
         options: Options {
             workers,
             ties: has_flag(matches, "ties"),
-            most_steps: number_of(matches, "steps"),
+            most_steps: steps_of(matches),
             unproved: has_flag(matches, "unproved"),
         },
         named: Named {
