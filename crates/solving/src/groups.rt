@@ -7,7 +7,7 @@ use crate::losers::without_names;
 use crate::parts::solution_of;
 use auction_terms::{Choice, Group, Groups};
 use group_compiler::{GroupPrograms, Maker};
-use leaves::{Aim, Answer, Task, prove};
+use leaves::{Aim, Answer, Proof, Task, prove};
 use optimality::check_selection;
 use program_rows::Selection;
 use std::alloc::{AllocError, Global};
@@ -56,12 +56,19 @@ pub fn search(
         most_steps,
     };
     match prove(alloc, program, task)? {
-        Answer::Proved(proof) => found_of(
+        Answer::Proved(
+            Proof {
+                ones,
+                objective,
+                certificate,
+                ..
+            },
+        ) => found_of(
             alloc,
             program,
-            proof.ones.as_slice(),
-            proof.objective,
-            Some(proof.certificate),
+            ones.as_slice(),
+            objective,
+            Some(certificate),
         ),
         Answer::NotProved { ones, objective } => {
             found_of(alloc, program, ones.as_slice(), objective, None)
