@@ -52,6 +52,9 @@ def is_of(function: Any, module: list[str] | None, name: str) -> bool:
     given `rules_text::RulesFaultFromAllocError::from`. Where a type's functions stand apart from it, the name has the module of
     the type, and `module` is None."""
     parts = name.split("::")
+    if function.owner:
+        # (of `Reply<Arc<F, Global>>` the name has `Reply+Arc+F+Global`)
+        parts[-2:-1] = [part.partition("+")[0] for part in parts[-2:-1]]
     own = [*([function.owner] if function.owner else []), function.name]
     if parts[-len(own) :] != own or "fn" in parts:
         return False
