@@ -23,7 +23,7 @@ AUDIT = "audit.txt"
 UNCERTIFIED = "report.uncertified.txt"
 _NAMES = "names.csv"
 KEPT = (PAGE, _NAMES)  # the files in which a folder keeps what the office says of its page
-MOST_OFPAGE_ = 100_000  # bytes of page.json
+_MOST_OF_PAGE = 100_000  # bytes of page.json
 _WRONG = 3  # the status if an answer can't be the best one
 
 
@@ -59,7 +59,7 @@ def _read_page(folder: Folder) -> Page:
     if folder.has(PAGE):
         text = folder.read(PAGE)
     else:
-        text = files.read(str(path), MOST_OFPAGE_, regular=True)
+        text = files.read(str(path), _MOST_OF_PAGE, regular=True)
     with suppress(ValueError, RecursionError, TypeError):
         page = Page(**json.loads(text))
         if all(_is_line_or_none(name, value) for name, value in vars(page).items()):
