@@ -12,6 +12,7 @@ from typing import Any
 
 import pytest
 from commands import (
+    ROOT,
     AuctionFolder,
     CommandResult,
     OfficeFolder,
@@ -384,6 +385,34 @@ def test_folders_that_are_named(office: OfficeFolder) -> None:
     (blank / "Fox.csv").write_bytes(b"mine\n")
     check_stopped(run("form", office.rules, "--output", blank), "it has files; name a new folder")
     assert (blank / "Fox.csv").read_bytes() == b"mine\n"
+
+
+# commands that write a file that is named, and its option
+NAMED = """
+gather  | --output
+gather  | --receipt
+prices  | --output
+certify | --output
+certify | --solution-output
+solve   | --log
+"""
+
+
+@pytest.mark.parametrize("command, option", parse_rows(NAMED))
+def test_files_that_are_named(office: OfficeFolder, command: str, option: str) -> None:
+    """One with something in it is kept, and named; an empty one isn't anybody's."""
+    read = {"gather": office.files, "prices": [office.write("audit.txt", TIED_AUDIT)]}
+    path = office.write("named", "mine\n")
+    call = [command, *read.get(command, [ROOT / "fixtures/solvers/three.mps"]), option, path]
+    seen = run(*call)
+    check_stopped(seen, f"{path}: it is there, and is kept; --replace puts the new one there")
+    assert (seen.out, path.read_text()) == ("", "mine\n")
+    assert run(*call, "--replace").status == 0
+    written = path.read_bytes()
+    assert written != b"mine\n"
+    path.write_bytes(b"")
+    assert run(*call).status == 0
+    assert bool(path.read_bytes()) == bool(written)
 
 
 def test_a_folder_of_another_format(folder: AuctionFolder) -> None:
