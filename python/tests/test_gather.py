@@ -129,7 +129,8 @@ def test_times_have_no_last_year() -> None:
 
 
 def test_both_files_are_written_or_neither_and_a_link_stays_one(office: OfficeFolder) -> None:
-    words = "--output", office.write("input.txt", "older"), "--receipt", office.folder / "receipt"
+    named = "--output", office.write("input.txt", "older"), "--receipt", office.folder / "receipt"
+    words = *named, "--replace"
     before = office.snapshot()
     check_stopped(office.gather(*words, **limit_files(2_000)), f"{words[3]}: File too large\n")
     assert office.snapshot() == before

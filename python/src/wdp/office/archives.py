@@ -16,7 +16,7 @@ from typing import Any
 from xml.etree.ElementTree import Element, ParseError, XMLPullParser
 
 from wdp.office.faults import quote
-from wdp.office.known import KNOWN, find_unknown, find_unknown_attributes
+from wdp.office.known import HINT, KNOWN, find_unknown, find_unknown_attributes
 
 NO_WORKBOOK = "it is no workbook that can be read"
 MAIN = (
@@ -263,7 +263,8 @@ class XmlPart:
         """
         if not self.is_ignorable(element.tag):
             name = quote(element.tag.removeprefix("{").replace("}", " "))
-            raise BadWorkbook(f"in {within!r} there is {name}, which isn't understood", cell)
+            why = f"in {within!r} there is {name}, which isn't understood{HINT}"
+            raise BadWorkbook(why, cell)
 
     def is_ignorable(self, name: str) -> bool:
         """Whether a name is one that a reader ignores if it doesn't know its namespace."""

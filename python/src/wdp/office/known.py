@@ -159,6 +159,7 @@ table | @headerRowCellStyle @dataCellStyle @totalsRowCellStyle @connectionId | i
 tableStyleInfo | @name @showFirstColumn @showLastColumn | read: its style
 tableStyleInfo | @showRowStripes @showColumnStripes | its stripes
 """
+HINT = "; save the sheet as CSV"
 _MOST_NESTED = 64  # elements within each other
 ORDERED = ("workbook", "worksheet", "styleSheet", "row", "c", "cellXfs", "sheetData", "mergeCells")
 
@@ -235,7 +236,8 @@ def find_unknown_attributes(element: Element, part: PartNames) -> Iterator[str]:
     for attribute in element.keys():
         name = part.attribute(attribute)
         if name not in KNOWN[within].attributes and not part.is_ignorable(attribute):
-            yield f"its {within!r} has the attribute {_show(name)}, which isn't understood"
+            why = f"its {within!r} has the attribute {_show(name)}, which isn't understood"
+            yield why + HINT
 
 
 def _find_unknown_elements(element: Element, known: _Known, part: PartNames) -> Iterator[str]:
@@ -248,14 +250,14 @@ def _find_unknown_elements(element: Element, known: _Known, part: PartNames) -> 
         place = known.elements.get(name)
         if place is None:
             if not part.is_ignorable(child.tag):
-                yield f"in {within!r} there is {_show(name)}, which isn't understood"
+                yield f"in {within!r} there is {_show(name)}, which isn't understood{HINT}"
             continue
         if name.startswith("mc:"):
             continue
         if name in seen and name not in known.repeated:
-            yield f"in {within!r} there is {name!r} twice"
+            yield f"in {within!r} there is {name!r} twice{HINT}"
         elif within in ORDERED and place < last:
-            yield f"in {within!r} there is {name!r} out of its order"
+            yield f"in {within!r} there is {name!r} out of its order{HINT}"
         seen.add(name)
         last = max(last, place)
 
