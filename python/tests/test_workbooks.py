@@ -7,13 +7,17 @@ import io
 import os
 import random
 import re
+import shutil
+import subprocess
 from collections.abc import Callable
+from pathlib import Path
 from typing import Any
 
 import pytest
 
 import workbooks
 from commands import OfficeFolder
+from hand_made import make_like_apple, make_like_excel, make_like_google
 from mutated import mutate
 from odd_workbooks import AC, COMPATIBLE, ODD, TAKEN, Odd, condition, linked, make_odd
 from wdp.files import Unreadable
@@ -154,6 +158,29 @@ def write_by_pandas(rows: workbooks.Rows) -> bytes:
 @pytest.mark.parametrize("write", [workbooks.write_rows, write_by_xlsxwriter, write_by_pandas])
 def test_what_libraries_write_is_taken(write: Callable[[workbooks.Rows], bytes]) -> None:
     assert workbooks.read_outcome(write(workbooks.FORM)) == TAKEN
+
+
+# programs that make a workbook of a table
+PROGRAMS = {
+    "gnumeric": "ssconvert Bids.csv Bids.xlsx",
+    "LibreOffice": "soffice --headless -env:UserInstallation=file://$PWD/profile --convert-to xlsx Bids.csv",
+}
+
+
+@pytest.mark.parametrize("program", PROGRAMS)
+def test_what_spreadsheets_write_is_taken(tmp_path: Path, program: str) -> None:
+    command = PROGRAMS[program]
+    if not shutil.which(command.split()[0]):
+        pytest.skip(f"{program} isn't here")
+    lines = [",".join(map(str, row)) for row in workbooks.FORM]
+    (tmp_path / "Bids.csv").write_text("".join(f"{line}\n" for line in lines))
+    subprocess.run(["sh", "-c", command], cwd=tmp_path, capture_output=True, check=True)
+    assert workbooks.read_outcome((tmp_path / "Bids.xlsx").read_bytes()) == TAKEN
+
+
+@pytest.mark.parametrize("make", [make_like_excel, make_like_google, make_like_apple])
+def test_what_other_spreadsheets_declare_is_taken(make: Callable[[], bytes]) -> None:
+    assert workbooks.read_outcome(make()) == TAKEN
 
 
 def test_the_table_of_what_is_known_has_each_name_once() -> None:
