@@ -193,7 +193,7 @@ KINDS = {
     "faults": lambda: workbooks.make_one(
         make_full(lambda place, value: f'<c r="{place}" t="inlineStr"><is><t>{value}</t></is></c>')
     ),
-    "looks": lambda: make_styled(8_000),
+    "looks": lambda: make_styled(1_024),
     "rules": make_rules,
     "floats": lambda: workbooks.make_one(make_full(lambda place, value: f'<c r="{place}"><v>{value}.0</v></c>')),
     "blanks": lambda: workbooks.make_one(make_full(lambda place, value: f'<c r="{place}" t="str"><f>A1</f><v></v></c>')),

@@ -19,7 +19,7 @@ import workbooks
 from commands import OfficeFolder
 from hand_made import make_like_apple, make_like_excel, make_like_google
 from mutated import mutate
-from odd_workbooks import AC, COMPATIBLE, ODD, TAKEN, Odd, condition, linked, make_odd
+from odd_workbooks import AC, COMPATIBLE, ODD, TAKEN, Odd, condition, linked, make_odd, make_styles
 from wdp.files import Unreadable
 from wdp.office.known import KNOWN, ORDERED
 from wdp.office.workbooks import read_workbook
@@ -54,6 +54,10 @@ TOO_MUCH: dict[str, tuple[Callable[[], bytes], str]] = {
     "levels": (
         lambda: make_odd(Odd(root=f"xmlns:mc='{COMPATIBLE}'", after=NESTED)),
         "its XML has more than 64 levels",
+    ),
+    "fonts": (
+        lambda: make_odd(Odd(styles=make_styles(font="<font><sz val='11'/></font>" * 1_024))),
+        "it has more than 1,024 fonts or fills",
     ),
     "sheets": (
         lambda: workbooks.RawWorkbook(*((f"s{number}", "") for number in range(1_001))).bytes(),

@@ -26,6 +26,7 @@ _BLACK: Colour = (0, 0, 0)
 _WHITE: Colour = (255, 255, 255)
 _NEAREST = 48  # of 255: how far a channel of a colour has to be from that of what is behind it
 _SMALLEST_FONT = 6  # points
+_MOST_FONTS = 1_024  # and fills: as many fonts as a spreadsheet has at most
 _LARGEST_FONT = 72
 _MOST_INDENT = 15
 _USUAL_SIZE = 11.0
@@ -264,6 +265,8 @@ class Styles:
             root = part.read()
             part.check(root)
             lists = {part.name(each.tag): list(each) for each in root}
+            if max(len(lists.get("fonts", [])), len(lists.get("fills", []))) > _MOST_FONTS:
+                raise BadWorkbook(f"it has more than {_MOST_FONTS:,} fonts or fills")
             for colours in lists.get("colors", []):
                 if part.name(colours.tag) == "indexedColors":
                     palette.take_indexed(list(colours), part)
