@@ -219,6 +219,22 @@ def test_a_record_that_says_something_else(folder: AuctionFolder, field: str) ->
     assert read_files(folder) == before
 
 
+RECORDS = [name for name in MAKERS if name.endswith(".json") and name.startswith("lost/")]
+
+
+@pytest.mark.parametrize("name", RECORDS)
+def test_each_record_that_says_something_else(folder: AuctionFolder, name: str) -> None:
+    """Each of its fields is changed, and left out, with its sum made right."""
+    fields = json.loads(folder.read(name))
+    assert fields.keys() == OTHERS.keys()
+    for field, value in fields.items():
+        other = next(each for each in OTHERS[field] if each != value)
+        less = {key: each for key, each in fields.items() if key != field}
+        for changed in ({**fields, field: other}, less):
+            leave(folder, name, (json.dumps(changed) + "\n").encode())
+            check_stopped(run_in(folder, "letters"), f"{folder.where}/{name}")
+
+
 # what is put in the place of an audit, and what is said of the record; its sum was made right
 AUDITS = {
     "the audit of another bid": ("lost/Alpha/1.txt", "shows no amount that is enough"),
