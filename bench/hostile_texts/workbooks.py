@@ -2,6 +2,12 @@
 
 form: 4,000 bids over 32 categories, which is all that a form may have, and is taken; faulty: the same with a formula that has no
   value in the last row. The others are refused.
+formulas, arrays, unnamed, heights, faults, looks, rules, comments, drawn: such a form whose cells are formulas; formulas each of
+  which has values in all cells; cells without names; whose rows have heights of their own; whose numbers are texts; whose cells look
+  different; with conditions, in each of which are many colours; with comments; with drawings (drawn).
+cells, ignored: as many cells as are read; cells with attributes that may be ignored.
+floats, blanks, words, gaps: a form of numbers with a fraction of 0; of formulas without a value; of words; of every second cell.
+links: a sheet that is linked to one part many times.
 long_name, wide: rows with one cell far to the right, in a sheet with a long name; and with an ordinary one.
 sheets: so many sheets as an archive may have files.
 long_format, long_formats: a long format of many cells; and of many rules of a condition.
@@ -9,12 +15,13 @@ lying: a part that says to have 100 bytes and has 1 GB.
 empty_rows, empty_cells, empty_lines, commas: rows without a cell, rows with one without a value, lines of CSV without anything,
   lines of CSV with commas alone.
 long_lines: rows of CSV of a kilobyte each.
-merged, conditions, drawings: areas of all cells, as many as are read.
+merged, conditions: such a form with merged cells beside it; conditions on all cells, more than are read.
 attributes, deep, comment, texts, styles: a part with many attributes, with elements in each other, with a long comment, with many
   texts, and with many styles.
 entries: an archive with many empty files.
 """
 import io
+import itertools
 import struct
 import sys
 import zipfile
@@ -41,6 +48,75 @@ def make_form():
 def make_faulty():
     body = workbooks.make_body(make_form())
     return workbooks.make_one(body.replace("</row></sheetData>", '<c r="AH4001"><f>1</f></c></row></sheetData>'))
+
+
+def make_full(change=lambda place, value: None, *, after="", **more):
+    """A form with all that it may have, of which each cell is changed, and whose last row has a formula without a value."""
+    rows = []
+    for number, row in enumerate(make_form(), 1):
+        named = [(f"{workbooks.get_column_letter(column)}{number}", value) for column, value in enumerate(row, 1)]
+        is_first = number == 1
+        cells = [(not is_first and change(place, value)) or workbooks.make_cell(value, place) for place, value in named]
+        rows.append(f'<row r="{number}"{more.get("of_rows", "") % {"n": number % 97}}>{"".join(cells)}</row>')
+    rows[-1] = rows[-1].replace("</row>", '<c r="AH4001"><f>1</f></c></row>')
+    return f"<sheetData>{''.join(rows)}</sheetData>{after}"
+
+
+def make_looks(count):
+    """So many styles, each with a font and a fill of its own, and what gives them to cells by turns."""
+    fonts = "".join(f'<font><sz val="11"/><color rgb="FF{number:06X}"/></font>' for number in range(count))
+    fills = "".join(f'<fill><patternFill patternType="solid"><fgColor rgb="FFFF{number:04X}"/></patternFill></fill>' for number in range(count))
+    styles = "".join(f'<xf fontId="{number}" fillId="{number}"/>' for number in range(count))
+    body = f"<fonts>{fonts}</fonts><fills>{fills}</fills><cellXfs>{styles}</cellXfs>"
+    return f'{workbooks.HEAD}<styleSheet xmlns="{workbooks.MAIN}">{body}</styleSheet>'
+
+
+def make_styled(count, after=""):
+    turns = itertools.cycle(range(count))
+    body = make_full(lambda place, value: f'<c r="{place}" s="{next(turns)}"><v>{value}</v></c>', after=after)
+    book = workbooks.RawWorkbook(("Bids", body), formats=["0"])
+    book.parts["xl/styles.xml"] = make_looks(count)
+    return book.bytes()
+
+
+def make_rules():
+    """Conditions on areas that overlap, each with colours of its own."""
+    ends = '<cfvo type="min"/><cfvo type="max"/>'
+    scales = (f'<colorScale>{ends}<color rgb="FF{n:02X}FFFF"/><color rgb="FFFF{n:02X}FF"/></colorScale>' for n in itertools.cycle(range(256)))
+    rules = (f'<cfRule type="colorScale" priority="1">{scale}</cfRule>' for scale in scales)
+    listed = (f'<conditionalFormatting sqref="A{n + 2}:XFD1048576">{next(rules)}</conditionalFormatting>' for n in range(499))
+    return make_styled(1_000, "".join(listed))
+
+
+def make_linked(kind, target, text, count=1, body=""):
+    """A form to whose sheet a part is linked, perhaps many times."""
+    book = workbooks.RawWorkbook(("Bids", body or make_full()))
+    links = [(f"rId{number}", kind, f"../{target}") for number in range(count)]
+    book.parts |= {"xl/worksheets/_rels/sheet1.xml.rels": book.links(links), f"xl/{target}": text}
+    return book.bytes()
+
+
+def make_comments():
+    places = (f"{workbooks.get_column_letter(column)}{row}" for row in range(1, 1_900) for column in range(1, 34))
+    listed = "".join(f'<comment ref="{place}"/>' for place in places)
+    return make_linked("comments", "comments1.xml", f'<comments xmlns="{workbooks.MAIN}"><commentList>{listed}</commentList></comments>')
+
+
+def make_drawings():
+    corner = "<x:{0}><x:col>{1}</x:col><x:row>{2}</x:row></x:{0}>"
+    anchors = (corner.format("from", n % 40, n) + corner.format("to", 99, 9_999) for n in range(499))
+    anchors = "".join(f"<x:twoCellAnchor>{anchor}</x:twoCellAnchor>" for anchor in anchors)
+    root = f'<x:wsDr xmlns:x="http://schemas.openxmlformats.org/drawingml/2006/spreadsheetDrawing">{anchors}</x:wsDr>'
+    return make_linked("drawing", "drawing1.xml", root)
+
+
+def make_ignored():
+    """Cells each of which has an attribute of its own that may be ignored."""
+    numbers = itertools.count()
+    body = make_full(lambda place, value: f'<c r="{place}" y:a{next(numbers)}=""><v>{value}</v></c>')
+    book = workbooks.RawWorkbook(("Bids", body))
+    root = 'xmlns:y="y" xmlns:mc="http://schemas.openxmlformats.org/markup-compatibility/2006" mc:Ignorable="y"'
+    return book.change(SHEET, "<worksheet ", f"<worksheet {root} ").bytes()
 
 
 def make_rows(count, cells):
@@ -79,9 +155,9 @@ def make_long_formats():
     return make_styles(["0"], body, f'<dxfs><dxf><numFmt numFmtId="200" formatCode="{code}"/></dxf></dxfs>').bytes()
 
 
-def make_areas(text, count=1_000):
-    body = workbooks.make_body([["Ant", *range(250)], *([row, *range(250)] for row in range(1, 400))])
-    return workbooks.make_one(body + text % "".join(count * ['<mergeCell ref="IW1:XFD1048576"/>']))
+def make_merged():
+    areas = '<mergeCell ref="IW1:XFD1048576"/>' * 499
+    return workbooks.make_one(make_full(after=f"<mergeCells>{areas}</mergeCells>"))
 
 
 def make_conditions():
@@ -108,9 +184,29 @@ small = workbooks.make_body(SMALL)
 KINDS = {
     "form": lambda: workbooks.make_one(workbooks.make_body(make_form())),
     "faulty": make_faulty,
+    "formulas": lambda: workbooks.make_one(make_full(lambda place, value: f'<c r="{place}"><f>{value}+0</f><v>{value}</v></c>')),
+    "arrays": lambda: workbooks.make_one(
+        make_full(lambda place, value: f'<c r="{place}"><f t="array" ref="A1:AG4001">{value}</f><v>{value}</v></c>')
+    ),
+    "unnamed": lambda: workbooks.make_one(make_full(lambda place, value: f"<c><v>{value}</v></c>")),
+    "heights": lambda: workbooks.make_one(make_full(of_rows=' ht="2%(n)d"')),
+    "faults": lambda: workbooks.make_one(
+        make_full(lambda place, value: f'<c r="{place}" t="inlineStr"><is><t>{value}</t></is></c>')
+    ),
+    "looks": lambda: make_styled(1_024),
+    "rules": make_rules,
+    "floats": lambda: workbooks.make_one(make_full(lambda place, value: f'<c r="{place}"><v>{value}.0</v></c>')),
+    "blanks": lambda: workbooks.make_one(make_full(lambda place, value: f'<c r="{place}" t="str"><f>A1</f><v></v></c>')),
+    "words": lambda: workbooks.make_one(make_full(lambda place, value: f'<c r="{place}" t="str"><v>x</v></c>')),
+    "gaps": lambda: workbooks.make_one(make_rows(4_000, "".join(f'<c r="{workbooks.get_column_letter(2 * n + 1)}%(row)d"><v>1</v></c>' for n in range(34)))),
+    "comments": make_comments,
+    "drawn": make_drawings,
+    "cells": lambda: workbooks.make_one(make_rows(4_001, '<c r="A%(row)d"><v>1</v></c>' + "<c><v>1</v></c>" * 59)),
+    "ignored": make_ignored,
+    "links": lambda: make_linked("vmlDrawing", "drawing1.vml", "x" * 16_000_000, 4_000, small),
     "long_name": lambda: workbooks.RawWorkbook(("n" * 60_000, make_rows(300, '<c r="ALL%(row)d"><v>1</v></c>'))).bytes(),
     "wide": lambda: workbooks.make_one(make_rows(4_001, '<c r="IV%(row)d"><v>1</v></c>')),
-    "sheets": lambda: workbooks.RawWorkbook(*((f"s{number}", small) for number in range(4_000))).bytes(),
+    "sheets": lambda: workbooks.RawWorkbook(*((f"s{number}", make_rows(9, "<c><v>1</v></c>")) for number in range(4_000))).bytes(),
     "long_format": lambda: make_styles(["&quot;x&quot;0" * 5_000], workbooks.make_body([SMALL[0], *[[5000, 2, 1]] * 2_700], ' s="1"')).bytes(),
     "long_formats": make_long_formats,
     "lying": make_lying,
@@ -119,13 +215,13 @@ KINDS = {
     "empty_lines": lambda: make_csv(b"\n", 4_000_000),
     "commas": lambda: make_csv(b"," * CATEGORIES + b"\n", 4_000_000),
     "long_lines": lambda: make_csv(b"1" * 30 + b"," + b"1,0" * 16 + b"\n", 4_000_000),
-    "merged": lambda: make_areas("<mergeCells>%s</mergeCells>"),
+    "merged": make_merged,
     "conditions": make_conditions,
     "attributes": lambda: workbooks.make_one(f"<sheetData><row {' '.join(f'a{n}=' + chr(34) * 2 for n in range(5_000))}/></sheetData>" * 250),
     "deep": lambda: workbooks.make_one("<a>" * 1_400_000 + small),
     "comment": lambda: workbooks.make_one("<!--" + "<x" * 7_000_000 + "-->" + small),
-    "texts": lambda: workbooks.RawWorkbook(("Bids", small), texts="<si><t>x</t></si>" * 600_000).bytes(),
-    "styles": lambda: make_styles(["0"] * 30_000).bytes(),
+    "texts": lambda: workbooks.RawWorkbook(("Bids", make_rows(2, "<c><v>1</v></c>")), texts="<si><t>x</t></si>" * 249_000).bytes(),
+    "styles": lambda: make_styles(["0"] * 24_000, make_rows(2, "<c><v>1</v></c>")).bytes(),
     "entries": make_entries,
 }
 TAKEN = ("form",)

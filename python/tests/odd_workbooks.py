@@ -468,7 +468,7 @@ ODD: dict[str, tuple[Odd, str]] = {
     ),
     "an array that spills": (
         Odd(changes=[(SHEET, "<v>9900</v>", "<f t='array' ref='A3:C3'>x</f><v>9900</v>")]),
-        "1 formula taken by their stored values: A3, B3, C3",
+        "1 formula taken by its stored values: A3, B3, C3",
     ),
     "a value of an image": (
         Odd(changes=[(SHEET, '<c r="A3" ', '<c r="A3" vm="1" ')]),

@@ -12,6 +12,7 @@ from typing import Any
 
 import pytest
 from commands import (
+    ROOT,
     AuctionFolder,
     CommandResult,
     OfficeFolder,
@@ -218,6 +219,22 @@ def test_a_record_that_says_something_else(folder: AuctionFolder, field: str) ->
     assert read_files(folder) == before
 
 
+RECORDS = [name for name in MAKERS if name.endswith(".json") and name.startswith("lost/")]
+
+
+@pytest.mark.parametrize("name", RECORDS)
+def test_each_record_that_says_something_else(folder: AuctionFolder, name: str) -> None:
+    """Each of its fields is changed, and left out, with its sum made right."""
+    fields = json.loads(folder.read(name))
+    assert fields.keys() == OTHERS.keys()
+    for field, value in fields.items():
+        other = next(each for each in OTHERS[field] if each != value)
+        less = {key: each for key, each in fields.items() if key != field}
+        for changed in ({**fields, field: other}, less):
+            leave(folder, name, (json.dumps(changed) + "\n").encode())
+            check_stopped(run_in(folder, "letters"), f"{folder.where}/{name}")
+
+
 # what is put in the place of an audit, and what is said of the record; its sum was made right
 AUDITS = {
     "the audit of another bid": ("lost/Alpha/1.txt", "shows no amount that is enough"),
@@ -384,6 +401,34 @@ def test_folders_that_are_named(office: OfficeFolder) -> None:
     (blank / "Fox.csv").write_bytes(b"mine\n")
     check_stopped(run("form", office.rules, "--output", blank), "it has files; name a new folder")
     assert (blank / "Fox.csv").read_bytes() == b"mine\n"
+
+
+# commands that write a file that is named, and its option
+NAMED = """
+gather  | --output
+gather  | --receipt
+prices  | --output
+certify | --output
+certify | --solution-output
+solve   | --log
+"""
+
+
+@pytest.mark.parametrize("command, option", parse_rows(NAMED))
+def test_files_that_are_named(office: OfficeFolder, command: str, option: str) -> None:
+    """One with something in it is kept, and named; an empty one isn't anybody's."""
+    read = {"gather": office.files, "prices": [office.write("audit.txt", TIED_AUDIT)]}
+    path = office.write("named", "mine\n")
+    call = [command, *read.get(command, [ROOT / "fixtures/solvers/three.mps"]), option, path]
+    seen = run(*call)
+    check_stopped(seen, f"{path}: it is there, and is kept; --replace puts the new one there")
+    assert (seen.out, path.read_text()) == ("", "mine\n")
+    assert run(*call, "--replace").status == 0
+    written = path.read_bytes()
+    assert written != b"mine\n"
+    path.write_bytes(b"")
+    assert run(*call).status == 0
+    assert bool(path.read_bytes()) == bool(written)
 
 
 def test_a_folder_of_another_format(folder: AuctionFolder) -> None:

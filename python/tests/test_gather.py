@@ -129,7 +129,8 @@ def test_times_have_no_last_year() -> None:
 
 
 def test_both_files_are_written_or_neither_and_a_link_stays_one(office: OfficeFolder) -> None:
-    words = "--output", office.write("input.txt", "older"), "--receipt", office.folder / "receipt"
+    named = "--output", office.write("input.txt", "older"), "--receipt", office.folder / "receipt"
+    words = *named, "--replace"
     before = office.snapshot()
     check_stopped(office.gather(*words, **limit_files(2_000)), f"{words[3]}: File too large\n")
     assert office.snapshot() == before
@@ -202,7 +203,7 @@ def test_a_workbook_is_read_by_its_sheets_and_cells(
     workbook(sheet, rb"<f>2500\*2</f><v(?: ?/|></v)>", b"<f>2500*2</f><v>5000</v>")
     seen = office.gather()
     assert seen.out == BY_HAND, seen.err
-    assert "1 formula taken by their stored values: A2" in seen.err
+    assert "1 formula taken by its stored value: A2" in seen.err
     workbook(SHEET, more=["Final"])
     why = "its sheet 'Final' begins as a form does, too; say --sheet NAME for the one that counts"
     assert office.list_faults() == [f"forms/Fox.xlsx: {why}"]

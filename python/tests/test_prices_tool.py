@@ -439,7 +439,7 @@ def test_an_audit_gets_prices(unpriced: AuctionFolder, tmp_path: Path) -> None:
     """The groups that are added come after those asked for; what has prices gets the same again."""
     path = tmp_path / "priced.txt"
     for award in (unpriced.where / "audit.txt", path):
-        check_table(award, "--output", path)
+        check_table(award, "--output", path, "--replace")
         verified = run_program(unpriced.wdp, "verify", path.read_bytes())
         assert verified == unpriced.read("report.txt") + ADDED.encode()
     assert path.read_bytes().endswith(WORKED + b"Gamma\n")

@@ -6,18 +6,70 @@ MUTATED in the environment is how many damaged workbooks are read, by default 20
 import io
 import os
 import random
+import re
+import shutil
+import subprocess
 from collections.abc import Callable
+from pathlib import Path
+from typing import Any
 
 import pytest
 
 import workbooks
 from commands import OfficeFolder
+from hand_made import make_like_apple, make_like_excel, make_like_google
 from mutated import mutate
-from odd_workbooks import ODD, TAKEN, make_odd
+from odd_workbooks import AC, COMPATIBLE, ODD, TAKEN, Odd, condition, linked, make_odd, make_styles
 from wdp.files import Unreadable
 from wdp.office.known import KNOWN, ORDERED
 from wdp.office.workbooks import read_workbook
 
+RULE = "<cfRule type='expression' priority='1'/>"
+OTHER_NAMES = "".join(f" y:a{number}=''" for number in range(101))
+SPILLS = "".join(
+    f"<row>{'<c><f t=%sarray%s ref=%sA1:C9%s>1</f><v>1</v></c>' % (4 * (chr(34),)) * 41}</row>"
+    for _ in range(101)
+)
+NESTED = "<mc:AlternateContent><mc:Choice>" * 40 + "</mc:Choice></mc:AlternateContent>" * 40
+# what no form has so much of, with what is said of it
+TOO_MUCH: dict[str, tuple[Callable[[], bytes], str]] = {
+    "conditions": (
+        lambda: make_odd(Odd(after=condition(RULE * 501))),
+        "it has more than 500 conditions",
+    ),
+    "what a sheet is linked to": (
+        lambda: make_odd(Odd(**linked_often(9))),
+        "what is read of it has more than 67,108,864 bytes, unpacked",
+    ),
+    "names that may be ignored": (
+        lambda: make_odd(
+            Odd(row=OTHER_NAMES, root=f"xmlns:mc='{COMPATIBLE}' xmlns:y='{AC}' mc:Ignorable='y'")
+        ),
+        "its XML has more than 100 names that may be ignored",
+    ),
+    "formulas of several cells": (
+        lambda: workbooks.make_one(f"<sheetData>{SPILLS}</sheetData>"),
+        "Bids!A101: it has more than 4,100 formulas of several cells",
+    ),
+    "levels": (
+        lambda: make_odd(Odd(root=f"xmlns:mc='{COMPATIBLE}'", after=NESTED)),
+        "its XML has more than 64 levels",
+    ),
+    "fonts": (
+        lambda: make_odd(Odd(styles=make_styles(font="<font><sz val='11'/></font>" * 1_024))),
+        "it has more than 1,024 fonts or fills",
+    ),
+    "sheets": (
+        lambda: workbooks.RawWorkbook(*((f"s{number}", "") for number in range(1_001))).bytes(),
+        "it has more than 1,000 sheets",
+    ),
+    "cells": (
+        lambda: workbooks.make_one(
+            f"<sheetData>{('<row>' + '<c><v>1</v></c>' * 200 + '</row>') * 751}</sheetData>"
+        ),
+        "it has more than 150,000 cells with a value",
+    ),
+}
 MUTATED = int(os.environ.get("MUTATED", "200"))
 
 
@@ -30,6 +82,38 @@ def test_what_is_odd_is_refused_or_named_and_what_is_not_is_taken(name: str) -> 
     else:
         assert said in outcome
         assert outcome.startswith(TAKEN[:16]) == said[:1].isdecimal(), outcome
+
+
+def linked_often(count: int) -> dict[str, Any]:
+    """A large part that a sheet is linked to so many times."""
+    links = linked("vmlDrawing", "drawing1.vml", "x" * 16_000_000)
+    (path,) = (name for name in links["parts"] if name.endswith(".rels"))
+    head, link, end = re.split("(<Relationship .*/>)", links["parts"][path])
+    many = "".join(link.replace("rId1", f"rId{number}") for number in range(count))
+    links["parts"][path] = f"{head}{many}{end}"
+    return links
+
+
+@pytest.mark.parametrize("name", TOO_MUCH)
+def test_a_workbook_of_more_than_a_form_has_is_refused(name: str) -> None:
+    make, said = TOO_MUCH[name]
+    assert workbooks.read_outcome(make()) == said
+
+
+def test_a_form_of_texts_isnt_read_to_its_end(office: OfficeFolder) -> None:
+    """The cells that can't be taken have one line, and it is said that there may be more faults."""
+    rows = [workbooks.FORM[0], *[["5000", "2", "1"]] * 3_999]
+    (office.forms / "Fox.csv").unlink()
+    (office.forms / "Fox.xlsx").write_bytes(workbooks.make_one(workbooks.make_body(rows)))
+    text, rest, *_ = office.list_faults()
+    first, last = text.split(", ", 1)[0], text[-15:]
+    assert (first, last) == (
+        "forms/Fox.xlsx:Bids!A2: '5000' is a text; turn it into a number; the same of B2",
+        " and 9,981 more",
+    )
+    why = "its row isn't read, since more than 10,000 cells above can't be taken"
+    assert rest == f"forms/Fox.xlsx:Bids!A3336: {why}"
+    assert office.gather().err.splitlines()[-1].startswith("gather: at least ")
 
 
 def test_damaged_workbooks_are_read_or_refused() -> None:
@@ -78,6 +162,29 @@ def write_by_pandas(rows: workbooks.Rows) -> bytes:
 @pytest.mark.parametrize("write", [workbooks.write_rows, write_by_xlsxwriter, write_by_pandas])
 def test_what_libraries_write_is_taken(write: Callable[[workbooks.Rows], bytes]) -> None:
     assert workbooks.read_outcome(write(workbooks.FORM)) == TAKEN
+
+
+# programs that make a workbook of a table
+PROGRAMS = {
+    "gnumeric": "ssconvert Bids.csv Bids.xlsx",
+    "LibreOffice": "soffice --headless -env:UserInstallation=file://$PWD/profile --convert-to xlsx Bids.csv",
+}
+
+
+@pytest.mark.parametrize("program", PROGRAMS)
+def test_what_spreadsheets_write_is_taken(tmp_path: Path, program: str) -> None:
+    command = PROGRAMS[program]
+    if not shutil.which(command.split()[0]):
+        pytest.skip(f"{program} isn't here")
+    lines = [",".join(map(str, row)) for row in workbooks.FORM]
+    (tmp_path / "Bids.csv").write_text("".join(f"{line}\n" for line in lines))
+    subprocess.run(["sh", "-c", command], cwd=tmp_path, capture_output=True, check=True)
+    assert workbooks.read_outcome((tmp_path / "Bids.xlsx").read_bytes()) == TAKEN
+
+
+@pytest.mark.parametrize("make", [make_like_excel, make_like_google, make_like_apple])
+def test_what_other_spreadsheets_declare_is_taken(make: Callable[[], bytes]) -> None:
+    assert workbooks.read_outcome(make()) == TAKEN
 
 
 def test_the_table_of_what_is_known_has_each_name_once() -> None:

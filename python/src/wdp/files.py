@@ -20,6 +20,7 @@ _KINDS = {
     stat.S_IFBLK: "a device",
 }
 _PIECE = 65_536  # bytes
+_KEPT = "is kept; --replace puts the new one there"
 WRITING = ".writing-"  # what is being written, until it is complete
 
 
@@ -100,6 +101,16 @@ def read_rest(file: BinaryIO, path: str, most: int) -> bytes:
     return data
 
 
+def check_free(path: str | None, data: bytes | None = None, *, replaces: bool) -> None:
+    """Raises Unreadable if a file is there that has something else than these bytes, unless it
+    may be replaced.
+    """
+    with map_errors(path or ""):
+        if path and not replaces and os.path.isfile(path) and os.path.getsize(path):
+            if not _has_bytes(path, data):
+                raise Unreadable(path, f"it is there, and {_KEPT}")
+
+
 def write_all(texts: Mapping[str, bytes]) -> None:
     """Writes files by their paths, all of them or none.
 
@@ -175,7 +186,7 @@ def write_folder(
             path = os.path.join(folder, name)
             if not _has_bytes(path, texts.get(name)) and not (is_left and is_left(name)):
                 why = "it isn't what was left there or is to be written"
-                raise Unreadable(path, f"{why}, and is kept; --replace puts the new one there")
+                raise Unreadable(path, f"{why}, and {_KEPT}")
         place = os.path.realpath(folder)
         made = _make_hidden_path(folder)
         os.makedirs(os.path.dirname(place), exist_ok=True)

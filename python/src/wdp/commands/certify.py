@@ -11,7 +11,7 @@ import argparse
 from functools import partial
 
 from wdp import certify, files
-from wdp.commands.arguments import parse_seconds, read_mps
+from wdp.commands.arguments import add_replace, parse_seconds, read_mps
 from wdp.progress import Say
 from wdp.solve import MOST_OF_ANSWER, find_empty_solution
 
@@ -48,11 +48,14 @@ def add_arguments(parser: argparse.ArgumentParser) -> None:
         metavar="FILE",
         help=f"the optimal solution that is certified; {better}",
     )
+    add_replace(parser)
 
 
 def run(options: argparse.Namespace) -> int:
     """Certifies a solution as optimal, or with --unique as the only optimal one; the status."""
     say = partial(files.say, "certify")
+    for path in (options.output, options.solution_output):
+        files.check_free(path, replaces=options.replaces)
     program = read_mps(options.mps, options.program)
     if options.solution:
         solution = files.read(options.solution, MOST_OF_ANSWER)

@@ -24,7 +24,7 @@ from wdp.commands.arguments import (
     parse_path,
     read_choices,
 )
-from wdp.files import put, tell, write_all, write_folder
+from wdp.files import check_free, put, tell, write_all, write_folder
 from wdp.office.auction_files import AuctionFiles
 from wdp.office.faults import format_lines, format_total
 from wdp.office.receipt import format_receipt
@@ -128,12 +128,15 @@ def run(options: argparse.Namespace) -> int:
             why += f"; {options.output} is what it was before"
         raise Refused(why)
     receipt = format_receipt(auction)
+    named = {options.output: auction.text, options.receipt: receipt.encode()}
+    texts = {path: text for path, text in named.items() if path}
+    for path, text in texts.items():
+        check_free(path, text, replaces=options.replaces)
     if options.parts:
         ours = [_RULES_PART, *(f"{name}.csv" for name in auction.rules.bidders)]
         parts = _make_parts(auction)
         write_folder(options.parts, parts, ours=ours, replaces=options.replaces)
-    texts = {options.output: auction.text, options.receipt: receipt.encode()}
-    write_all({path: text for path, text in texts.items() if path})
+    write_all(texts)
     tell(receipt)
     if not options.output:
         put(auction.text)

@@ -50,6 +50,7 @@ def run(options: argparse.Namespace) -> int:
         if options.output:
             raise WrongArgument("--output goes with an audit; a folder keeps its own")
         return run_in_folder(whole)
+    files.check_free(options.output, replaces=options.replaces)
     audit = files.read(str(options.award), MOST_OF_AUDIT)
     name = AUDIT if options.output else None
     take = partial(take_audit, whole, audit)

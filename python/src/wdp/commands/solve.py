@@ -10,7 +10,7 @@ import argparse
 from pathlib import Path
 
 from wdp import files
-from wdp.commands.arguments import add_solver_options, read_mps
+from wdp.commands.arguments import add_replace, add_solver_options, read_mps
 from wdp.solve import find_point, find_solver
 
 
@@ -23,6 +23,7 @@ def add_arguments(parser: argparse.ArgumentParser) -> None:
         metavar="FILE",
         help="what the solver prints goes there while it runs",
     )
+    add_replace(parser)
     parser.add_argument(
         "file",
         nargs="?",
@@ -34,7 +35,8 @@ def add_arguments(parser: argparse.ArgumentParser) -> None:
 
 def run(options: argparse.Namespace) -> None:
     """Finds a solution, and prints it."""
+    log = options.log and options.log.absolute()
+    files.check_free(log and str(log), replaces=options.replaces)
     text = read_mps(options.file, options.program)
     solver = find_solver(options.solver)
-    log = options.log and options.log.absolute()
     files.put(find_point(text, solver, seconds=options.time_limit, log=log))

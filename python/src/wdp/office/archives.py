@@ -7,14 +7,16 @@ import posixpath
 import re
 import struct
 import zipfile
-from collections.abc import Iterator, Mapping
+from collections import defaultdict
+from collections.abc import Iterable, Iterator, Mapping, Sequence
 from contextlib import contextmanager
-from dataclasses import dataclass, field
+from dataclasses import dataclass
 from io import BytesIO
+from typing import Any
 from xml.etree.ElementTree import Element, ParseError, XMLPullParser
 
 from wdp.office.faults import quote
-from wdp.office.known import find_unknown, find_unknown_attributes
+from wdp.office.known import HINT, KNOWN, find_unknown, find_unknown_attributes
 
 NO_WORKBOOK = "it is no workbook that can be read"
 MAIN = (
@@ -42,10 +44,10 @@ _PASSWORD = "it is an old workbook, or one with a password; save it as .xlsx wit
 _MOST_ENTRIES = 4_096  # of the archive
 _MOST_UNPACKED = 64 * 1024 * 1024  # bytes of all that a workbook holds, unpacked
 _MOST_OF_A_PART = 16 * 1024 * 1024  # bytes of what is read of it: one XML text
-_MOST_TAGS = 1_500_000  # of all parts that are read, where an element begins and where it ends
-_MOST_KEPT = 150_000  # elements and attributes of a part, beside those of its rows
-_MOST_OF_A_ROW = 50_000  # elements
-_MOST_NESTED = 64  # elements within each other
+_MOST_ELEMENTS = 500_000  # of all parts that are read
+_MOST_ALIKE = 9  # elements in one that others are compared with
+_MOST_IGNORED = 100  # names of a part that mean nothing to a reader that doesn't know them
+_MOST_KEPT = 150_000  # elements and attributes of a part, beside those of rows that are read
 _LONGEST_PIECE = 64 * 1024  # bytes from one tag to the next: of a text, a comment, or a tag
 _CHUNK = 64 * 1024  # bytes that the parser gets at once
 _DIRECTORY_ENTRY = b"PK\x01\x02"
@@ -79,15 +81,24 @@ def _map_library_errors() -> Iterator[None]:
 
 @dataclass
 class Budget:
-    """How many tags may still be read of a workbook."""
+    """How much may still be read of a workbook: bytes, unpacked, and elements."""
 
-    tags: int = _MOST_TAGS
+    size: int = _MOST_UNPACKED
+    elements: int = _MOST_ELEMENTS
 
-    def spend(self, count: int) -> None:
-        """Raises BadWorkbook if that is too many."""
-        self.tags -= count
-        if self.tags < 0:
-            raise BadWorkbook(f"its XML has more than {_MOST_TAGS:,} tags")
+    def unpack(self, size: int) -> None:
+        """Raises BadWorkbook if so many bytes are too many."""
+        self.size -= size
+        if self.size < 0:
+            raise BadWorkbook(
+                f"what is read of it has more than {_MOST_UNPACKED:,} bytes, unpacked"
+            )
+
+    def take(self, count: int) -> None:
+        """Raises BadWorkbook if so many elements are too many."""
+        self.elements -= count
+        if self.elements < 0:
+            raise BadWorkbook(f"its XML has more than {_MOST_ELEMENTS:,} elements")
 
 
 def _check_text(data: bytes) -> None:
@@ -97,8 +108,8 @@ def _check_text(data: bytes) -> None:
         raise BadWorkbook("its XML isn't in UTF-8, as spreadsheets write it")
     if b"<!DOCTYPE" in data:
         raise BadWorkbook("its XML has a document type, as no spreadsheet writes")
-    if data.count(b"<") > _MOST_TAGS:
-        raise BadWorkbook(f"its XML has more than {_MOST_TAGS:,} tags")
+    if data.count(b"<") > 2 * _MOST_ELEMENTS:
+        raise BadWorkbook(f"its XML has more than {_MOST_ELEMENTS:,} elements")
     last = 0
     while last + _LONGEST_PIECE < len(data):
         following = data.rfind(b"<", last + 1, last + 1 + _LONGEST_PIECE)
@@ -106,6 +117,11 @@ def _check_text(data: bytes) -> None:
             most = f"{_LONGEST_PIECE:,} bytes"
             raise BadWorkbook(f"its XML has a text, a tag or a comment of more than {most}")
         last = following
+
+
+def _count(elements: Sequence[Element]) -> int:
+    """How many elements and attributes these are."""
+    return len(elements) + sum(map(len, map(Element.keys, elements)))
 
 
 class XmlPart:
@@ -121,10 +137,16 @@ class XmlPart:
         self.data = data
         self.budget = budget
         self.root = Element("")
-        self._own = ""
+        self._own: str | None = None
+        self._added = 0
         self._namespaces: dict[str, str] = {}
         self._ignorable: set[str] = set()
+        self._ignored: set[str] = set()
         self._names: dict[str, str] = {}
+        # the attributes that are known of elements, by the elements' names, and what elements are
+        # known to have in them: how many, the name, and the names in it
+        self._known: defaultdict[str, set[str]] = defaultdict(set)
+        self._known_elements: set[tuple[int | str, ...]] = set()
 
     def read(self) -> Element:
         """The tree of the whole text."""
@@ -135,33 +157,45 @@ class XmlPart:
     def iterate(self, container: str | None, tag: str) -> Iterator[Element]:
         """The elements of this name, one by one, that are in the root, or in a container of it."""
         walk = _Walk(self, container, tag)
-        for event, found in self._parse():
-            if event == "start":
-                walk.begin(found)
-            elif walk.end():
-                yield found
-                # (what follows it may be there already)
-                del walk.path[-1][walk.others]
+        for is_ended in self._parse():
+            yield from walk.take(is_ended=is_ended)
 
-    def _parse(self) -> Iterator[tuple[str, Element]]:
-        """The beginnings and ends of elements, as the parser finds them."""
-        parser = XMLPullParser(("start-ns", "start", "end"))
-        is_begun = False
+    def _parse(self) -> Iterator[bool]:
+        """Parses the text piece by piece, each of which adds to the tree; whether it is the last."""
+        parser = XMLPullParser(("start-ns", "start"))
         for begin in range(0, len(self.data) + 1, _CHUNK):
+            is_ended = begin + _CHUNK > len(self.data)
             with _map_library_errors():
                 parser.feed(self.data[begin : begin + _CHUNK])
-                if begin + _CHUNK > len(self.data):
+                if is_ended:
                     parser.close()
                 events = list(parser.read_events())
-            self.budget.spend(len(events))
-            for event in events:
-                if event[0] != "start-ns":
-                    is_begun = True
-                    yield event
-                elif not is_begun:
-                    self._namespaces[event[1][0]] = event[1][1]
+            if self._own is None:
+                self._take_root(events)
+            self._take([found for kind, found in events if kind == "start"])
+            yield is_ended
 
-    def begin(self, root: Element) -> None:
+    def _take_root(self, events: Iterable[tuple[str, Any]]) -> None:
+        """Takes the root, if it is begun, and the namespaces that it names."""
+        for kind, found in events:
+            if kind == "start":
+                self._begin(found)
+                return
+            self._namespaces[found[0]] = found[1]
+
+    def _take(self, elements: Sequence[Element]) -> None:
+        """Takes elements that were begun. Each time as much is added as may be kept, what is kept
+        is counted.
+        """
+        self.budget.take(len(elements))
+        self._added += _count(elements)
+        if self._added > _MOST_KEPT:
+            self._added = 0
+            if _count(list(self.root.iter())) > _MOST_KEPT:
+                most = f"{_MOST_KEPT:,} elements and attributes"
+                raise BadWorkbook(f"its XML has more than {most} beside its rows, or in one row")
+
+    def _begin(self, root: Element) -> None:
         """Takes the root: its namespace is that of the part, and it names others that a reader
         ignores if it doesn't know them.
         """
@@ -179,7 +213,7 @@ class XmlPart:
         """The name of an element; one without any namespace is none that a part has."""
         if tag not in self._names:
             namespace, _, local = tag.rpartition("}")
-            prefix = {**_PREFIXES, self._own: ""}.get(namespace[1:]) if namespace else None
+            prefix = {**_PREFIXES, self._own or "": ""}.get(namespace[1:]) if namespace else None
             self._names[tag] = f"{{}}{tag}" if not namespace else tag
             if prefix is not None:
                 self._names[tag] = f"{prefix}{local}"
@@ -192,15 +226,36 @@ class XmlPart:
         return name if prefix is None else f"{prefix}{local}"
 
     def check(self, element: Element, cell: str = "") -> None:
-        """Raises BadWorkbook if something in an element isn't known, perhaps with a cell of it."""
+        """Raises BadWorkbook if something in an element isn't known, perhaps with a cell of it. What
+        other elements have had isn't looked up again.
+        """
+        inner = [*element, *element[0]] if len(element) == 1 else [*element]
+        names = (len(element), element.tag, *[each.tag for each in inner])
+        is_flat = len(inner) < _MOST_ALIKE and not any(map(len, inner[len(element) == 1 :]))
+        if is_flat and names in self._known_elements and all(map(self.knows, (element, *inner))):
+            return
+        self._check_names(element, cell)
+        # (nothing was looked at within an element that may be ignored)
+        if is_flat and all(self.name(each.tag) in KNOWN for each in (element, *inner)):
+            self._known_elements.add(names)
+            for each in (element, *inner):
+                self._known[each.tag].update(each.keys())
+
+    def knows(self, element: Element) -> bool:
+        """Whether other elements of this name have had all attributes of this one."""
+        return self._known[element.tag].issuperset(element.keys())
+
+    def _check_names(self, element: Element, cell: str) -> None:
         for holder, why in find_unknown(element, self):
             is_cell = cell and self.name(holder.tag) == "c"
             raise BadWorkbook(why, holder.get("r", cell)[:10] if is_cell else cell)
 
     def check_attributes(self, element: Element, cell: str) -> None:
         """Raises BadWorkbook, with a cell, if an attribute of an element isn't known."""
-        for why in find_unknown_attributes(element, self):
-            raise BadWorkbook(why, cell)
+        if not self.knows(element):
+            for why in find_unknown_attributes(element, self):
+                raise BadWorkbook(why, cell)
+            self._known[element.tag].update(element.keys())
 
     def refuse(self, element: Element, within: str, cell: str) -> None:
         """Raises BadWorkbook, with a cell, for an element that isn't known, unless it means nothing
@@ -208,73 +263,62 @@ class XmlPart:
         """
         if not self.is_ignorable(element.tag):
             name = quote(element.tag.removeprefix("{").replace("}", " "))
-            raise BadWorkbook(f"in {within!r} there is {name}, which isn't understood", cell)
+            why = f"in {within!r} there is {name}, which isn't understood{HINT}"
+            raise BadWorkbook(why, cell)
 
     def is_ignorable(self, name: str) -> bool:
         """Whether a name is one that a reader ignores if it doesn't know its namespace."""
-        return name.startswith("{") and name[1:].partition("}")[0] in self._ignorable
+        is_it = name.startswith("{") and name[1:].partition("}")[0] in self._ignorable
+        if is_it:
+            self._ignored.add(name)
+            if len(self._ignored) > _MOST_IGNORED:
+                raise BadWorkbook(
+                    f"its XML has more than {_MOST_IGNORED} names that may be ignored"
+                )
+        return is_it
 
 
 @dataclass(slots=True)
 class _Walk:
     """Where the reading of a part is, which looks for elements of one name in the root, or in a
-    container of it: the elements round the place, down to that container; how many are kept; how
-    many are in the last one that was looked for; and how many before it in the container are others.
+    container of it: at which element of the root, and how many others before it in the container
+    are kept.
     """
 
     part: XmlPart
     container: str | None
     tag: str
-    path: list[Element] = field(default_factory=list)
-    depth: int = 0
-    kept: int = 0
-    inside: int = 0
+    place: int = 0
     others: int = 0
-    is_within: bool = False
 
-    @property
-    def level(self) -> int:
-        """How many elements are round one that is looked for."""
-        return 1 if self.container is None else 2
-
-    def begin(self, element: Element) -> None:
-        """Takes the beginning of an element."""
-        self.depth += 1
-        if self.is_within:
-            self.inside += 1
-        else:
-            self._keep(element)
-        if self.depth > _MOST_NESTED or self.kept > _MOST_KEPT or self.inside > _MOST_OF_A_ROW:
-            most = f"{_MOST_KEPT:,} elements and attributes beside its rows"
-            rest = f"{_MOST_OF_A_ROW:,} in a row, or {_MOST_NESTED} levels"
-            raise BadWorkbook(f"its XML has more than {most}, {rest}")
-
-    def _keep(self, element: Element) -> None:
-        """Takes the beginning of an element that is kept, or that is looked for."""
-        level = self.level
-        if self.depth == 1:
-            self.part.begin(element)
-        elif self.depth == level + 1:
-            name = self.part.name
-            is_in = self.container is None or name(self.path[-1].tag) == self.container
-            self.is_within = is_in and name(element.tag) == self.tag
-            self.others += not self.is_within
-            self.inside = 0
-        if self.depth == level:
+    def take(self, *, is_ended: bool) -> Iterator[Element]:
+        """The elements that are complete by now."""
+        root = self.part.root
+        if self.container is None:
+            yield from self._take_from(root, is_ended=is_ended)
+            return
+        while self.place < len(root):
+            holder = root[self.place]
+            is_open = not is_ended and self.place == len(root) - 1
+            if self.part.name(holder.tag) == self.container:
+                yield from self._take_from(holder, is_ended=not is_open)
+            if is_open:
+                return
+            self.place += 1
             self.others = 0
-        self.kept += 0 if self.is_within else 1 + len(element.keys())
-        if self.depth <= level + 1:
-            self.path.append(element)
 
-    def end(self) -> bool:
-        """Takes the end of an element; whether it is one that is looked for."""
-        self.depth -= 1
-        if self.depth > 2 or self.depth > self.level:
-            return False
-        self.path.pop()
-        is_found = self.is_within and self.depth == self.level
-        self.is_within = self.is_within and not is_found
-        return is_found
+    def _take_from(self, holder: Element, *, is_ended: bool) -> Iterator[Element]:
+        """The complete elements of a holder, which isn't kept any longer; the last one may not be
+        complete.
+        """
+        begin = self.others
+        end = len(holder) - (not is_ended)
+        found = holder[begin : max(begin, end)]
+        is_wanted = [self.part.name(each.tag) == self.tag for each in found]
+        others = [each for each, is_it in zip(found, is_wanted, strict=True) if not is_it]
+        holder[begin : begin + len(found)] = others
+        self.others += len(others)
+        yield from (each for each, is_it in zip(found, is_wanted, strict=True) if is_it)
 
 
 @dataclass(frozen=True)
@@ -324,6 +368,7 @@ class Archive:
         if entry.file_size > _MOST_OF_A_PART:
             most = f"{_MOST_OF_A_PART:,} bytes, unpacked"
             raise BadWorkbook(f"its part {quote(name)} has more than {most}")
+        self.budget.unpack(entry.file_size)
         with _map_library_errors(), self.archive.open(entry) as file:
             return file.read(entry.file_size)
 

@@ -15,7 +15,7 @@ from wdp.office.findings import Finding, LeftOutBid
 from wdp.office.explaining import explain
 from wdp.office.located_faults import explain_value, limit_faults, make_faults, make_input_fault
 from wdp.office.reading import MOST_OF_A_FORM, Groups, check_end, read_groups, read_rules_file
-from wdp.office.sheets import NOT_STORED, File, read_pairs
+from wdp.office.sheets import File, read_pairs
 from wdp.texts.accepted import AcceptedRules, parse_rules
 from wdp.texts.tables import TableRow, encode
 
@@ -137,9 +137,10 @@ class AuctionFiles:
         within = [finding for finding in findings if (finding.record or 0) < beyond]
         faults = make_faults(within, form.path, form.rows, bidders=self.rules.bidders)
         # (a formula without a value isn't also an empty field)
-        blank = {fault.place for fault in form.faults if fault.text == NOT_STORED}
         faults = [
-            fault for fault in faults if fault.place not in blank or not fault.text.startswith("''")
+            fault
+            for fault in faults
+            if fault.place not in form.blank or not fault.text.startswith("''")
         ]
         self.faults += form.faults + limit_faults(faults, form.path, is_least=form.is_cut)
         if not form.faults:

@@ -2,9 +2,10 @@
 import re
 from bisect import bisect_left, bisect_right
 from collections import Counter, defaultdict
-from collections.abc import Iterable, Iterator
+from collections.abc import Collection, Iterable, Iterator, Sequence
 from dataclasses import dataclass, field
 from functools import cache, cached_property
+from operator import attrgetter
 
 from wdp.office.looks import Colour, Look
 
@@ -78,11 +79,16 @@ ALL = Area(1, 1, LAST_ROW, LAST_COLUMN)
 
 
 @dataclass
-class _Column:
+class Column:
     """The cells of a column that have a value: their rows, and their looks."""
 
     rows: list[int] = field(default_factory=list)
     looks: list[Look] = field(default_factory=list)
+
+    def add(self, row: int, look: Look) -> None:
+        """Adds a cell, which is below all others."""
+        self.rows.append(row)
+        self.looks.append(look)
 
 
 @dataclass
@@ -91,16 +97,12 @@ class Values:
     of the others.
     """
 
-    columns: defaultdict[int, _Column] = field(default_factory=lambda: defaultdict(_Column))
+    columns: defaultdict[int, Column] = field(default_factory=lambda: defaultdict(Column))
     first_row: int = 0
+    # the rows of the cells whose fonts have some colours, by their columns
+    _of_fonts: dict[frozenset[Colour], dict[int, list[int]]] = field(default_factory=dict)
 
-    def add(self, row: int, column: int, look: Look) -> None:
-        """Adds a cell, which is below all others of its column."""
-        cells = self.columns[column]
-        cells.rows.append(row)
-        cells.looks.append(look)
-
-    def _find(self, area: Area) -> Iterator[tuple[int, _Column, range]]:
+    def _find(self, area: Area) -> Iterator[tuple[int, Column, range]]:
         """The columns of an area that have a value there, with the places of the values."""
         for column, cells in self.columns.items():
             if area.left <= column <= area.right:
@@ -109,18 +111,27 @@ class Values:
                 if begin < end:
                     yield column, cells, range(begin, end)
 
-    def list_first(self, areas: Iterable[Area]) -> list[str]:
-        """The cells of some areas that have a value, column by column: more than are named, if there
-        are more.
-        """
-        names: dict[str, None] = {}
-        for area in areas:
-            for column, cells, places in self._find(area):
-                for place in places[: MOST_NAMED + 1]:
-                    names[f"{format_column(column)}{cells.rows[place]}"] = None
-                if len(names) > MOST_NAMED:
-                    return list(names)
-        return list(names)
+    def list_within(self, areas: Sequence[Area]) -> list[str]:
+        """The cells of some areas that have a value, column by column."""
+        names = []
+        for column, cells in self.columns.items():
+            of_column = [area for area in areas if area.left <= column <= area.right]
+            letters = format_column(column)
+            last = 0
+            for area in sorted(of_column, key=attrgetter("top")):
+                begin = max(last, bisect_left(cells.rows, area.top))
+                end = bisect_right(cells.rows, area.bottom)
+                names += [f"{letters}{row}" for row in cells.rows[begin:end]]
+                last = max(last, end)
+        return names
+
+    def list_rows(self, rows: Collection[int]) -> list[str]:
+        """The cells of some rows that have a value, column by column."""
+        names = []
+        for column, cells in self.columns.items() if rows else ():
+            letters = format_column(column)
+            names += [f"{letters}{row}" for row in cells.rows if row in rows]
+        return names
 
     def find_first(self, area: Area, *, after: tuple[int, int] = (0, 0)) -> str:
         """The first cell of an area that has a value, but one; nothing if there is none."""
@@ -132,34 +143,67 @@ class Values:
                 found.append((row, column))
         return f"{format_column(min(found)[1])}{min(found)[0]}" if found else ""
 
-    def find_near(self, area: Area, colours: list[Colour]) -> str:
-        """The first cell of an area whose font can't be told from one of these colours; nothing if
-        there is none.
-        """
-        near = {look for look in self._looks if look.is_near_any(colours)}
-        for column, cells, places in self._find(area) if near else ():
-            for place in places:
-                if cells.looks[place] in near:
-                    return f"{format_column(column)}{cells.rows[place]}"
-        return ""
+    def list_present(self, names: Iterable[str]) -> list[str]:
+        """Those of these cells that have a value."""
+        present = []
+        for name in dict.fromkeys(names):
+            row, column = parse_cell(name) or (0, 0)
+            rows = self.columns[column].rows if column in self.columns else []
+            place = bisect_left(rows, row)
+            if rows[place : place + 1] == [row]:
+                present.append(name)
+        return present
 
     @cached_property
-    def _looks(self) -> set[Look]:
-        """The looks of all cells, once these are read."""
-        return {look for cells in self.columns.values() for look in cells.looks}
+    def fonts(self) -> set[Colour]:
+        """The colours of the fonts of all cells, once these are read."""
+        return {look.font for cells in self.columns.values() for look in set(cells.looks)}
+
+    def find_font(self, area: Area, fonts: frozenset[Colour]) -> tuple[str, Colour] | None:
+        """The first cell of an area whose font has one of these colours, and which of them."""
+        for column, rows in self._find_rows(fonts).items():
+            place = bisect_left(rows, area.top)
+            is_within = area.left <= column <= area.right
+            if is_within and place < len(rows) and rows[place] <= area.bottom:
+                cells = self.columns[column]
+                look = cells.looks[bisect_left(cells.rows, rows[place])]
+                return f"{format_column(column)}{rows[place]}", look.font
+        return None
+
+    def _find_rows(self, fonts: frozenset[Colour]) -> dict[int, list[int]]:
+        """The rows of the cells whose fonts have these colours, by their columns."""
+        if fonts not in self._of_fonts:
+            found = {}
+            for column, cells in self.columns.items() if fonts else ():
+                looks = zip(cells.rows, cells.looks, strict=True)
+                found[column] = [row for row, look in looks if look.font in fonts]
+            self._of_fonts[fonts] = found
+        return self._of_fonts[fonts]
+
+    @property
+    def scans(self) -> int:
+        """How often all cells were looked at for the colours of their fonts."""
+        return len(self._of_fonts)
 
     def list_different(self) -> list[str]:
-        """The bids' cells that look in another way than most of their column, with how they do."""
-        found = []
+        """The bids' cells that look in another way than most of their column; those that are named
+        with how they do.
+        """
+        found: list[str] = []
         for column, cells in self.columns.items():
-            bids = range(cells.rows[0] == self.first_row, len(cells.rows))
+            begin = int(cells.rows[:1] == [self.first_row])
+            looks = cells.looks[begin:]
             count: Counter[frozenset[str]] = Counter()
-            for look, times in Counter(cells.looks[place] for place in bids).items():
+            for look, times in Counter(looks).items():
                 count[look.traits] += times
             usual = count.most_common(1)[0][0] if count else frozenset()
-            for place in bids if len(count) > 1 else ():
-                traits = cells.looks[place].traits
-                if traits != usual:
-                    how = ", ".join(sorted(traits)) or "plain"
-                    found.append(f"{format_column(column)}{cells.rows[place]} ({how})")
+            others = {look for look in set(looks) if look.traits != usual}
+            if others:
+                rows = zip(cells.rows[begin:], looks, strict=True)
+                letters = format_column(column)
+                places = [(f"{letters}{row}", look) for row, look in rows if look in others]
+                named = max(0, MOST_NAMED - len(found))
+                for name, look in places[:named]:
+                    found.append(f"{name} ({', '.join(sorted(look.traits)) or 'plain'})")
+                found += [name for name, _ in places[named:]]
         return found

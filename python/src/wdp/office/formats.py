@@ -84,10 +84,15 @@ class NumberFormat:
 
     def shows(self, number: float) -> bool:
         """Whether it is known to show a number, which isn't below 0, as it is."""
-        if not number:
-            return self._shows_zero
+        return number < self.shown.stop if number else 0 in self.shown
+
+    @cached_property
+    def shown(self) -> range:
+        """The whole numbers that it is known to show as they are."""
+        if not self._shows_numbers:
+            return range(0)
         is_general = GENERAL in self.code or "@" in self.code
-        return self._shows_numbers and not (is_general and number >= _MOST_IN_GENERAL)
+        return range(0 if self._shows_zero else 1, _MOST_IN_GENERAL if is_general else MOST_SHOWN)
 
     @cached_property
     def shows_texts(self) -> bool:

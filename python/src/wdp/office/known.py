@@ -159,6 +159,8 @@ table | @headerRowCellStyle @dataCellStyle @totalsRowCellStyle @connectionId | i
 tableStyleInfo | @name @showFirstColumn @showLastColumn | read: its style
 tableStyleInfo | @showRowStripes @showColumnStripes | its stripes
 """
+HINT = "; save the sheet as CSV"
+_MOST_NESTED = 64  # elements within each other
 ORDERED = ("workbook", "worksheet", "styleSheet", "row", "c", "cellXfs", "sheetData", "mergeCells")
 
 
@@ -209,18 +211,23 @@ class PartNames(Names, Protocol):
         """Whether a reader ignores what has this name if it doesn't know it."""
 
 
-def find_unknown(element: Element, part: PartNames) -> Iterator[tuple[Element, str]]:
-    """What in an element, and in what it has, isn't in the table: where that is, and why it isn't
-    understood.
+def find_unknown(
+    element: Element, part: PartNames, most: int = _MOST_NESTED
+) -> Iterator[tuple[Element, str]]:
+    """What in an element, and in what it has down to so many levels, isn't in the table: where that
+    is, and why it isn't understood.
     """
     known = KNOWN.get(part.name(element.tag))
     if known is None:
+        return
+    if not most:
+        yield element, f"its XML has more than {_MOST_NESTED} levels"
         return
     yield from ((element, why) for why in find_unknown_attributes(element, part))
     yield from ((element, why) for why in _find_unknown_elements(element, known, part))
     for child in element:
         if part.name(child.tag) in known.elements:
-            yield from find_unknown(child, part)
+            yield from find_unknown(child, part, most - 1)
 
 
 def find_unknown_attributes(element: Element, part: PartNames) -> Iterator[str]:
@@ -229,7 +236,8 @@ def find_unknown_attributes(element: Element, part: PartNames) -> Iterator[str]:
     for attribute in element.keys():
         name = part.attribute(attribute)
         if name not in KNOWN[within].attributes and not part.is_ignorable(attribute):
-            yield f"its {within!r} has the attribute {_show(name)}, which isn't understood"
+            why = f"its {within!r} has the attribute {_show(name)}, which isn't understood"
+            yield why + HINT
 
 
 def _find_unknown_elements(element: Element, known: _Known, part: PartNames) -> Iterator[str]:
@@ -242,14 +250,14 @@ def _find_unknown_elements(element: Element, known: _Known, part: PartNames) -> 
         place = known.elements.get(name)
         if place is None:
             if not part.is_ignorable(child.tag):
-                yield f"in {within!r} there is {_show(name)}, which isn't understood"
+                yield f"in {within!r} there is {_show(name)}, which isn't understood{HINT}"
             continue
         if name.startswith("mc:"):
             continue
         if name in seen and name not in known.repeated:
-            yield f"in {within!r} there is {name!r} twice"
+            yield f"in {within!r} there is {name!r} twice{HINT}"
         elif within in ORDERED and place < last:
-            yield f"in {within!r} there is {name!r} out of its order"
+            yield f"in {within!r} there is {name!r} out of its order{HINT}"
         seen.add(name)
         last = max(last, place)
 

@@ -4,6 +4,7 @@ their styles.
 import re
 from collections.abc import Iterator
 from dataclasses import dataclass, field
+from functools import cached_property
 from xml.etree.ElementTree import Element
 
 from wdp.office.archives import BadWorkbook, XmlPart
@@ -26,19 +27,28 @@ def _parse_size(text: str | None, usual: float | None) -> float | None:
     return float(text) if NUMBER.fullmatch(text) else 0.0
 
 
+@dataclass(frozen=True)
+class RowLook:
+    """What is said of a row: the style of its cells that name none, its height, and whether it is
+    hidden.
+    """
+
+    style: str | None = None
+    height: float | None = None
+    is_hidden: bool = False
+
+
 @dataclass
 class Layout:
-    """The rows and columns of a sheet, as far as they are read."""
+    """The rows and columns of a sheet, as far as they are read; `row` is the last one of them."""
 
     hidden: dict[int, str] = field(default_factory=dict)
     widths: dict[int, float] = field(default_factory=dict)
     usual_width: float = _USUAL_WIDTH
     usual_height: float | None = None
-    # the styles of columns that have one, and that of the row
+    # the styles of columns that have one
     styles: dict[int, str] = field(default_factory=dict)
-    row_style: str | None = None
-    height: float | None = None
-    is_row_hidden: bool = False
+    row: RowLook = RowLook()
     has_collapsed_row: bool = False
     grouped_rows: list[int] = field(default_factory=list)
 
@@ -81,32 +91,50 @@ class Layout:
 
     def take_row(self, row: Element, number: int) -> None:
         """Takes what is said of the next row."""
-        self.height = _parse_size(row.get("ht"), self.usual_height)
-        self.is_row_hidden = is_on(row.get("hidden"))
-        self.row_style = row.get("s")
+        height = _parse_size(row.get("ht"), self.usual_height)
+        self.row = RowLook(row.get("s"), height, is_hidden=is_on(row.get("hidden")))
         self.has_collapsed_row |= is_on(row.get("collapsed"))
         if row.get("outlineLevel", "0") != "0":
             self.grouped_rows.append(number)
 
     def list_styles(self, column: int) -> list[str]:
         """The styles that a cell of this row may have if it names none: spreadsheets differ."""
-        styles = ["0", self.row_style, self.styles.get(column)]
+        styles = ["0", self.row.style, self.styles.get(column)]
         return [style for style in styles if style is not None]
 
     def find_reason(self, column: int, look: Look) -> str:
         """Why a cell of this row isn't seen; nothing if it is."""
-        if self.is_row_hidden or self.height is not None and self.height < _LOWEST:
+        return self.find_reason_of_row(look) or self._find_reason_of_column(column)
+
+    def find_reason_of_row(self, look: Look) -> str:
+        """Why no cell of this row with such a look is seen; nothing if they are."""
+        height = self.row.height
+        if self.row.is_hidden or height is not None and height < _LOWEST:
             return f"its row is hidden; {_HINT}"
-        if self.height is not None and self.height < look.size / 2:
+        if height is not None and height < look.size / 2:
             return f"its row is lower than half its font; {_HINT}"
+        return ""
+
+    def _find_reason_of_column(self, column: int) -> str:
+        """Why no cell of a column is seen; nothing if they are."""
         if column not in self.widths and self.usual_width < _NARROWEST:
             return f"its column is hidden; {_HINT}"
         return self.hidden.get(column, "")
 
-    def has_room(self, column: int, number: float) -> bool:
-        """Whether a column is as wide as the digits of a number."""
+    def find_room(self, column: int) -> int:
+        """The least number that has more digits than a column is wide."""
         width = self.widths.get(column, self.usual_width)
-        return number < float(10 ** min(int(width), 20))
+        room: int = 10 ** int(min(width, 20))
+        return room
+
+    @cached_property
+    def rooms(self) -> list[int]:
+        """Of each column from 0 to the last one of a form, the least number that it doesn't show:
+        0 if it isn't seen.
+        """
+        columns = range(MOST_CELLS + 1)
+        is_hidden = [bool(self._find_reason_of_column(column)) for column in columns]
+        return [0 if is_hidden[column] else self.find_room(column) for column in columns]
 
     def rows_in_collapsed_groups(self) -> Iterator[int]:
         """The rows that are in a group, if one of the groups is collapsed."""

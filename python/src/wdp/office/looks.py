@@ -5,7 +5,7 @@ and its colours may hide the value or repeat it.
 """
 import colorsys
 import re
-from collections.abc import Iterable, Iterator, Mapping, Sequence
+from collections.abc import Iterator, Mapping, Sequence
 from dataclasses import dataclass, field, replace
 from typing import TypeVar
 from xml.etree.ElementTree import Element
@@ -26,6 +26,7 @@ _BLACK: Colour = (0, 0, 0)
 _WHITE: Colour = (255, 255, 255)
 _NEAREST = 48  # of 255: how far a channel of a colour has to be from that of what is behind it
 _SMALLEST_FONT = 6  # points
+_MOST_FONTS = 1_024  # and fills: as many fonts as a spreadsheet has at most
 _LARGEST_FONT = 72
 _MOST_INDENT = 15
 _USUAL_SIZE = 11.0
@@ -114,7 +115,9 @@ def is_near(one: Colour, other: Colour) -> bool:
     >>> is_near((255, 255, 255), (207, 255, 230)), is_near((255, 255, 255), (206, 255, 255))
     (True, False)
     """
-    return all(abs(a - b) <= _NEAREST for a, b in zip(one, other, strict=True))
+    (red, green, blue), (other_red, other_green, other_blue) = one, other
+    is_so = abs(red - other_red) <= _NEAREST and abs(green - other_green) <= _NEAREST
+    return is_so and abs(blue - other_blue) <= _NEAREST
 
 
 def mix(one: Colour, other: Colour) -> Iterator[Colour]:
@@ -137,9 +140,11 @@ class Look:
     size: float = _USUAL_SIZE
     traits: frozenset[str] = frozenset()
 
-    def is_near_any(self, colours: Iterable[Colour]) -> bool:
-        """Whether its font can't be told from one of these colours."""
-        return any(is_near(self.font, colour) for colour in colours)
+    @property
+    def shown(self) -> range:
+        """The whole numbers that it is known to show as they are."""
+        is_other = self.hides or self.turns or self.number_format.is_date
+        return range(0) if is_other else self.number_format.shown
 
     def find_reason(self, number: float | None) -> str:
         """Why a number, or a text, isn't known to be shown as it is; nothing if it is."""
@@ -260,6 +265,8 @@ class Styles:
             root = part.read()
             part.check(root)
             lists = {part.name(each.tag): list(each) for each in root}
+            if max(len(lists.get("fonts", [])), len(lists.get("fills", []))) > _MOST_FONTS:
+                raise BadWorkbook(f"it has more than {_MOST_FONTS:,} fonts or fills")
             for colours in lists.get("colors", []):
                 if part.name(colours.tag) == "indexedColors":
                     palette.take_indexed(list(colours), part)

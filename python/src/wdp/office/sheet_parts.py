@@ -7,12 +7,15 @@ from dataclasses import dataclass
 from xml.etree.ElementTree import Element
 
 from wdp.office.archives import Archive, BadWorkbook, XmlPart
-from wdp.office.cells import ALL, LAST_COLUMN, LAST_ROW, Area, Values
+from wdp.office.cells import ALL, LAST_COLUMN, LAST_ROW, Area, Values, parse_cell
 from wdp.office.faults import quote
-from wdp.office.looks import OFF, Colour, Condition, Styles, format_colour, is_on, mix
+from wdp.office.looks import OFF, Colour, Condition, Styles, format_colour, is_near, is_on, mix
 from wdp.office.remarks import Remarks
 
 _MOST_AREAS = 500  # merged, of conditions, or under drawings
+_MOST_RULES = 500  # of conditions
+_MOST_COMPARED = 200_000  # colours of conditions with colours of fonts
+_MOST_SCANS = 16  # of all cells, for fonts that can't be told from a colour of a condition
 _FROZEN = ("frozen", "frozenSplit")
 # what a sheet may be linked to beside comments, drawings and tables: nothing of it is seen in cells
 _HARMLESS = (
@@ -52,6 +55,8 @@ class _Surroundings:
     values: Values
     remarks: Remarks
     areas: int = 0
+    rules: int = 0
+    compared: int = 0
 
     def parse_areas(self, text: str, what: str) -> list[Area]:
         """The areas of a text, which are separated by spaces."""
@@ -93,27 +98,38 @@ class _Surroundings:
         texts = [element.get("sqref", "")]
         texts += [each.text or "" for each in element if _strip(each.tag) == "sqref"]
         areas = self.parse_areas(" ".join(filter(None, texts)), f"the cells of its {name!r}")
-        for rule in element:
-            if _strip(rule.tag) == "cfRule":
-                self.check_condition(self._read_rule(rule), areas)
-
-    def check_condition(self, condition: Condition, areas: Sequence[Area]) -> None:
-        """Adds a fault if a condition may hide a value of these areas, and else names the cells if
-        it may change how they look.
-        """
-        for area in areas:
+        rules = [rule for rule in element if _strip(rule.tag) == "cfRule"]
+        self.rules += len(rules)
+        if self.rules > _MOST_RULES:
+            raise BadWorkbook(f"it has more than {_MOST_RULES} conditions")
+        conditions = [self._read_rule(rule) for rule in rules]
+        hides = next((each.hides for each in conditions if each.hides), "")
+        near = self._find_near([colour for each in conditions for colour in each.colours])
+        for area in areas if conditions else ():
             cell = self.values.find_first(area)
-            near = self.values.find_near(area, list(condition.colours))
-            if cell and condition.hides:
-                self.remarks.add_fault(cell, f"{condition.hides}; remove the condition")
-            elif near:
-                colour = format_colour(condition.colours[0])
-                why = (
-                    f"a condition may put a fill behind it, {colour}, as dark or light as its font"
-                )
-                self.remarks.add_fault(near, f"{why}; remove the condition")
+            hidden, font = self.values.find_font(area, frozenset(near)) or ("", None)
+            if cell and hides:
+                self.remarks.add_fault(cell, f"{hides}; remove the condition")
+            elif font:
+                fill = format_colour(near[font])
+                why = f"a condition may put a fill behind it, {fill}, as dark or light as its font"
+                self.remarks.add_fault(hidden, f"{why}; remove the condition")
             elif cell:
                 self.remarks.conditions.append(area)
+
+    def _find_near(self, fills: Sequence[Colour]) -> dict[Colour, Colour]:
+        """The colours of fonts that can't be told from one of these, with that one."""
+        fonts = self.values.fonts
+        self.compared += len(fills) * len(fonts)
+        near: dict[Colour, Colour] = {}
+        if self.compared <= _MOST_COMPARED:
+            for fill in dict.fromkeys(fills):
+                for font in fonts:
+                    if is_near(font, fill):
+                        near.setdefault(font, fill)
+        if self.compared > _MOST_COMPARED or self.values.scans > _MOST_SCANS:
+            raise BadWorkbook("its conditions and its fonts have too many colours")
+        return near
 
     def _read_rule(self, rule: Element) -> Condition:
         """What a rule gives to cells, by a style of the workbook or its own."""
@@ -176,10 +192,10 @@ class _Surroundings:
     def _take_comments(self, part: XmlPart, tag: str) -> None:
         for element in part.read().iter():
             if part.name(element.tag) == tag:
-                area = Area.parse(element.get("ref", ""))
-                if area is None:
+                cell = element.get("ref", "")
+                if parse_cell(cell) is None:
                     raise BadWorkbook("its comments aren't understood")
-                self.remarks.comments.append(area)
+                self.remarks.comments.append(cell)
 
     def _take_drawing(self, part: XmlPart) -> None:
         """Takes the cells under each drawing: up to the sheet's end, if its size isn't in cells."""

@@ -64,6 +64,8 @@ class File:
     # whether there may be more rows, which weren't read
     is_cut: bool = False
     bids: int | None = None
+    # the places of formulas without a stored value
+    blank: set[str] = field(default_factory=set)
 
     @property
     def bidder(self) -> str:
@@ -75,9 +77,9 @@ class File:
         """The rows as the program reads them."""
         return encode("".join(format_record(row.values) for row in self.rows))
 
-    def add_fault(self, place: str, text: str) -> None:
+    def add_fault(self, place: str, text: str, *, is_least: bool = False) -> None:
         """Adds a fault at a place in the file."""
-        self.faults.append(Fault(f"{self.path}:{place}", text))
+        self.faults.append(Fault(f"{self.path}:{place}", text, is_least=is_least))
 
     def add_warning(self, text: str) -> None:
         """Adds a change that a person has to know of."""

@@ -6,6 +6,7 @@ fault with its cell. What differs among the bids and hides nothing is named in t
 """
 import datetime
 import re
+from collections import defaultdict
 from collections.abc import Collection, Iterator, Mapping, Sequence
 from dataclasses import dataclass, field
 from itertools import islice
@@ -13,10 +14,17 @@ from xml.etree.ElementTree import Element
 
 from wdp.files import Unreadable
 from wdp.office.archives import NO_WORKBOOK, Archive, BadWorkbook, XmlPart, find_part
-from wdp.office.cells import LAST_COLUMN, LAST_ROW, Area, Values, format_column, parse_cell
+from wdp.office.cells import (
+    LAST_COLUMN,
+    LAST_ROW,
+    Area,
+    Values,
+    format_column,
+    parse_cell,
+)
 from wdp.office.faults import quote
-from wdp.office.known import KNOWN
-from wdp.office.layout import IN_COLLAPSED_GROUP, MOST_CELLS, Layout
+from wdp.office.formats import GENERAL, MOST_SHOWN, NumberFormat
+from wdp.office.layout import IN_COLLAPSED_GROUP, MOST_CELLS, Layout, RowLook
 from wdp.office.looks import INDEX, NUMBER, Look, Palette, Styles, is_on
 from wdp.office.remarks import Remarks
 from wdp.office.sheet_parts import check_surroundings
@@ -24,6 +32,7 @@ from wdp.office.sheets import NOT_STORED, File
 from wdp.texts.tables import TableRow
 
 _LONGEST_NAME = 31  # characters of a sheet's name
+_MOST_SHEETS = 1_000
 _MOST_SHEETS_NAMED = 9  # in a message
 _MOST_OF_A_TITLE = 20  # rows of another sheet, of which one may be the first row of a form
 
@@ -33,7 +42,13 @@ _TRUTHS = {"1": "TRUE", "0": "FALSE", "true": "TRUE", "false": "FALSE"}
 _ERROR = re.compile(r"#[A-Z0-9/_]+[!?]?")
 _DATE = re.compile("[0-9]{4}-[0-9]{2}-[0-9]{2}(?:T[0-9:.]+Z?)?")
 _TEXTS = ("s", "str", "inlineStr")
+_TEXT = "text"  # what kind of fault a number is that is written as a text
+_LONGEST_USUAL = 15  # characters of a number
+_MOST_VALUES = 150_000  # cells, more than a form has
+_MOST_ODD = 10_000  # cells that no form may have, after which the rest isn't read
+_MOST_SPILLED = 4_100  # formulas with values in other cells, more than a form has rows
 _SPILLED = ("array", "dataTable")
+_Style = tuple[str | None, str | None]
 _EPOCHS = {False: datetime.datetime(1899, 12, 30), True: datetime.datetime(1904, 1, 1)}
 
 
@@ -77,6 +92,8 @@ class _Workbook:
             if part.name(element.tag) == "workbookPr":
                 self.is_of_1904 = is_on(element.get("date1904"))
             if part.name(element.tag) == "sheets":
+                if len(element) > _MOST_SHEETS:
+                    raise BadWorkbook(f"it has more than {_MOST_SHEETS:,} sheets")
                 for sheet in element:
                     self._add_sheet({part.attribute(key): value for key, value in sheet.items()})
         self.texts = self._read_texts()
@@ -121,6 +138,14 @@ class _Workbook:
             palette.take_theme(part.read(), part)
         name = find_part(self.links, "styles")
         return Styles(self.archive.parse(name) if name is not None else None, palette)
+
+
+@dataclass(frozen=True, slots=True)
+class _Usual:
+    """How cells look that are alike, and the numbers that they are known to show as they are."""
+
+    look: Look
+    shown: range
 
 
 @dataclass(slots=True)
@@ -179,10 +204,13 @@ class _SheetReader:
     spilled: list[Area] = field(default_factory=list)
     row: int = 0
     column: int = 0
-    cells: list[_Cell] = field(default_factory=list)
-    # the attributes of rows and cells that are known
-    known_of_row: set[str] = field(default_factory=lambda: set(KNOWN["row"].attributes))
-    known_of_cell: set[str] = field(default_factory=lambda: set(KNOWN["c"].attributes))
+    # how many cells have a value, and how many of them no form may have
+    count: int = 0
+    odd: int = 0
+    # what is known of cells by how their row is, the style that they name, and that of their column
+    usual: defaultdict[RowLook, dict[_Style, _Usual]] = field(
+        default_factory=lambda: defaultdict(dict)
+    )
 
     def rows(self) -> Iterator[TableRow]:
         """The rows that have a value."""
@@ -192,11 +220,15 @@ class _SheetReader:
             if not self.row:
                 self.layout.take_sheet(self.part)
             self._begin_row(row)
-            self.cells = [cell for cell in map(self._read_cell, row) if cell]
-            if self.cells:
+            values = self._read_row(row)
+            if values:
                 self.file.empty += self.row - last - 1
                 last = self.row
-                yield self._make_row()
+                places = _Places(self.sheet.name, self.row, len(values))
+                yield TableRow(values, self.row, places)
+            if self.odd > _MOST_ODD:
+                self.file.is_cut = True
+                return
         if self.part.name(self.part.root.tag) != "worksheet":
             raise BadWorkbook(f"the sheet {quote(self.sheet.name)} is no sheet of cells")
         if not any(self.part.name(each.tag) == "sheetData" for each in self.part.root):
@@ -205,13 +237,18 @@ class _SheetReader:
             self._finish()
             self.part.check(self.part.root)
 
+    def add_faults(self) -> None:
+        """Adds what is wrong with cells, and that rows aren't read if too much is."""
+        self.remarks.add_to(self.file, self.sheet.name, self.values)
+        if self.odd > _MOST_ODD:
+            why = f"its row isn't read, since more than {_MOST_ODD:,} cells above can't be taken"
+            self.file.add_fault(f"{self.sheet.name}!A{self.row + 1}", why, is_least=True)
+
     def _finish(self) -> None:
         """Looks at what may change how the cells are shown that were read."""
-        for area in self.spilled:
-            self.remarks.spilled += self.values.list_first([area])
-        for row in self.layout.rows_in_collapsed_groups():
-            for cell in self.values.list_first([Area(row, 1, row, LAST_COLUMN)]):
-                self.remarks.add_fault(cell, IN_COLLAPSED_GROUP)
+        self.remarks.spilled = self.values.list_within(self.spilled)
+        for cell in self.values.list_rows(set(self.layout.rows_in_collapsed_groups())):
+            self.remarks.add_fault(cell, IN_COLLAPSED_GROUP)
         check_surroundings(
             self.part,
             self.sheet.part,
@@ -234,12 +271,94 @@ class _SheetReader:
             raise BadWorkbook(why, f"A{number}")
         self.row = int(number)
         self.column = 0
-        if not self.known_of_row.issuperset(row.keys()):
-            self.part.check_attributes(row, f"A{number}")
-            self.known_of_row.update(row.keys())
+        self.part.check_attributes(row, f"A{number}")
         self.layout.take_row(row, self.row)
 
-    def _read_cell(self, element: Element) -> _Cell | None:
+    def _read_row(self, row: Element) -> list[str]:
+        """The values of a row up to its last one."""
+        values: list[str] = []
+        usual = self.usual[self.layout.row]
+        for element in row:
+            value = self._read_usual(element, usual)
+            if value is None:
+                value = self._read_cell(element)
+            if value is not None:
+                gap = self.column - 1 - len(values)
+                # (a bid has no empty field, though a row may have none after its last one)
+                self.odd += gap
+                values += [""] * gap
+                values.append(value)
+        if values:
+            self.values.first_row = self.values.first_row or self.row
+            self.count += len(values) - values.count("")
+            if self.count > _MOST_VALUES:
+                raise BadWorkbook(f"it has more than {_MOST_VALUES:,} cells with a value")
+        return values
+
+    def _read_usual(self, element: Element, usual: dict[_Style, _Usual]) -> str | None:
+        """The number of the next cell of the row, if it has nothing else that is to be looked at."""
+        following = self.column + 1
+        place = f"{format_column(following)}{self.row}"
+        number = self._find_usual(element, place)
+        if number is None or following > MOST_CELLS:
+            return None
+        style = element.get("s")
+        key = style, None if style is not None else self.layout.styles.get(following)
+        known = usual.get(key)
+        if known is None:
+            known = usual[key] = self._judge_usual(following, style)
+        room = self.layout.rooms[following]
+        if number not in known.shown or not room:
+            return None
+        if number >= room:
+            self.remarks.narrow.append(place)
+        if len(element) == 2:
+            self.remarks.formulas.append(place)
+        self.column = following
+        self.values.columns[following].add(self.row, known.look)
+        return str(number)
+
+    def _find_usual(self, element: Element, place: str) -> int | None:
+        """The number of a cell that has nothing else than that, and perhaps a formula that has no
+        values in other cells.
+        """
+        name = self.part.name
+        if not 0 < len(element) < 3 or element.get("r", place) != place or name(element.tag) != "c":
+            return None
+        value = element[-1]
+        if element.get("t", "n") != "n" or name(value.tag) != "v" or len(value) or value.keys():
+            return None
+        if len(element) == 2:
+            formula = element[0]
+            spills = formula.get("t") in _SPILLED and formula.get("ref") != place
+            if spills or name(formula.tag) != "f" or len(formula) or not self.part.knows(formula):
+                return None
+        return _parse_whole(value.text or "") if self.part.knows(element) else None
+
+    def _judge_usual(self, column: int, style: str | None) -> _Usual:
+        """What is known of the cells of a column that name this style."""
+        styles = [style] if style is not None else self.layout.list_styles(column)
+        looks = [look for look in map(self.book.styles.find, styles) if look]
+        if len(looks) < len(styles) or self.layout.find_reason_of_row(looks[0]):
+            return _Usual(Look(NumberFormat(GENERAL)), range(0))
+        ranges = [look.shown for look in looks]
+        least = max(each.start for each in ranges)
+        return _Usual(looks[0], range(least, min(each.stop for each in ranges)))
+
+    def _read_cell(self, element: Element) -> str | None:
+        """The value of a cell of the row, or None if it has nothing."""
+        cell = self._parse_cell(element)
+        if cell is None:
+            return None
+        value, number = self._parse_value(cell)
+        look = self._find_look(cell, number)
+        if number is not None and look.number_format.is_date:
+            value = _format_date(number, is_of_1904=self.book.is_of_1904) or value
+        if not self.rows_alone:
+            self._check_cell(cell, value, number if value.isdecimal() else None, look)
+        return value
+
+    def _parse_cell(self, element: Element) -> _Cell | None:
         """A cell of the row, or None if it has nothing."""
         following = f"{format_column(self.column + 1)}{self.row}"
         name = element.get("r", following)
@@ -247,15 +366,11 @@ class _SheetReader:
             self.part.refuse(element, "row", f"A{self.row}")
             return None
         self.column = self.column + 1 if name == following else self._parse_place(name)
+        if not len(element) and self.part.knows(element):
+            return None
         cell = _Cell(self.column, name, kind=element.get("t", "n"), style=element.get("s"))
-        values = list(element)
-        is_plain = self.known_of_cell.issuperset(element.keys()) and len(values) == 1
-        if is_plain and self.part.name(values[0].tag) == "v" and not values[0].keys():
-            if len(values[0]) == 0:
-                cell.take_value(values[0].text or "", is_inline=False)
-                return cell if cell.value is not None else None
         self.part.check(element, name)
-        for each in values:
+        for each in element:
             match self.part.name(each.tag):
                 case "f":
                     cell.is_formula = True
@@ -281,44 +396,37 @@ class _SheetReader:
 
     def _take_range(self, formula: Element, place: str) -> None:
         """Takes the cells that have values of a formula."""
-        if formula.get("t") not in _SPILLED or "ref" not in formula.keys():
+        if formula.get("t") not in _SPILLED or formula.get("ref") in (None, place):
             return
         area = Area.parse(formula.get("ref", ""))
         if area is None:
             raise BadWorkbook("the cells of its formula aren't understood", place)
         self.spilled.append(area)
-
-    def _make_row(self) -> TableRow:
-        """The row of the cells that were read."""
-        width = self.cells[-1].column
-        values = [""] * width
-        for cell in self.cells:
-            value, number = self._parse_value(cell)
-            look = self._find_look(cell, number)
-            if number is not None and look.number_format.is_date:
-                value = _format_date(number, is_of_1904=self.book.is_of_1904) or value
-            values[cell.column - 1] = value
-            if not self.rows_alone:
-                self._check_cell(cell, value, number if value.isdecimal() else None, look)
-        return TableRow(values, self.row, _Places(self.sheet.name, self.row, width))
+        if len(self.spilled) > _MOST_SPILLED:
+            raise BadWorkbook(
+                f"it has more than {_MOST_SPILLED:,} formulas of several cells", place
+            )
 
     def _check_cell(self, cell: _Cell, value: str, number: float | None, look: Look) -> None:
         """Adds what is wrong with a cell, which has a text or a whole number."""
         if cell.is_formula:
             self.remarks.formulas.append(cell.place)
             if cell.value is None:
-                self.file.add_fault(f"{self.sheet.name}!{cell.place}", NOT_STORED)
-        self.values.first_row = self.values.first_row or self.row
-        is_head = self.row == self.values.first_row
+                self.odd += 1
+                self.remarks.add_fault(cell.place, NOT_STORED)
+                self.file.blank.add(f"{self.file.path}:{self.sheet.name}!{cell.place}")
+        is_head = self.values.first_row in (0, self.row)
         if not is_head and cell.kind in _TEXTS and value.strip().isdecimal():
-            text = f"{quote(value)} is a text; turn it into a number"
-            self.file.add_fault(f"{self.sheet.name}!{cell.place}", text)
-        hidden = self.layout.find_reason(cell.column, look)
-        if reason := hidden or look.find_reason(number):
+            why = f"{quote(value)} is a text; turn it into a number"
+            self.remarks.add_fault(cell.place, why, kind=_TEXT)
+        reason = self.layout.find_reason(cell.column, look) or look.find_reason(number)
+        if reason:
             self.remarks.add_fault(cell.place, reason)
-        if number is not None and not self.layout.has_room(cell.column, number):
+        is_number = number is not None and cell.kind not in _TEXTS
+        self.odd += bool(reason) or not is_head and not is_number and value != ""
+        if number is not None and number >= self.layout.find_room(cell.column):
             self.remarks.narrow.append(cell.place)
-        self.values.add(self.row, cell.column, look)
+        self.values.columns[cell.column].add(self.row, look)
 
     def _parse_value(self, cell: _Cell) -> tuple[str, float | None]:
         """A cell's value as a field, and its number if it has one; what is no whole number stays
@@ -361,6 +469,14 @@ class _SheetReader:
         if len(looks) == 1:
             return looks[0]
         return next((look for look in looks if look.find_reason(number)), looks[0])
+
+
+def _parse_whole(text: str) -> int | None:
+    """A whole number, which isn't below 0, as a cell has it; None if it isn't one."""
+    if text.isdigit() and text.isascii() and len(text) <= _LONGEST_USUAL:
+        return int(text)
+    number = float(text) if NUMBER.fullmatch(text) else -1.0
+    return int(number) if number.is_integer() and 0 <= number < MOST_SHOWN else None
 
 
 def _format_date(number: float, *, is_of_1904: bool) -> str:
@@ -423,7 +539,7 @@ def _fill_from_sheet(file: File, most: int, name: str | None, heads: Collection[
     except BadWorkbook as bad:
         place = f"{file.path}:{sheet.name}!{bad.cell}" if bad.cell else file.path
         raise Unreadable(place, bad.why) from None
-    reader.remarks.add_to(file, sheet.name, reader.values)
+    reader.add_faults()
 
 
 def read_workbook(
