@@ -1,0 +1,4 @@
+pub mod Answers
+pub mod Digests
+pub mod Heads
+pub mod MachineLaws
