@@ -126,7 +126,7 @@ fn read_call<'c>(rules: &Rules, kind: &[u8], mut fields: Fields<'c>) -> Option<C
 
 // The call whose head line has this length without its end.
 fn find_call_of<'c>(rules: &Rules, bytes: &'c [u8], line_len: usize) -> Option<Found<'c>>
-    requires { line_len < length bytes.now }
+    requires { (line_len < length bytes.now) × (line_len < 1024) }
     ensures { IfSome result (λ f. IfFound f (λ n. (0 < n) × (n ≤ length bytes.now))) }
 {
     let mut fields = Fields::of_line(&bytes[..line_len]);

@@ -1,6 +1,6 @@
 //! A desk: its rules, its book, and the end of its journal.
 
-ghost use Rattle.std.specs.Prelude.{◌≡◌, ◌≢◌, IfOk, MatchOption};
+ghost use Rattle.std.specs.Prelude.{◌≡◌, ◌≢◌, IfOk, MatchOption, length};
 ghost use Rattle.bid_book.specs.History.{MayMakeBy, call_value, reply_value};
 ghost use Rattle.bid_book.specs.declared.reply.Reply.TheVariants as limit;
 ghost use Rattle.desk_book.specs.Answers.{IsLine, IsRecorded, IsTakenAs, IsTold};
@@ -200,7 +200,9 @@ impl<J: Judge + Drop> Desk<J> {
         (entries, changes)
     }
 
-    pub fn entries(&self) -> u64 {
+    pub fn entries(&self) -> u64
+        ensures { result ≡ length self.now.book }
+    {
         self.book.history().len() as u64
     }
 

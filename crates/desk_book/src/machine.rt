@@ -1,6 +1,7 @@
 //! The desk as what answers the calls of a line.
 
-ghost use Rattle.std.specs.Prelude.{◌≡◌, IfOk, refl, take};
+ghost use Rattle.std.specs.Prelude.{◌≡◌, ◌∷◌, ◌++◌, [], IfOk, OnOk, refl, take};
+ghost use Rattle.bid_book.specs.History.{IsRightAfterBy, entry_value};
 ghost use Rattle.desk_line.specs.Fronts.{IsFrontWithin};
 ghost use Rattle.desk_book.specs.Answers.{IsAnswer, begun, mark_of};
 ghost use Rattle.desk_book.specs.MachineLaws.{whole_within, extent_after};
@@ -9,9 +10,10 @@ use crate::calls::{Found, find_call};
 use crate::commitment::Commitment;
 use crate::desk::{Desk, Told};
 use crate::judge::Judge;
-use bid_book::Book;
+use bid_book::{Book, Entry};
 use desk_line::{Front, Machine, Mark};
 use std::alloc::{AllocError, Global};
+use std::sync::Arc;
 
 impl<J: Judge + Drop> Machine for Desk<J> {
     ghost fronts = { λ _ bytes f. IsFrontWithin bytes f };
@@ -81,6 +83,21 @@ impl<J: Judge + Drop> Machine for Desk<J> {
     }
 }
 
+// Adds an entry that comes rightly after those of a book.
+fn add_copy(
+    book: &mut Book<Commitment>,
+    entry: &Entry<Arc<Commitment, Global>>,
+) -> Result<(), AllocError>
+    requires { IsRightAfterBy (λ c. c.bidder) book.old (entry_value entry.now) }
+    ensures { OnOk result (book.new ≡ book.old ++ entry_value entry.now ∷ []) }
+{
+    let call = entry.call.share()?;
+    match book.step(entry.caller, call) {
+        Ok(_) => Ok(()),
+        Err(_) => Err(AllocError),
+    }
+}
+
 // The book of the first so many entries of another.
 fn first_entries(
     alloc: Global,
@@ -93,11 +110,7 @@ fn first_entries(
     let history = book.history();
     let most = (history.len() as u64).min(count) as usize;
     for place in 0..most {
-        let entry = &history[place];
-        let call = entry.call.share()?;
-        if fresh.step(entry.caller, call).is_err() {
-            return Err(AllocError);
-        }
+        add_copy(&mut fresh, &history[place])?;
     }
     Ok(fresh)
 }

@@ -1,5 +1,7 @@
 //! What opens commitments.
 
+ghost use Rattle.std.specs.Prelude.{◌<◌, ◌≤◌, IfOk, length};
+
 use crate::fields::Fields;
 use crate::heads::{Line, find_line};
 
@@ -33,7 +35,9 @@ fn read_head(line: &[u8]) -> Option<(&[u8], usize)> {
 }
 
 /// The opening at the front of these bytes.
-pub fn find_opening(bytes: &[u8]) -> Result<Opening<'_>, OpeningFault> {
+pub fn find_opening(bytes: &[u8]) -> Result<Opening<'_>, OpeningFault>
+    ensures { IfOk result (λ o. (0 < o.len) × (o.len ≤ length bytes.now)) }
+{
     let Line::Whole(end) = find_line(bytes) else {
         return Err(OpeningFault);
     };

@@ -1,6 +1,7 @@
 //! Reading a journal again.
 
-ghost use Rattle.std.specs.Prelude.{◌≤◌, ◌<◌, IfSome, length};
+ghost use Rattle.std.specs.Prelude.{◌≤◌, ◌<◌, IfOk, IfSome, length};
+ghost use Rattle.bid_book.specs.History.{MayMakeBy, call_value};
 
 use crate::calls::Who;
 use crate::commitment::Commitment;
@@ -201,7 +202,10 @@ impl<J: Judge + Drop> Desk<J> {
         &self,
         alloc: Global,
         asked: &Asked<'_>,
-    ) -> Result<Option<BookCall<Arc<Commitment, Global>>>, AllocError> {
+    ) -> Result<Option<BookCall<Arc<Commitment, Global>>>, AllocError>
+        ensures { IfOk result (λ call. IfSome call (λ call. MayMakeBy (λ c. c.bidder) asked.now.caller
+            (call_value call))) }
+    {
         match (asked.kind, asked.caller) {
             (b"submit", Caller::Session { bidder, .. }) => {
                 let Some(commit) = asked.commit else {

@@ -51,7 +51,12 @@ fn add_entry(list: &mut Vec<u8>, text: &EntryText<'_>) -> Result<(), AllocError>
 }
 
 // Adds the lines of the entries between these bytes of a journal.
-fn add_entries(list: &mut Vec<u8>, bytes: &[u8], from: usize, end: usize) -> Result<(), AllocError> {
+fn add_entries(
+    list: &mut Vec<u8>,
+    bytes: &[u8],
+    from: usize,
+    end: usize,
+) -> Result<(), AllocError> {
     let mut at = from;
     while at < end {
         let Some(text) = find_entry(&bytes[at..end]) else {

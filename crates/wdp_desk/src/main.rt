@@ -16,7 +16,11 @@ use crate::settling::run_settle;
 use crate::words::{Words, read_words};
 use std::process::ExitCode;
 
-const USAGE: &str = "usage: wdp-desk JOURNAL < CALLS > REPLIES\n       wdp-desk --replay JOURNAL\n       wdp-desk --settle JOURNAL OPENINGS\n";
+const USAGE: &str =
+    "usage: wdp-desk JOURNAL < CALLS > REPLIES\n       wdp-desk --replay JOURNAL\n       wdp-desk --settle JOURNAL OPENINGS\n";
+
+/// What `--version` prints.
+const VERSION_LINE: &str = "wdp-desk 2.0.0\n";
 
 fn main(rt: HostRuntime) -> ExitCode {
     let status = match read_words(&rt) {
@@ -27,6 +31,10 @@ fn main(rt: HostRuntime) -> ExitCode {
         }
         Words::Help => {
             let _ = rt.print(USAGE);
+            0
+        }
+        Words::Version => {
+            let _ = rt.print(VERSION_LINE);
             0
         }
         Words::Wrong => {

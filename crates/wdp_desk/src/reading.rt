@@ -62,11 +62,7 @@ pub fn read_line<I: Read>(input: &mut I, bytes: &mut Vec<u8>, most: usize) -> io
 }
 
 /// Adds so many bytes. Tells whether there were so many.
-pub fn read_exactly<I: Read>(
-    input: &mut I,
-    bytes: &mut Vec<u8>,
-    count: usize,
-) -> io::Result<bool> {
+pub fn read_exactly<I: Read>(input: &mut I, bytes: &mut Vec<u8>, count: usize) -> io::Result<bool> {
     let mut block = [0u8; BLOCK_LEN];
     let mut left = count;
     for _ in 0..u64::MAX {
@@ -78,9 +74,7 @@ pub fn read_exactly<I: Read>(
         if found == 0 {
             return Ok(false);
         }
-        bytes
-            .extend_from_slice(&block[..found])
-            .map_err(no_memory)?;
+        bytes.extend_from_slice(&block[..found]).map_err(no_memory)?;
         left = left.saturating_sub(found);
     }
     Ok(false)

@@ -9,6 +9,7 @@ pub enum Words {
     Replay { journal: String },
     Settle { journal: String, openings: String },
     Help,
+    Version,
     Wrong,
 }
 
@@ -20,6 +21,7 @@ pub fn read_words(rt: &HostRuntime) -> Words {
     let _program = args.next();
     match (args.next(), args.next(), args.next(), args.next()) {
         (Some(word), None, None, None) if word.as_str() == "--help" => Words::Help,
+        (Some(word), None, None, None) if word.as_str() == "--version" => Words::Version,
         (Some(journal), None, None, None) if !journal.starts_with("--") => {
             Words::Filter { journal }
         }
