@@ -37,13 +37,6 @@ FORM_OF = {
     "Gamma": b"Gamma,A,B\n12,0,1\n",
 }
 FAR = "2096-12-01T12:00:00Z"
-FILTER = Path(__file__).with_name("stand_in_filter.py")
-
-
-def find_filter() -> str:
-    """The filter that is tried: the one that is named, or the tree's, or what stands in for it."""
-    tree = ROOT / "wdp-desk"
-    return os.environ.get("WDP_DESK") or str(tree if tree.exists() else FILTER)
 
 
 class Answer(NamedTuple):
@@ -125,7 +118,7 @@ class Served:
         self.lines: list[str] = []
         command = [sys.executable, "-m", "wdp", "desk", "serve", desk.where]
         command += ["--port", self.port, "--readers", 1, *words]
-        env = make_environment(WDP_DESK=find_filter(), **more)
+        env = make_environment(**more)
         self.process = start(command, env=env, stderr=subprocess.PIPE)
         self._reading = threading.Thread(target=self._read, daemon=True)
         self._reading.start()
