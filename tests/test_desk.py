@@ -9,43 +9,19 @@ import time
 from pathlib import Path
 
 import pytest
-from trials.desk import (
-    Call,
-    Close,
-    Desk,
-    Show,
-    Submit,
-    Withdraw,
-    commit_of,
-    digest_of,
-    entries_of,
-    front_of,
+from trials.desk import Call, Close, Desk, Show, Submit, Withdraw, digest_of, entries_of, front_of
+from trials.desk_calls import (
+    BIDDERS,
+    FAULTY,
+    FRONT,
+    RULES,
+    faults_of,
+    form_of,
+    random_call,
+    submission,
+    without_chains,
 )
 from trials.program import ROOT
-
-RULES = b"rules,1,1,,\ncategory,A,2,10,1\ncategory,B,1,5,1\nbidder,Alpha,9,8,\nbidder,Beta,9,1,\n"
-BIDDERS = [b"Alpha", b"Beta"]
-SESSIONS = {b"Alpha": 8, b"Beta": 1}
-FRONT = front_of(RULES)
-
-
-def salt_of(number: int) -> bytes:
-    return digest_of(b"salt %d" % number)
-
-
-def form_of(bidder: bytes, amount: int, bids: int = 1) -> bytes:
-    rows = [b"%d,1,0\n" % (20 + amount), b"%d,2,0\n" % (40 + amount)]
-    return bidder + b",A,B\n" + b"".join(rows[:bids])
-
-
-def submission(
-    bidder: bytes, amount: int, over: int | None, *, session: int = 1, at: int = 1, salt: int = 0, bids: int = 1
-) -> Submit:
-    text = form_of(bidder, amount, bids)
-    sealed = b"\x00sealed\n%call " + text
-    return Submit(
-        bidder, session, at, over, text, sealed, salt=salt_of(salt), owner=bidder, bids=bids
-    )
 
 
 def run(program: str, journal: Path, calls: bytes) -> subprocess.CompletedProcess[bytes]:
@@ -61,7 +37,10 @@ class Conversation:
 
     def __init__(self, program: str, journal: Path, front: bytes = FRONT) -> None:
         self.process = subprocess.Popen(
-            [program, str(journal)], stdin=subprocess.PIPE, stdout=subprocess.PIPE, stderr=subprocess.PIPE
+            [program, str(journal)],
+            stdin=subprocess.PIPE,
+            stdout=subprocess.PIPE,
+            stderr=subprocess.PIPE,
         )
         self.opened = self.ask(front)
 
@@ -88,49 +67,6 @@ class Conversation:
     def end(self) -> tuple[bytes, bytes, int]:
         out, error = self.process.communicate()
         return out, error, self.process.returncode
-
-
-def faults_of(wdp: str, text: bytes) -> bytes:
-    given = b"%rules\n" + RULES + b"%form\n" + text
-    return subprocess.run([wdp, "explain", "--json"], input=given, capture_output=True).stdout
-
-
-def random_call(chance: random.Random, wdp_faults: dict[bytes, bytes], number: int) -> Call:
-    bidder = chance.choice(BIDDERS)
-    session = chance.randint(1, SESSIONS[bidder])
-    over = chance.choice([None, *range(1, 6)]) if chance.random() < 0.5 else None
-    kind = chance.random()
-    if kind < 0.15:
-        return Show(bidder, session, number)
-    if kind < 0.35:
-        return Withdraw(bidder, session, number, chance.randint(0, 6))
-    if kind < 0.36:
-        return Close(number)
-    call = submission(
-        bidder, chance.randint(0, 3), over, session=session, at=number, salt=chance.randint(0, 2), bids=chance.randint(0, 2)
-    )
-    what = chance.random()
-    if what < 0.1:
-        return Submit(**{**vars(call), "commit": commit_of(salt_of(9), call.text)})
-    if what < 0.2:
-        text = chance.choice(list(wdp_faults))
-        return Submit(**{**vars(call), "text": text, "faults": wdp_faults[text]})
-    if what < 0.25:
-        other = form_of(BIDDERS[1 - BIDDERS.index(bidder)], 1)
-        return Submit(**{**vars(call), "text": other, "owner": BIDDERS[1 - BIDDERS.index(bidder)]})
-    if what < 0.28:
-        return Submit(**{**vars(call), "text": call.text.rstrip(b"\n")})
-    return call
-
-
-FAULTY = [
-    b"",
-    b"\n",
-    b"Nobody,A,B\n1,1,0\n",
-    b"Alpha,B,A\n1,1,0\n",
-    b"Alpha,A,B\n0,1,0\nx,1,0\n20,1\n",
-    b"Alpha,A,B\n" + b"1,9,9\n" * 12,
-]
 
 
 @pytest.fixture(scope="module")
@@ -169,7 +105,9 @@ def test_calls_in_pieces(
     model = Desk(FRONT, BIDDERS)
     wanted = [model.opened()] + [model.answer(call, 0) for call in calls]
     given = FRONT + b"".join(call.encode() for call in calls)
-    process = subprocess.Popen([wdp_desk, str(tmp_path / "j")], stdin=subprocess.PIPE, stdout=subprocess.PIPE)
+    process = subprocess.Popen(
+        [wdp_desk, str(tmp_path / "j")], stdin=subprocess.PIPE, stdout=subprocess.PIPE
+    )
     assert process.stdin and process.stdout
     os.set_blocking(process.stdout.fileno(), False)
     told = b""
@@ -187,12 +125,6 @@ def test_calls_in_pieces(
     ]
 
 
-def without_chains(told: bytes) -> list[list[bytes]]:
-    """The words of replies, but for the chains: how many calls come in one batch is the system's."""
-    lines = [line.split() for line in told.splitlines()]
-    return [words[:-1] if words and words[0].isdigit() else words for words in lines]
-
-
 def check_replay(program: str, journal: Path, model: Desk) -> None:
     told = replayed(program, journal)
     assert (told.stderr, told.returncode) == (b"", 0)
@@ -202,14 +134,26 @@ def check_replay(program: str, journal: Path, model: Desk) -> None:
     for line, entry in zip(lines[1:], entries):
         number, at, bidder, session, kind, over, commit, bids, *_ = entry.words
         assert line.split() == [
-            number, at, bidder, session, kind, over, entry.answer, entry.number, bids, commit, entry.chain,
+            number,
+            at,
+            bidder,
+            session,
+            kind,
+            over,
+            entry.answer,
+            entry.number,
+            bids,
+            commit,
+            entry.chain,
         ]
     wanted = []
     for name in BIDDERS:
         account = model.accounts[name]
         stands = account.standing
         shown = (
-            b"%d %d %d %s" % (stands.number, stands.entry, stands.bids, stands.commit) if stands else b"- - 0 -"
+            b"%d %d %d %s" % (stands.number, stands.entry, stands.bids, stands.commit)
+            if stands
+            else b"- - 0 -"
         )
         wanted.append(b"%%bidder %s %d %d %s" % (name, account.calls, account.changes, shown))
     state = b"open" if model.is_open else b"closed"
@@ -240,7 +184,9 @@ def test_a_race_of_sessions(wdp_desk: str, tmp_path: Path) -> None:
     """Of eight changes over one number, one is accepted."""
     calls = [submission(b"Alpha", number, None, session=1 + number) for number in range(8)]
     ran = run(wdp_desk, tmp_path / "j", FRONT + b"".join(call.encode() for call in calls))
-    assert [line.split()[1] for line in ran.stdout.splitlines()[1:]] == [b"accepted"] + [b"stale"] * 7
+    assert [line.split()[1] for line in ran.stdout.splitlines()[1:]] == [b"accepted"] + [
+        b"stale"
+    ] * 7
 
 
 NO_CALLS = {
@@ -256,7 +202,11 @@ NO_CALLS = {
     "19 digits": b"%close 1000000000000000000\n",
     "a withdrawal over none": b"%withdraw Beta 1 1 -\n",
     "a text too long": b"%submit Beta 1 1 - " + b"0" * 64 + b" " + b"0" * 64 + b" 4194305 0\n",
-    "a sealed form too long": b"%submit Beta 1 1 - " + b"0" * 64 + b" " + b"0" * 64 + b" 0 8388609\n",
+    "a sealed form too long": b"%submit Beta 1 1 - "
+    + b"0" * 64
+    + b" "
+    + b"0" * 64
+    + b" 0 8388609\n",
     "upper case": b"%submit Beta 1 1 - " + b"A" * 64 + b" " + b"0" * 64 + b" 0 0\n",
     "a long head": b"%close " + b"1" * 2_000,
     "the first call again": FRONT,
@@ -279,7 +229,9 @@ def test_an_input_that_ends_within_a_call(wdp_desk: str, tmp_path: Path) -> None
     call = submission(b"Alpha", 1, None).encode()
     for end in (1, 30, len(call) - 1):
         ran = run(wdp_desk, tmp_path / str(end), FRONT + call + call[:end])
-        assert ran.stderr == b"wdp-desk: byte %d: the input ends within a call\n" % len(FRONT + call)
+        assert ran.stderr == b"wdp-desk: byte %d: the input ends within a call\n" % len(
+            FRONT + call
+        )
         assert (ran.returncode, len(ran.stdout.splitlines())) == (1, 2)
 
 
@@ -311,7 +263,10 @@ def test_a_journal_of_another_round(wdp_desk: str, tmp_path: Path) -> None:
     for other in (front_of(RULES, name=b"other"), front_of(RULES + b"bidder,Gamma,9,1,\n")):
         ran = run(wdp_desk, journal, other)
         assert (ran.stdout, ran.returncode) == (b"", 1)
-        assert ran.stderr == b"wdp-desk: %s: it is of another round: its front differs\n" % os.fsencode(journal)
+        assert (
+            ran.stderr
+            == b"wdp-desk: %s: it is of another round: its front differs\n" % os.fsencode(journal)
+        )
     assert journal.read_bytes() == before
 
 
@@ -359,7 +314,9 @@ def test_kills_and_torn_ends(wdp_desk: str, tmp_path: Path, seed: int) -> None:
         desk = Conversation(wdp_desk, journal)
         for number in range(chance.randint(1, 12)):
             amount = turn * 100 + number
-            desk.send(submission(b"Alpha", amount, chance.choice([None, 1, 2, 3]), salt=number).encode())
+            desk.send(
+                submission(b"Alpha", amount, chance.choice([None, 1, 2, 3]), salt=number).encode()
+            )
             if chance.random() < 0.7:
                 told.append(desk.read())
         time.sleep(chance.random() * 0.01)
@@ -371,7 +328,10 @@ def test_kills_and_torn_ends(wdp_desk: str, tmp_path: Path, seed: int) -> None:
     desk = Conversation(wdp_desk, journal)
     assert int(desk.opened.split()[0]) >= len(told_entries(told))
     desk.end()
-    kept = {(entry.words[0], entry.chain): entry.end for entry in entries_of(FRONT, journal.read_bytes())}
+    kept = {
+        (entry.words[0], entry.chain): entry.end
+        for entry in entries_of(FRONT, journal.read_bytes())
+    }
     assert all(entry in kept for entry in told_entries(told))
 
 
@@ -439,7 +399,9 @@ def opening(call: Submit) -> bytes:
 def settled(program: str, journal: Path, openings: bytes) -> subprocess.CompletedProcess[bytes]:
     file = journal.with_name("openings")
     file.write_bytes(openings)
-    return subprocess.run([program, "--settle", str(journal), str(file)], capture_output=True, timeout=60)
+    return subprocess.run(
+        [program, "--settle", str(journal), str(file)], capture_output=True, timeout=60
+    )
 
 
 def test_settlement(wdp: str, wdp_desk: str, tmp_path: Path) -> None:

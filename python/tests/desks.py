@@ -7,7 +7,6 @@ import contextlib
 import csv
 import http.client
 import json
-import os
 import re
 import socket
 import subprocess
@@ -19,7 +18,7 @@ from dataclasses import dataclass
 from pathlib import Path
 from typing import Any, NamedTuple
 
-from commands import ROOT, CommandResult, make_environment, run, start, wait_for
+from commands import CommandResult, make_environment, run, start, wait_for
 
 RULES = """rules,1,1,,
 category,A,2,10,1

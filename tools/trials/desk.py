@@ -21,7 +21,12 @@ def commit_of(salt: bytes, text: bytes) -> bytes:
 
 
 def front_of(
-    rules: bytes, *, name: bytes = b"round", holders: bytes = b"-", closes: bytes = b"0", key: bytes = b"-"
+    rules: bytes,
+    *,
+    name: bytes = b"round",
+    holders: bytes = b"-",
+    closes: bytes = b"0",
+    key: bytes = b"-",
 ) -> bytes:
     """The first call, which is the front of the journal, too."""
     words = [b"%desk", b"2", name, digest_of(rules), holders, closes, key]

@@ -1,2 +1,3 @@
 mod Copies
+mod Extending
 mod Rewinding

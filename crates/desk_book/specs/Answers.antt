@@ -1,55 +1,63 @@
 -- What a desk makes of calls.
-use Rattle.std.specs.Prelude.{ℕ, List, [], ◌∷◌, ◌≡◌, ◌≢◌, ◌+◌, ◌++◌, ◌⊎◌, length, ⊤}
-use Rattle.bid_book.specs.History.{reply_due}
-use Rattle.bid_book.specs.declared.call.Caller.{Caller}
-use Rattle.bid_book.specs.declared.call.Call.{Call}
-use Rattle.bid_book.specs.declared.records.Entry.{Entry}
-use Rattle.bid_book.specs.declared.reply.Reply.TheVariants.{CallLimit}
-use Rattle.desk_line.specs.declared.machine.Mark.{Mark}
-use Rattle.desk_book.specs.declared.commitment.Commitment.{Commitment}
+use Rattle.std.specs.Prelude.{ℕ, List, [], ◌≡◌, ◌⊎◌, Bool, Option, Some, None, Result, Ok, Err, if◌then◌else◌, length}
+use Rattle.desk_book.specs.Judging.{judged}
+use Rattle.desk_book.specs.Recording.{IsRecordedAs, answer_due, asked_by, has_room}
+use Rattle.desk_book.specs.Replies.{taken_line, untaken_line}
+use Rattle.desk_book.specs.declared.answer.Answer.{Answer}
+use Rattle.desk_book.specs.declared.asked.Asked.{Asked}
+use Rattle.desk_book.specs.declared.calls.Call.{Call}
 use Rattle.desk_book.specs.declared.desk.Desk.{Desk}
-use Rattle.desk_book.specs.declared.desk.Told.{Told}
-use Rattle.desk_book.specs.declared.desk.Told.TheVariants.{Line, Taken}
+use Rattle.desk_book.specs.declared.untaken.Untaken.{Untaken}
+use Rattle.desk_book.specs.declared.untaken.Untaken.TheVariants as untaken
 
--- the book has one entry more: a call, with the reply that it is due
-pub record HasEntry (old new : List (Entry Commitment)) : Type 0 where
-  pub caller : Caller
-  pub call : Call Commitment
-  pub recorded : reply_due old caller call ≢ CallLimit
-  pub is : new ≡ old ++ record { caller = caller; call = call; reply = reply_due old caller call } ∷ []
+-- no call is left, if the book has no answer
+abbrev pub limit_if : Option Answer → Option Untaken
+limit_if None = Some untaken.CallLimit
+limit_if (Some told) = None
 
--- a call is recorded with the reply that it is due, and the journal is longer by this entry
-pub record IsRecorded {J : Type 0} (old : Desk J) (entry : List ℕ) (new : Desk J) : Type 0 where
-  pub judge : new.judge ≡ old.judge
-  pub rules : new.rules ≡ old.rules
-  pub rules_text : new.rules_text ≡ old.rules_text
-  pub durable : new.durable ≡ old.durable
-  pub extent : new.extent ≡ old.extent + length entry
-  pub book : HasEntry old.book new.book
+module _ {J : Type 0} (m : Desk J) where
+  -- why a call isn't recorded of which this may be: the journal has no room for it, or the bidder has no call left
+  abbrev pub no_room : Asked → Option Untaken
+  no_room a = if has_room m.extent a then limit_if (answer_due m a) else Some untaken.DiskFull
 
--- a call without an entry changes nothing; one with an entry is recorded
-abbrev pub IsAnswer : {J : Type 0} → Desk J → List ℕ → Desk J → Type 0
-IsAnswer old entry new = ((entry ≡ []) × (new ≡ old)) ⊎ IsRecorded old entry new
+  abbrev pub untaken_as : Call → Result ℕ Untaken → Option Untaken
+  untaken_as c (Ok bids) = no_room (asked_by c bids)
+  untaken_as c (Err why) = Some why
 
--- the same, by what is told
-abbrev pub IsTold : {J : Type 0} → Desk J → Told → Desk J → Type 0
-IsTold old (Line line) new = new ≡ old
-IsTold old (Taken line entry) new = IsRecorded old entry.items new
+  -- why nothing is recorded of a call, if nothing is
+  abbrev pub untaken_of : Call → Option Untaken
+  untaken_of c = untaken_as c (judged m c)
 
--- there is no entry
-abbrev pub IsLine : Told → Type 0
-IsLine (Line line) = ⊤
-IsLine (Taken line entry) = ⊥
+-- nothing is recorded of a call, and it is told why
+pub record IsCallUntaken {J : Type 0} (faults : J → List ℕ → List ℕ → List ℕ) (m : Desk J) (c : Call) (line : List ℕ) (n : Desk J) : Type 0 where
+  pub why : Untaken
+  pub due : untaken_of m c ≡ Some why
+  pub line_is : line ≡ untaken_line faults m c why
+  pub same : n ≡ m
 
--- there is this entry
-abbrev pub IsTakenAs : List ℕ → Told → Type 0
-IsTakenAs bytes (Line line) = ⊥
-IsTakenAs bytes (Taken line entry) = entry.items ≡ bytes
+-- a call is recorded, and is told the answer
+pub record IsCallTaken {J : Type 0} (m : Desk J) (c : Call) (line entry : List ℕ) (n : Desk J) : Type 0 where
+  pub bids : ℕ
+  pub told : Answer
+  pub due : untaken_of m c ≡ None
+  pub fit : judged m c ≡ Ok bids
+  pub recorded : IsRecordedAs m (asked_by c bids) told entry n
+  pub line_is : line ≡ taken_line (length n.book) c bids told n.chain
+
+-- a call is answered: nothing is recorded of it, or it is recorded
+abbrev pub IsTold : {J : Type 0} → (J → List ℕ → List ℕ → List ℕ) → Desk J → Call → List ℕ → List ℕ → Desk J → Type 0
+IsTold faults m c line entry n = ((entry ≡ []) × IsCallUntaken faults m c line n) ⊎ IsCallTaken m c line entry n
+
+-- nothing is told, and nothing changes
+pub record IsNothing {J : Type 0} (m : Desk J) (reply entry : List ℕ) (n : Desk J) : Type 0 where
+  pub told : reply ≡ []
+  pub kept : entry ≡ []
+  pub same : n ≡ m
+
+-- how bytes may be answered: as some call is, or not at all
+abbrev pub IsDeskAnswer : {J : Type 0} → (J → List ℕ → List ℕ → List ℕ) → Desk J → List ℕ → List ℕ → Desk J → Type 0
+IsDeskAnswer faults m reply entry n = IsNothing m reply entry n ⊎ ((c : Call) × IsTold faults m c reply entry n)
 
 -- the state in which all that is in the journal is on the disk
-abbrev pub begun : {J : Type 0} → Desk J → Desk J
-begun m = record m { durable = m.extent }
-
--- what is kept of a state to go back to it
-abbrev pub mark_of : {J : Type 0} → Desk J → Mark
-mark_of m = record { entries = length m.book; extent = m.extent; durable = m.durable; chain = m.chain }
+abbrev pub all_durable : {J : Type 0} → Desk J → Desk J
+all_durable m = record m { durable = m.extent }

@@ -5,13 +5,8 @@ ghost use Rattle.desk_book.specs.Heads.{IfFound};
 
 use crate::fields::Fields;
 use crate::heads::{Line, find_line};
-use auction_terms::Rules;
-
-/// The most bytes of a form.
-const TEXT_LIMIT: usize = 4 * 1024 * 1024;
-
-/// The most bytes of a sealed form.
-const SEALED_LIMIT: usize = 8 * 1024 * 1024;
+use crate::limits::SEALED_LIMIT;
+use auction_terms::{Rules, TEXT_LIMIT};
 
 /// Who makes a call, and when.
 #[derive(Clone, Copy)]
@@ -26,8 +21,8 @@ pub struct Who {
 pub struct Submission<'c> {
     pub who: Who,
     pub over: Option<u32>,
-    pub salt: &'c [u8],
-    pub commit: &'c [u8],
+    pub salt: [u8; 64],
+    pub commit: [u8; 64],
     pub text: &'c [u8],
     pub sealed: &'c [u8],
 }

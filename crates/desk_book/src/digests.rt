@@ -1,7 +1,7 @@
 //! Digests in hexadecimal digits.
 
 ghost use Rattle.std.specs.Prelude.{◌≡◌, ◌++◌, length};
-ghost use Rattle.desk_book.specs.Digests.{digest, commit};
+ghost use Rattle.desk_book.specs.Digests.{commit, sha_digits};
 ghost use Rattle.hex.specs.Hex.{encode_lower};
 
 use hex::encode_to_slice;
@@ -20,14 +20,14 @@ fn digits_of(bytes: [u8; 32]) -> [u8; 64]
 
 /// The digits of the SHA-256 of these bytes.
 pub fn digest_of(bytes: &[u8]) -> [u8; 64]
-    ensures { result ≡ digest bytes.now }
+    ensures { result ≡ sha_digits bytes.now }
 {
     digits_of(Sha256::digest(bytes))
 }
 
 /// The digits of the SHA-256 of two pieces, one after the other.
 pub(crate) fn digest_of_both(first: &[u8], second: &[u8]) -> [u8; 64]
-    ensures { result ≡ digest (first.now ++ second.now) }
+    ensures { result ≡ sha_digits (first.now ++ second.now) }
 {
     let mut hasher = Sha256::new();
     hasher.update(first);
@@ -36,18 +36,9 @@ pub(crate) fn digest_of_both(first: &[u8], second: &[u8]) -> [u8; 64]
 }
 
 /// The commitment to a text: the digest of the salt's digits and the digits of the text's digest.
-pub fn commit_of(salt: &[u8], text: &[u8]) -> [u8; 64]
+pub fn commit_of(salt: &[u8; 64], text: &[u8]) -> [u8; 64]
     ensures { result ≡ commit salt.now text.now }
 {
     let digest = digest_of(text);
     digest_of_both(salt, &digest)
-}
-
-/// The first 64 bytes, or a nought in the place of each that isn't there.
-pub(crate) fn copied_digest(digits: &[u8]) -> [u8; 64] {
-    let mut copy = [b'0'; 64];
-    for place in 0..digits.len().min(64) {
-        copy[place] = digits[place];
-    }
-    copy
 }

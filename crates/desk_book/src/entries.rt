@@ -1,60 +1,21 @@
 //! The entries of a journal, as text.
 
+ghost use Rattle.std.specs.Prelude.{◌≡◌, ◌++◌, IfOk, OnOk};
+ghost use Rattle.desk_book.specs.Entries.{name_word, call_words, chain_after, entry_front, entry_head, entry_tail, maker_words, who_words, with_chain};
+ghost use Rattle.desk_book.specs.Words.{spaced};
+
+use crate::answer::Answer;
+use crate::asked::Asked;
+use crate::calls::Who;
 use crate::digests::digest_of_both;
+use crate::writing::{add_next, add_next_number, add_next_or};
 use auction_terms::Rules;
-use itoa::Buffer;
 use std::alloc::{AllocError, Global};
 
-/// What an entry says of its call before the sealed form. A close has no bidder and no session.
-#[derive(Clone, Copy)]
-pub struct EntryHead<'c> {
-    pub entry: u64,
-    pub time: u64,
-    pub bidder: Option<u16>,
-    pub session: u8,
-    pub kind: &'c [u8],
-    pub over: Option<u32>,
-    pub commit: Option<&'c [u8]>,
-    pub bids: u32,
-}
-
-/// An entry: its call, the sealed form, and the answer.
-#[derive(Clone, Copy)]
-pub struct Entry<'c> {
-    pub head: EntryHead<'c>,
-    pub sealed: &'c [u8],
-    pub answer: &'static [u8],
-    pub number: Option<u32>,
-}
-
-// Adds a number and a byte.
-fn add_number(text: &mut Vec<u8>, number: u64, end: u8) -> Result<(), AllocError> {
-    let mut digits = Buffer::new();
-    text.extend_from_slice(digits.format(number).as_bytes())?;
-    text.push(end)?;
-    Ok(())
-}
-
-// Adds a number, or a hyphen for none, and a blank.
-fn add_number_if(text: &mut Vec<u8>, number: Option<u32>) -> Result<(), AllocError> {
-    match number {
-        Some(number) => add_number(text, u64::from(number), b' '),
-        None => text.extend_from_slice(b"- "),
-    }
-}
-
-// Adds a word and a blank.
-fn add_word(text: &mut Vec<u8>, word: &[u8]) -> Result<(), AllocError> {
-    text.extend_from_slice(word)?;
-    text.push(b' ')?;
-    Ok(())
-}
-
-/// The name of a bidder; a hyphen for none.
-pub(crate) fn name_of(rules: &Rules, bidder: Option<u16>) -> &[u8] {
-    let Some(bidder) = bidder else {
-        return b"-".as_slice();
-    };
+/// The name of a bidder.
+pub(crate) fn name_of(rules: &Rules, bidder: u16) -> &[u8]
+    ensures { result.now ≡ name_word rules.now bidder }
+{
     let Some(place) = usize::from(bidder).checked_sub(1) else {
         return b"-".as_slice();
     };
@@ -64,44 +25,96 @@ pub(crate) fn name_of(rules: &Rules, bidder: Option<u16>) -> &[u8] {
     }
 }
 
-// Adds the head line of an entry, of which so many bytes of the journal were on the disk when it was written.
+// Adds who makes a call, and when.
+fn add_who(text: &mut Vec<u8>, rules: &Rules, who: &Who) -> Result<(), AllocError>
+    ensures { OnOk result (text.new.items ≡ text.old.items ++ spaced (who_words rules.now who.now)) }
+{
+    add_next_number(text, who.time)?;
+    add_next(text, name_of(rules, who.bidder))?;
+    add_next_number(text, u64::from(who.session))
+}
+
+// Adds who makes a call that may be recorded, and when; a close is nobody's.
+fn add_maker(text: &mut Vec<u8>, rules: &Rules, asked: &Asked<'_>) -> Result<(), AllocError>
+    ensures { OnOk result (text.new.items ≡ text.old.items ++ spaced (maker_words rules.now asked.now)) }
+{
+    match asked {
+        Asked::Submit { who, .. } => add_who(text, rules, who),
+        Asked::Withdraw { who, .. } => add_who(text, rules, who),
+        Asked::Show { who } => add_who(text, rules, who),
+        Asked::Close { time } => {
+            add_next_number(text, *time)?;
+            text.extend_from_slice(b" - 0")
+        }
+    }
+}
+
+// Adds what is asked.
+fn add_call(text: &mut Vec<u8>, asked: &Asked<'_>) -> Result<(), AllocError>
+    ensures { OnOk result (text.new.items ≡ text.old.items ++ spaced (call_words asked.now)) }
+{
+    add_next(text, asked.kind())?;
+    add_next_or(text, asked.over(), b"-")?;
+    add_next(text, asked.commit_word())?;
+    add_next_number(text, u64::from(asked.bids()))
+}
+
+// Adds an entry's head line, if so many bytes of the journal were on the disk when it was written.
 fn add_head(
     text: &mut Vec<u8>,
     rules: &Rules,
-    entry: &Entry<'_>,
+    number: u64,
+    asked: &Asked<'_>,
     durable: u64,
-) -> Result<(), AllocError> {
-    let head = &entry.head;
-    add_word(text, b"%call")?;
-    add_number(text, head.entry, b' ')?;
-    add_number(text, head.time, b' ')?;
-    add_word(text, name_of(rules, head.bidder))?;
-    add_number(text, u64::from(head.session), b' ')?;
-    add_word(text, head.kind)?;
-    add_number_if(text, head.over)?;
-    add_word(text, head.commit.unwrap_or(b"-".as_slice()))?;
-    add_number(text, u64::from(head.bids), b' ')?;
-    add_number(text, entry.sealed.len() as u64, b' ')?;
-    add_number(text, durable, b'\n')?;
+) -> Result<(), AllocError>
+    ensures { OnOk result (text.new.items ≡ text.old.items ++ entry_head rules.now number asked.now durable) }
+{
+    text.extend_from_slice(b"%call")?;
+    add_next_number(text, number)?;
+    add_maker(text, rules, asked)?;
+    add_call(text, asked)?;
+    add_next_number(text, asked.sealed().len() as u64)?;
+    add_next_number(text, durable)?;
+    text.push(b'\n')?;
     Ok(())
 }
 
-/// The text of an entry, and the chain's end with it.
-pub(crate) fn entry_text(
+// Adds what an entry has behind the sealed form, up to its chain.
+fn add_tail(text: &mut Vec<u8>, answer: &Answer) -> Result<(), AllocError>
+    ensures { OnOk result (text.new.items ≡ text.old.items ++ entry_tail answer.now) }
+{
+    text.extend_from_slice(b"\n%reply")?;
+    add_next(text, answer.word())?;
+    add_next_or(text, answer.number(), b"-")?;
+    text.push(b' ')?;
+    Ok(())
+}
+
+/// What an entry has of a journal of which so many bytes were on the disk, up to its chain.
+pub(crate) fn front_text(
     alloc: Global,
     rules: &Rules,
-    entry: &Entry<'_>,
+    number: u64,
+    asked: &Asked<'_>,
+    answer: &Answer,
     durable: u64,
-    chain: &[u8; 64],
-) -> Result<(Vec<u8>, [u8; 64]), AllocError> {
+) -> Result<Vec<u8>, AllocError>
+    ensures { IfOk result (λ text. text.items ≡ entry_front rules.now number asked.now answer.now durable) }
+{
     let mut text = Vec::new(alloc);
-    add_head(&mut text, rules, entry, durable)?;
-    text.extend_from_slice(entry.sealed)?;
-    text.extend_from_slice(b"\n%reply ")?;
-    add_word(&mut text, entry.answer)?;
-    add_number_if(&mut text, entry.number)?;
+    add_head(&mut text, rules, number, asked, durable)?;
+    text.extend_from_slice(asked.sealed())?;
+    add_tail(&mut text, answer)?;
+    Ok(text)
+}
+
+/// Adds the chain's end with an entry, and gives it.
+pub(crate) fn end_entry(text: &mut Vec<u8>, chain: &[u8; 64]) -> Result<[u8; 64], AllocError>
+    ensures chain { IfOk result (λ linked. linked ≡ chain_after chain.now text.old.items) }
+    ensures text { OnOk result (text.new.items ≡ with_chain chain.now text.old.items) }
+{
     let linked = digest_of_both(chain, text.as_slice());
     text.extend_from_slice(&linked)?;
     text.push(b'\n')?;
-    Ok((text, linked))
+    Ok(linked)
 }

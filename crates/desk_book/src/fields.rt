@@ -60,9 +60,8 @@ impl<'c> Fields<'c> {
     }
 
     /// The next field, a digest.
-    pub(crate) fn digest(&mut self) -> Option<&'c [u8]> {
-        let field = self.next()?;
-        if is_digest(field) { Some(field) } else { None }
+    pub(crate) fn digest(&mut self) -> Option<[u8; 64]> {
+        digest_in(self.next()?)
     }
 
     /// The next field, a word.
@@ -87,10 +86,20 @@ fn change_of(field: &[u8]) -> Option<u32> {
     Some(found as u32)
 }
 
-/// Whether these are the hexadecimal digits of a digest.
-pub(crate) fn is_digest(field: &[u8]) -> bool {
-    field.len() == 64
-        && field.iter().all(|byte| byte.is_ascii_digit() || (b'a' <= *byte && *byte <= b'f'))
+fn is_digit(byte: u8) -> bool {
+    byte.is_ascii_digit() || (b'a' <= byte && byte <= b'f')
+}
+
+/// The digest whose hexadecimal digits these are.
+pub(crate) fn digest_in(field: &[u8]) -> Option<[u8; 64]> {
+    if field.len() != 64 || !field.iter().all(|byte| is_digit(*byte)) {
+        return None;
+    }
+    let mut digest = [b'0'; 64];
+    for place in 0..64 {
+        digest[place] = field[place];
+    }
+    Some(digest)
 }
 
 fn is_word(field: &[u8]) -> bool {

@@ -5,9 +5,7 @@ ghost use Rattle.std.specs.Prelude.{◌≤◌, ◌<◌, IfOk, length};
 use crate::digests::digest_of;
 use crate::fields::Fields;
 use crate::heads::{Line, find_line};
-
-/// The most bytes of rules.
-const RULES_LIMIT: usize = 4 * 1024 * 1024;
+use auction_terms::TEXT_LIMIT;
 
 /// The front of a journal: its first line, the text of the rules, and how many bytes it has.
 #[derive(Clone, Copy)]
@@ -31,7 +29,7 @@ pub enum FrontFault {
 }
 
 // The digest that the first line has of the rules.
-fn rules_digest(line: &[u8]) -> Option<&[u8]> {
+fn rules_digest(line: &[u8]) -> Option<[u8; 64]> {
     let mut fields = Fields::of_line(line);
     if fields.next()? != b"%desk".as_slice() || fields.next()? != b"2".as_slice() {
         return None;
@@ -50,7 +48,7 @@ fn rules_len(line: &[u8]) -> Option<usize> {
     if fields.next()? != b"%rules".as_slice() {
         return None;
     }
-    let len = fields.number_to(RULES_LIMIT)?;
+    let len = fields.number_to(TEXT_LIMIT)?;
     if fields.is_done() { Some(len) } else { None }
 }
 
@@ -84,7 +82,7 @@ pub fn find_front(bytes: &[u8]) -> Result<DeskFront<'_>, FrontFault>
         return Err(FrontFault::Short);
     }
     let rules = &texts[..count];
-    if digest_of(rules).as_slice() != digest {
+    if digest_of(rules) != digest {
         return Err(FrontFault::Digest);
     }
     if !rules.ends_with(b"\n") {

@@ -1,10 +1,9 @@
 //! Head lines.
 
 ghost use Rattle.std.specs.Prelude.{◌<◌, length};
-ghost use Rattle.desk_book.specs.Heads.{IfWhole};
+ghost use Rattle.desk_book.specs.inside.Lines.{IfWhole};
 
-/// The most bytes of a head line.
-pub(crate) const HEAD_LIMIT: usize = 1_024;
+use crate::limits::HEAD_LIMIT;
 
 /// What stands at the front of bytes: a head line of so many bytes without its end, the beginning of one, or none.
 #[derive(Clone, Copy)]

@@ -4,13 +4,12 @@ ghost use Rattle.std.specs.Prelude.{◌<◌, ◌≤◌, IfOk, length};
 
 use crate::fields::Fields;
 use crate::heads::{Line, find_line};
-
-const TEXT_LIMIT: usize = 4 * 1024 * 1024;
+use auction_terms::TEXT_LIMIT;
 
 /// A text with the salt of its commitment, and how many bytes both have with their head.
 #[derive(Clone, Copy)]
 pub struct Opening<'c> {
-    pub salt: &'c [u8],
+    pub salt: [u8; 64],
     pub text: &'c [u8],
     pub len: usize,
 }
@@ -19,16 +18,22 @@ pub struct Opening<'c> {
 #[derive(Clone, Copy, Debug, PartialEq, Eq)]
 pub struct OpeningFault;
 
-// The salt of an opening, and how many bytes its text has.
-fn read_head(line: &[u8]) -> Option<(&[u8], usize)> {
+// The head line of an opening: its salt, and how many bytes its text has.
+#[derive(Clone, Copy)]
+struct OpeningHead {
+    salt: [u8; 64],
+    text_len: usize,
+}
+
+fn read_head(line: &[u8]) -> Option<OpeningHead> {
     let mut fields = Fields::of_line(line);
     if fields.next()? != b"%opening".as_slice() {
         return None;
     }
     let salt = fields.digest()?;
-    let len = fields.number_to(TEXT_LIMIT)?;
+    let text_len = fields.number_to(TEXT_LIMIT)?;
     if fields.is_done() {
-        Some((salt, len))
+        Some(OpeningHead { salt, text_len })
     } else {
         None
     }
@@ -41,9 +46,11 @@ pub fn find_opening(bytes: &[u8]) -> Result<Opening<'_>, OpeningFault>
     let Line::Whole(end) = find_line(bytes) else {
         return Err(OpeningFault);
     };
-    let Some((salt, count)) = read_head(&bytes[..end]) else {
+    let Some(head) = read_head(&bytes[..end]) else {
         return Err(OpeningFault);
     };
+    let salt = head.salt;
+    let count = head.text_len;
     let behind = &bytes[end + 1..];
     if behind.len() < count {
         return Err(OpeningFault);

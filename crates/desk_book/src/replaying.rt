@@ -1,23 +1,18 @@
 //! Reading a journal again.
 
 ghost use Rattle.std.specs.Prelude.{◌≤◌, ◌<◌, IfOk, IfSome, length};
-ghost use Rattle.bid_book.specs.History.{MayMakeBy, call_value};
 
+use crate::asked::Asked;
 use crate::calls::Who;
-use crate::commitment::Commitment;
-use crate::desk::{Asked, Desk, caller_of};
-use crate::digests::{copied_digest, digest_of_both};
-use crate::fields::{Fields, is_digest};
+use crate::desk::Desk;
+use crate::digests::digest_of_both;
+use crate::fields::{Fields, digest_in};
 use crate::front::{FrontFault, find_front};
 use crate::heads::{Line, find_line};
 use crate::judge::Judge;
-use auction_terms::{RulesFault, number};
-use bid_book::{Call as BookCall, Caller};
+use crate::limits::SEALED_LIMIT;
+use auction_terms::{MOST_BIDS, MOST_SESSIONS, RulesFault, number};
 use std::alloc::{AllocError, Global};
-use std::sync::Arc;
-
-/// The most bytes of a sealed form.
-const SEALED_LIMIT: usize = 8 * 1024 * 1024;
 
 /// The words of an entry, the sealed form, where its chain begins, and how many bytes it has.
 #[derive(Clone, Copy)]
@@ -130,7 +125,7 @@ pub fn find_entry(bytes: &[u8]) -> Option<EntryText<'_>>
     let answer = fields.next()?;
     let number = fields.next()?;
     let chain = fields.next()?;
-    if !fields.is_done() || !is_digest(chain) || tail_len < 64 {
+    if !fields.is_done() || digest_in(chain).is_none() || tail_len < 64 {
         return None;
     }
     Some(EntryText {
@@ -158,78 +153,50 @@ fn change_if(word: &[u8]) -> Option<Option<u32>> {
 }
 
 impl<J: Judge + Drop> Desk<J> {
-    // Who makes the call of an entry.
-    fn caller_in(&self, text: &EntryText<'_>) -> Option<Caller> {
-        if text.bidder == b"-".as_slice() {
-            return Some(Caller::Chair);
-        }
+    // Who makes the call of an entry, and when.
+    fn who_in(&self, text: &EntryText<'_>) -> Option<Who> {
         let bidder = self.rules().bidder_number(text.bidder)?;
         let session = number(text.session)?;
-        if session > 8 {
+        if session > MOST_SESSIONS {
             return None;
         }
-        Some(caller_of(Who {
+        Some(Who {
             bidder,
             session: session as u8,
-            time: 0,
-        }))
+            time: number(text.time)?,
+        })
     }
 
-    // What an entry says of its call.
-    fn asked_in<'c>(&self, text: &EntryText<'c>) -> Option<Asked<'c>> {
+    // The form that an entry says is handed in.
+    fn submission_in<'c>(&self, text: &EntryText<'c>) -> Option<Asked<'c>> {
         let bids = number(text.bids)?;
-        if bids > 4_000 {
+        if bids > MOST_BIDS as u64 {
             return None;
         }
-        let commit = if is_digest(text.commit) {
-            Some(text.commit)
-        } else {
-            None
-        };
-        Some(Asked {
-            caller: self.caller_in(text)?,
-            time: number(text.time)?,
-            kind: text.kind,
+        Some(Asked::Submit {
+            who: self.who_in(text)?,
             over: change_if(text.over)?,
-            commit,
+            commit: digest_in(text.commit)?,
             bids: bids as u32,
             sealed: text.sealed,
         })
     }
 
-    // The call of an entry; `Ok(None)` where it says none.
-    fn call_in(
-        &self,
-        alloc: Global,
-        asked: &Asked<'_>,
-    ) -> Result<Option<BookCall<Arc<Commitment, Global>>>, AllocError>
-        ensures { IfOk result (λ call. IfSome call (λ call. MayMakeBy (λ c. c.bidder) asked.now.caller
-            (call_value call))) }
-    {
-        match (asked.kind, asked.caller) {
-            (b"submit", Caller::Session { bidder, .. }) => {
-                let Some(commit) = asked.commit else {
-                    return Ok(None);
-                };
-                let form = Commitment {
-                    bidder,
-                    bids: asked.bids,
-                    entry: self.entries().saturating_add(1),
-                    commit: copied_digest(commit),
-                };
-                let form = Arc::new(alloc, form)?;
-                Ok(Some(BookCall::Submit {
-                    form,
-                    over: asked.over,
-                }))
-            }
-            (b"withdraw", Caller::Session { .. }) => match asked.over {
-                Some(over) => Ok(Some(BookCall::Withdraw { over })),
-                None => Ok(None),
-            },
-            (b"show", Caller::Session { .. }) => Ok(Some(BookCall::Show)),
-            (b"close", Caller::Chair) => Ok(Some(BookCall::Close)),
-            _ => Ok(None),
+    // The call of an entry.
+    fn asked_in<'c>(&self, text: &EntryText<'c>) -> Option<Asked<'c>> {
+        match text.kind {
+            b"submit" => self.submission_in(text),
+            b"withdraw" => Some(Asked::Withdraw {
+                who: self.who_in(text)?,
+                over: change_if(text.over)??,
+            }),
+            b"show" => Some(Asked::Show {
+                who: self.who_in(text)?,
+            }),
+            b"close" => Some(Asked::Close {
+                time: number(text.time)?,
+            }),
+            _ => None,
         }
     }
 
@@ -249,11 +216,8 @@ impl<J: Judge + Drop> Desk<J> {
         let Some(asked) = self.asked_in(text) else {
             return Ok(false);
         };
-        let Some(call) = self.call_in(alloc, &asked)? else {
-            return Ok(false);
-        };
         self.set_durable(durable);
-        match self.record(alloc, &asked, call)? {
+        match self.record(alloc, &asked)? {
             Some(recorded) => Ok(recorded.entry.as_slice() == bytes),
             None => Ok(false),
         }

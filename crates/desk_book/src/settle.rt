@@ -28,7 +28,7 @@ impl From<AllocError> for SettleFault {
 
 // The place, among the bidders of the rules, of the one whose standing form an opening opens.
 fn place_opened<J: Judge + Drop>(desk: &Desk<J>, opening: &Opening<'_>) -> Option<usize> {
-    let commit = commit_of(opening.salt, opening.text);
+    let commit = commit_of(&opening.salt, opening.text);
     for place in 0..desk.rules().bidders().len().min(256) {
         if let Some(standing) = desk.book().standing(place as u16 + 1) {
             if standing.form.commit == commit {

@@ -1,6 +1,6 @@
 //! The file of the journal, and standard output.
 
-ghost use Rattle.std.specs.Prelude.{None};
+ghost use Rattle.std.specs.Prelude.{◌≡◌, None};
 
 use desk_line::{Machine, Outside, Unkept, Untold};
 use std::fs::File;
@@ -17,7 +17,9 @@ pub struct Disk<'r> {
 }
 
 impl<'r> Disk<'r> {
-    pub fn new(rt: &'r HostRuntime, file: File, extent: u64) -> Disk<'r> {
+    pub fn new(rt: &'r HostRuntime, file: File, extent: u64) -> Disk<'r>
+        ensures { result.extent ≡ extent }
+    {
         Disk {
             rt,
             file,

@@ -1,5 +1,7 @@
 //! The faults of a form, as `wdp explain --json` prints them.
 
+ghost use Rattle.wdp_desk.specs.inside.Explained.{form_explanation};
+
 use auction_input::{ExplainOptions, Input, Request};
 use byte_sinks::{Format, MemorySink};
 use desk_book::Judge;
@@ -11,6 +13,8 @@ use std::alloc::{AllocError, Global};
 pub struct Explaining;
 
 impl Judge for Explaining {
+    ghost faults = { λ _ rules text. form_explanation rules text };
+
     fn fault_lines(&self, alloc: Global, rules: &[u8], text: &[u8]) -> Result<Vec<u8>, AllocError> {
         let mut bytes = Vec::new(alloc);
         bytes.extend_from_slice(b"%rules\n")?;

@@ -3,8 +3,8 @@
 use crate::disk::Disk;
 use crate::faults::Explaining;
 use crate::reading::{Counted, read_all, read_exactly, read_line};
-use desk_book::{Desk, FrontFault, JOURNAL_LIMIT, ReadFault, find_front, replay};
-use desk_line::{Stop, serve};
+use desk_book::{Desk, FrontFault, HEAD_LIMIT, JOURNAL_LIMIT, ReadFault, find_front, replay, serve_calls};
+use desk_line::Stop;
 use std::fs::{File, OpenOptions, TryLockError};
 use std::io::Write;
 use std::os::unix::fs::{FileExt, OpenOptionsExt};
@@ -109,7 +109,7 @@ pub fn journal_ended(fault: ReadFault) -> Ended {
 fn read_front<I: io::Read>(rt: &HostRuntime, input: &mut I) -> Result<Vec<u8>, Ended> {
     let mut bytes = Vec::new(rt.alloc());
     for _line in 0..2 {
-        match read_line(input, &mut bytes, 1_024) {
+        match read_line(input, &mut bytes, HEAD_LIMIT) {
             Ok(true) => {}
             Ok(false) => return Err(Ended::Front("no call")),
             Err(_) => return Err(Ended::Unread),
@@ -275,7 +275,7 @@ fn filter(rt: &HostRuntime, journal: &str) -> Result<(), Ended> {
     let mut desk = replayed.desk;
     tell_opened(rt, &desk, len.saturating_sub(replayed.end))?;
     let mut disk = Disk::new(rt, file, desk.extent());
-    match serve(rt.alloc(), &mut input, &mut desk, &mut disk) {
+    match serve_calls(rt.alloc(), &mut input, &mut desk, &mut disk) {
         Ok(left) if left.bytes.is_empty() => Ok(()),
         Ok(left) => {
             let at = input.count.saturating_sub(left.bytes.len() as u64);

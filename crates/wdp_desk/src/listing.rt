@@ -3,7 +3,9 @@
 use crate::faults::Explaining;
 use crate::filter::{Ended, journal_ended, print_ended};
 use crate::reading::read_all;
-use desk_book::{Desk, EntryText, JOURNAL_LIMIT, Replayed, find_entry, find_front, replay};
+use desk_book::{
+    Counts, Desk, EntryText, JOURNAL_LIMIT, Replayed, find_entry, find_front, replay,
+};
 use itoa::Buffer;
 use std::alloc::{AllocError, Global};
 use std::fs::File;
@@ -72,11 +74,10 @@ fn add_entries(
 fn add_bidder(
     list: &mut Vec<u8>,
     desk: &Desk<Explaining>,
-    place: usize,
+    bidder: u16,
     name: &[u8],
+    counts: &Counts,
 ) -> Result<(), AllocError> {
-    let bidder = place.saturating_add(1).min(256) as u16;
-    let counts = desk.counts_of(bidder);
     let mut calls = Buffer::new();
     let mut changes = Buffer::new();
     let mut number = Buffer::new();
@@ -85,8 +86,8 @@ fn add_bidder(
     let front: [&[u8]; 4] = [
         b"%bidder",
         name,
-        calls.format(counts.0).as_bytes(),
-        changes.format(counts.1).as_bytes(),
+        calls.format(counts.entries).as_bytes(),
+        changes.format(counts.changes).as_bytes(),
     ];
     for word in &front {
         list.extend_from_slice(word)?;
@@ -110,10 +111,16 @@ fn add_bidder(
 }
 
 // Adds the lines of the state.
-fn add_state(list: &mut Vec<u8>, replayed: &Replayed<Explaining>) -> Result<(), AllocError> {
+fn add_state(
+    alloc: Global,
+    list: &mut Vec<u8>,
+    replayed: &Replayed<Explaining>,
+) -> Result<(), AllocError> {
     let desk = &replayed.desk;
-    for (place, bidder) in desk.rules().bidders().iter().enumerate() {
-        add_bidder(list, desk, place, bidder.name.as_bytes())?;
+    let counts = desk.counts(alloc)?;
+    for (place, (bidder, counts)) in desk.rules().bidders().iter().zip(&counts).enumerate() {
+        let number = place.min(255) as u16 + 1;
+        add_bidder(list, desk, number, bidder.name.as_bytes(), counts)?;
     }
     let mut entries = Buffer::new();
     let mut end = Buffer::new();
@@ -140,7 +147,7 @@ fn lines_of(
         add_words(&mut list, &words)?;
         add_entries(&mut list, bytes, front.len, replayed.end.min(bytes.len()))?;
     }
-    add_state(&mut list, replayed)?;
+    add_state(alloc, &mut list, replayed)?;
     if replayed.end < bytes.len() {
         let mut end = Buffer::new();
         let words: [&[u8]; 2] = [b"torn at byte", end.format(replayed.end).as_bytes()];

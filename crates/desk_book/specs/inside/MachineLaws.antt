@@ -4,11 +4,16 @@ use Rattle.std.proofs.lemmas.List.{length-take-le}
 use Rattle.desk_line.specs.Fronts.{IsFrontWithin}
 use Rattle.desk_line.specs.declared.machine.Front.TheVariants.{Whole}
 use Rattle.desk_book.specs.declared.desk.Desk.{Desk}
-use Rattle.desk_book.specs.Answers.{IsAnswer}
+use Rattle.desk_book.specs.Answers.{IsDeskAnswer}
 
 pub whole_within : (bytes more : List ℕ) (n : ℕ) → IsFrontWithin bytes (Whole n) → IsFrontWithin (take n bytes ++ more) (Whole n)
 whole_within bytes more n is = (is.0, omega (arith, length-append (take n bytes) more, length-take-le n bytes is.1))
 
-pub extent_after : {J : Type 0} (m n : Desk J) (entry : List ℕ) → IsAnswer m entry n → n.extent ≡ m.extent + length entry
-extent_after m n entry (inl is) = ap (λ d. d.extent) is.1 ∙ (let none : length entry ≡ 0 = ap length is.0 in omega (arith, none))
-extent_after m n entry (inr is) = is.extent
+module _ {J : Type 0} (faults : J → List ℕ → List ℕ → List ℕ) (m n : Desk J) (reply entry : List ℕ) where
+  same_extent : entry ≡ [] → n ≡ m → n.extent ≡ m.extent + length entry
+  same_extent none same = ap (λ d. d.extent) same ∙ (let len : length entry ≡ 0 = ap length none in omega (arith, len))
+
+  pub extent_after : IsDeskAnswer faults m reply entry n → n.extent ≡ m.extent + length entry
+  extent_after (inl is) = same_extent is.kept is.same
+  extent_after (inr (c, inl is)) = same_extent is.0 is.1.same
+  extent_after (inr (c, inr is)) = is.recorded.extent
