@@ -14,7 +14,7 @@ SHELL = /bin/sh
 export PREFIX DESTDIR ZSH PYTHON
 
 # all that is installed, below PREFIX
-INSTALLED = bin/wdp bin/wdp-desk bin/wdp-office bin/wdp-solve lib/wdp share/doc/wdp share/man/man1/wdp.1 share/man/man1/wdp-office*.1 \
+INSTALLED = bin/wdp bin/wdp-desk bin/wdp-office bin/wdp-solve lib/wdp share/doc/wdp share/man/man1/wdp.1 share/man/man1/wdp-desk.1 share/man/man1/wdp-office*.1 \
 	share/bash-completion/completions/wdp share/bash-completion/completions/wdp-office "$$ZSH/_wdp" "$$ZSH/_wdp-office" "$$PYTHON/wdp"
 
 help:
@@ -51,10 +51,10 @@ install:
 	(cd python/src && tar -c --exclude=__pycache__ wdp) | tar -x --no-same-owner -C "$$to/$$PYTHON"
 	tar -c --exclude='.git*' README.md CHANGELOG.md bench/README.md docs examples | tar -x --no-same-owner -C "$$to/share/doc/wdp"
 	# (documents name the manual and, in their blocks, the commands as they are installed, and have no links to the sources)
-	find "$$to/share/doc/wdp" -name '*.md' -exec sed -i -e '/^```/,/^```/s#\./wdp#wdp#g' -e 's#\(man \)*docs/wdp\.1#man wdp#g' \
+	find "$$to/share/doc/wdp" -name '*.md' -exec sed -i -e '/^```/,/^```/s#\./wdp#wdp#g' -e 's#\(man \)*docs/\(wdp[-a-z]*\)\.1#man \2#g' \
 		-e 's#\[\([^]]*\)\]([./]*crates/[^)]*)#\1#g' {} +
 	ln -s "../$$PYTHON/wdp/__main__.py" "$$to/bin/wdp-office"
-	install -D -m 644 -t "$$to/share/man/man1" docs/wdp.1 manuals/man/*
+	install -D -m 644 -t "$$to/share/man/man1" docs/*.1 manuals/man/*
 	install -D -m 644 -t "$$to/share/bash-completion/completions" manuals/bash/*
 	install -D -m 644 -t "$$to/$$ZSH" manuals/zsh/*
 

@@ -35,11 +35,12 @@ def run(*words, **how):
     return subprocess.run(words, stdin=subprocess.DEVNULL, capture_output=True, text=True, **how)
 
 
-def copied(root: Path, program: Path) -> Path:
-    """A copy of the tree, whose program is the one that is tried."""
+def copied(root: Path, programs: dict[str, str]) -> Path:
+    """A copy of the tree, whose programs are the ones that are tried."""
     shutil.copytree(ROOT, root, symlinks=True, ignore=shutil.ignore_patterns(*KEPT_OUT))
     prebuilt = root / "prebuilt"
-    (prebuilt / "wdp.gz").write_bytes(gzip.compress(program.read_bytes()))
+    for name, program in programs.items():
+        (prebuilt / f"{name}.gz").write_bytes(gzip.compress(Path(program).read_bytes()))
     lines = [f"sources {run('tools/program_sources', cwd=root, check=True).stdout.strip()}"]
     for path in sorted(prebuilt.glob("*.gz")):
         lines.append(
@@ -55,9 +56,16 @@ def folder(tmp_path_factory):
 
 
 @pytest.fixture(scope="module")
-def tree(wdp, folder):
-    assert Path(wdp).read_bytes()[:4] == b"\x7fELF", "it is no linked program"
-    return copied(folder / "a 'tree'", Path(wdp))
+def programs(wdp, wdp_desk):
+    programs = {"wdp": wdp, "wdp-desk": wdp_desk}
+    for name, program in programs.items():
+        assert Path(program).read_bytes()[:4] == b"\x7fELF", f"{name} is no linked program"
+    return programs
+
+
+@pytest.fixture(scope="module")
+def tree(programs, folder):
+    return copied(folder / "a 'tree'", programs)
 
 
 @pytest.fixture(scope="module")
@@ -75,8 +83,9 @@ def test_a_fresh_machine_installs_it(tree, bare, tmp_path):
     """No tool that makes manuals is needed, and no library."""
     done = run("make", "install", f"DESTDIR={tmp_path}", cwd=tree, env={"PATH": str(bare)})
     assert (done.returncode, done.stdout + done.stderr) == (0, "")
-    program = tmp_path / "usr/local/bin/wdp"
-    assert run(program, "--version").stdout.startswith("wdp ")
+    for name in ("wdp", "wdp-desk"):
+        program = tmp_path / "usr/local/bin" / name
+        assert run(program, "--version").stdout.startswith(f"{name} ")
 
 
 def make(tree, *words):
@@ -102,8 +111,13 @@ COMPLETION = "share/bash-completion/completions/%s", "share/zsh/site-functions/_
 
 def test_it_installs_what_it_has_to_and_takes_away_what_an_older_one_left(tree, there):
     wanted = {f"{to}/{it}" for of, to in INSTALLED.items() for it in list_files(tree / of)}
-    pages = ["wdp", "wdp-office", *(f"wdp-office-{it}" for it in OFFICE)]
-    wanted |= {"bin/wdp", "bin/wdp-office", *(f"share/man/man1/{it}.1" for it in pages)}
+    pages = ["wdp", "wdp-desk", "wdp-office", *(f"wdp-office-{it}" for it in OFFICE)]
+    wanted |= {
+        "bin/wdp",
+        "bin/wdp-desk",
+        "bin/wdp-office",
+        *(f"share/man/man1/{it}.1" for it in pages),
+    }
     wanted |= {path % name for path in COMPLETION for name in COMMANDS}
     assert wanted | OTHERS <= list_files(there) and not list_files(there) & STALE
     assert os.access(there / "bin/wdp", os.X_OK)
@@ -242,9 +256,9 @@ def test_the_pages_have_each_part_of_an_input():
     assert set(re.findall(r"^\| `(%[a-z]+)` \|", reference, re.MULTILINE)) == heads
 
 
-def test_the_package_for_debian(wdp, folder, tmp_path):
-    """It has the program as it was built, and lintian finds no error but that of the licence, which is for a person to say."""
-    tree = copied(folder / "built" / "tree", Path(wdp))
+def test_the_package_for_debian(programs, folder, tmp_path):
+    """It has the programs as they were built, and lintian finds no error but that of the licence, which is for a person to say."""
+    tree = copied(folder / "built" / "tree", programs)
     examples = list_files(tree / "examples")
     env = {"PATH": SYSTEM, "LC_ALL": "C.UTF-8"}
     done = run("dpkg-buildpackage", "--no-sign", "-b", cwd=tree, env=env)
@@ -254,8 +268,8 @@ def test_the_package_for_debian(wdp, folder, tmp_path):
     documents = tmp_path / "usr/share/doc/wdp"
     assert examples == list_files(tree / "examples") == list_files(documents / "examples")
     assert (documents / "CHANGELOG.md").is_file()
-    programs = [path.read_bytes() for path in tmp_path.rglob("wdp") if path.is_file()]
-    assert Path(wdp).read_bytes() in programs
+    for name, program in programs.items():
+        assert (tmp_path / "usr/bin" / name).read_bytes() == Path(program).read_bytes()
     main = tmp_path / "usr/lib/python3/dist-packages/wdp/__main__.py"
     assert (tmp_path / "usr/bin/wdp-office").resolve() == main
     fields = run("dpkg-deb", "-f", package, "Depends", check=True).stdout

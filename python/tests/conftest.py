@@ -11,9 +11,6 @@ sys.modules.update(dict.fromkeys(os.environ.get("WITHOUT_LIBRARIES", "").split()
 import pytest  # noqa: E402
 
 from commands import AuctionFolder, OfficeFolder  # noqa: E402
-from desks import find_filter  # noqa: E402
-
-os.environ["WDP_DESK"] = find_filter()
 
 
 @pytest.fixture

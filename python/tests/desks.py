@@ -7,7 +7,6 @@ import contextlib
 import csv
 import http.client
 import json
-import os
 import re
 import socket
 import subprocess
@@ -19,7 +18,7 @@ from dataclasses import dataclass
 from pathlib import Path
 from typing import Any, NamedTuple
 
-from commands import ROOT, CommandResult, make_environment, run, start, wait_for
+from commands import CommandResult, make_environment, run, start, wait_for
 
 RULES = """rules,1,1,,
 category,A,2,10,1
@@ -37,13 +36,6 @@ FORM_OF = {
     "Gamma": b"Gamma,A,B\n12,0,1\n",
 }
 FAR = "2096-12-01T12:00:00Z"
-FILTER = Path(__file__).with_name("stand_in_filter.py")
-
-
-def find_filter() -> str:
-    """The filter that is tried: the one that is named, or the tree's, or what stands in for it."""
-    tree = ROOT / "wdp-desk"
-    return os.environ.get("WDP_DESK") or str(tree if tree.exists() else FILTER)
 
 
 class Answer(NamedTuple):
@@ -125,7 +117,7 @@ class Served:
         self.lines: list[str] = []
         command = [sys.executable, "-m", "wdp", "desk", "serve", desk.where]
         command += ["--port", self.port, "--readers", 1, *words]
-        env = make_environment(WDP_DESK=find_filter(), **more)
+        env = make_environment(**more)
         self.process = start(command, env=env, stderr=subprocess.PIPE)
         self._reading = threading.Thread(target=self._read, daemon=True)
         self._reading.start()

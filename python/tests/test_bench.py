@@ -69,6 +69,7 @@ MEASURING = {
     "peers": ["--rounds", "1", "--wdp", "@", "explain"],
     "hostile": ["--rounds", "1", "--wdp", "@", "submitted"],
     "desk": ["load", "--sessions", "2", "--bids", "1-2", "--port", "18480"],
+    "filter": ["random", "100"],
     "hostile_workbooks": ["lying"],
     "mutated_workbooks": ["20"],
     "bare_machine": ["--list"],
@@ -80,6 +81,7 @@ SHOWN = {
     r"  cbc alone, 1 groups",
     "peers": r"(?s).*\| explain",
     "desk": r"(?s)2 sessions at once.*\n  floor .*'accepted': 2.*\n  service .*'accepted': 2.* the floor's processor time\n$",
+    "filter": "100 calls, 0 replies differ\n$",
     "hostile": r"(?s).*\| submitted .*\n\n[01] within bounds, [01] beyond\n$",
     "hostile_workbooks": r"(?s).*\| lying .*\n\n[01] within bounds, [01] beyond\n$",
     "mutated_workbooks": r"\d+ read, \d+ refused, 0 in tracebacks\n$",
@@ -95,6 +97,12 @@ def test_scripts_that_measure(wdp: str, name: str) -> None:
     words = [wdp if word == "@" else word for word in MEASURING[name]]
     printed = run_script(wdp, [name, *words], statuses=STATUSES.get(name, (0,)))
     assert re.match(SHOWN[name], printed)
+
+
+def test_filter_measures_calls(wdp: str) -> None:
+    printed = run_script(wdp, ["filter", "speed", "20"])
+    shown = r"one at a time: \d+ calls a second\nthe same writes and syncs alone: \d+ a second\nat once: 256000 replies, \d+ a second, \d+ MB\n$"
+    assert re.match(shown, printed)
 
 
 def test_outcomes_measures_the_step_of_each_group(wdp: str) -> None:

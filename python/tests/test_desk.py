@@ -19,7 +19,6 @@ from desks import (
     Bidder,
     DeskFolder,
     Served,
-    find_filter,
     make_form,
 )
 
@@ -27,9 +26,7 @@ for _name in ("aiohttp", "cryptography"):
     pytest.importorskip(_name, reason=f"{_name} isn't there")
 
 
-@pytest.fixture(autouse=True)
-def _filter(monkeypatch: pytest.MonkeyPatch) -> None:
-    monkeypatch.setenv("WDP_DESK", find_filter())
+pytestmark = pytest.mark.usefixtures("wdp_desk")
 
 
 @pytest.fixture

@@ -8,7 +8,7 @@ from typing import NamedTuple
 
 import pytest
 from commands import check_stopped
-from desks import FORM_OF, HEAD, DeskFolder, find_filter, make_form
+from desks import FORM_OF, HEAD, DeskFolder, make_form
 
 for _name in ("aiohttp", "cryptography"):
     pytest.importorskip(_name, reason=f"{_name} isn't there")
@@ -18,9 +18,7 @@ from wdp.desk import checking, receipts  # noqa: E402
 REPLY = re.compile(rb"\n%reply ([a-z]+) (\d+|-) ([0-9a-f]{64})\n")
 
 
-@pytest.fixture(autouse=True)
-def _filter(monkeypatch: pytest.MonkeyPatch) -> None:
-    monkeypatch.setenv("WDP_DESK", find_filter())
+pytestmark = pytest.mark.usefixtures("wdp_desk")
 
 
 class Entry(NamedTuple):
@@ -66,15 +64,13 @@ def told(
     tmp_path_factory: pytest.TempPathFactory, wdp: str
 ) -> tuple[DeskFolder, list[Path], bytes]:
     """A closed round, the receipts of its four changes, and its journal."""
-    with pytest.MonkeyPatch.context() as patch:
-        patch.setenv("WDP_DESK", find_filter())
-        folder = DeskFolder(tmp_path_factory.mktemp("told"))
-        with folder.serve(WDP=wdp) as served:
-            answers = [served.put(name) for name in FORM_OF]
-            answers.append(served.put("Beta", make_form("Beta", 11), 1))
-            head = served.call("GET", "/head").body.decode()
-            served.call("POST", "/close", key=folder.office)
-        assert folder.desk("open", folder.holder, folder.output).status == 0
+    folder = DeskFolder(tmp_path_factory.mktemp("told"))
+    with folder.serve(WDP=wdp) as served:
+        answers = [served.put(name) for name in FORM_OF]
+        answers.append(served.put("Beta", make_form("Beta", 11), 1))
+        head = served.call("GET", "/head").body.decode()
+        served.call("POST", "/close", key=folder.office)
+    assert folder.desk("open", folder.holder, folder.output).status == 0
     paths = [folder.write(f"{k}.txt", answer.receipt) for k, answer in enumerate(answers)]
     return folder, [*paths, folder.write("head.txt", head)], folder.journal
 

@@ -13,7 +13,7 @@ from typing import Any
 
 import pytest
 from commands import check_stopped
-from desks import FORM, HEAD, DeskFolder, find_filter, make_form
+from desks import FORM, HEAD, DeskFolder, make_form
 
 for _name in ("aiohttp", "cryptography"):
     pytest.importorskip(_name, reason=f"{_name} isn't there")
@@ -33,10 +33,7 @@ ALPHA = Session("Alpha", 1)
 BETA = Session("Beta", 1)
 
 
-@pytest.fixture(autouse=True)
-def _programs(monkeypatch: pytest.MonkeyPatch, wdp: str) -> None:
-    monkeypatch.setenv("WDP_DESK", find_filter())
-    monkeypatch.setenv("WDP", wdp)
+pytestmark = pytest.mark.usefixtures("wdp", "wdp_desk")
 
 
 @pytest.fixture

@@ -17,7 +17,7 @@ StrPath = str | os.PathLike[str]
 
 _PACKAGE = os.path.dirname(os.path.realpath(__file__))
 _INSTALL = "make install in the tree of wdp installs it, or name it by program= or $WDP"
-_INSTALL_FILTER = "this version comes without it; $WDP_DESK may name one"
+_INSTALL_FILTER = "make install in the tree of wdp installs it, or name it by $WDP_DESK"
 _END_OF_MESSAGES = 65_536  # bytes at the end of standard error that are read: a refusal is one line
 _MOST_OF_MESSAGES = 256 * 1024 * 1024  # bytes of standard error, after which a program is ended
 _LOOK_EVERY = 0.25  # seconds, at how much a program has printed

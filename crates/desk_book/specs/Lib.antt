@@ -1,0 +1,9 @@
+pub mod Answers
+pub mod Digests
+pub mod Entries
+pub mod Heads
+pub mod Judging
+pub mod Recording
+pub mod Replies
+pub mod Words
+pub mod inside
