@@ -46,13 +46,27 @@ pub enum Stop {
     TooMany,
 }
 
-/// A node to come, below so many splits, on a side of the last of them.
-#[derive(Drop)]
-struct OpenNode {
+/// Where a node is: its place among the nodes, how many splits are above it, and on which side of the last of them it is.
+#[derive(Clone, Copy, Debug)]
+struct Spot {
     place: usize,
     depth: usize,
     is_high: bool,
+}
+
+/// A node to come.
+#[derive(Drop)]
+struct OpenNode {
+    spot: Spot,
     tableau: Option<Tableau>,
+}
+
+/// What came of a point.
+enum Taken {
+    Nothing,
+    Better,
+    /// There are more points as good than are wanted.
+    TooMany,
 }
 
 /// What the columns of a search are, and what it looks for.
@@ -100,9 +114,11 @@ impl<'a> Tree<'a> {
         nodes.push(Node::Open)?;
         let mut open = Vec::new(alloc);
         open.push(OpenNode {
-            place: 0,
-            depth: 0,
-            is_high: false,
+            spot: Spot {
+                place: 0,
+                depth: 0,
+                is_high: false,
+            },
             tableau: Some(root.copied(alloc)?),
         })?;
         let mut ties = Vec::new(alloc);
@@ -168,18 +184,19 @@ impl<'a> Tree<'a> {
     }
 
     /// Goes to the splits above a node.
-    fn enter(&mut self, node: &OpenNode) {
+    fn enter(&mut self, spot: Spot) {
         let left_out = self.splits.len().saturating_sub(self.sides.len());
-        for _ in node.depth..self.sides.len() {
-            self.sides.pop();
-        }
-        for _ in left_out.saturating_add(node.depth)..self.splits.len() {
-            self.splits.pop();
-        }
+        self.sides.truncate(spot.depth);
+        self.splits.truncate(left_out.saturating_add(spot.depth));
+        self.go_to_side(spot.is_high);
+    }
+
+    /// Goes to a side of the last split.
+    fn go_to_side(&mut self, is_high: bool) {
         if let Some(side) = self.sides.last_mut() {
-            side.is_high = node.is_high;
+            side.is_high = is_high;
             if let Some(split) = self.splits.last_mut() {
-                split.is_high = node.is_high;
+                split.is_high = is_high;
             }
         }
     }
@@ -194,81 +211,133 @@ impl<'a> Tree<'a> {
         Ok(tableau)
     }
 
+    /// The tableau of the node that was entered, which may have been kept.
+    fn taken(&mut self, kept: Option<Tableau>) -> Result<Tableau, AllocError> {
+        match kept {
+            Some(tableau) => {
+                self.open_cells = self.open_cells.saturating_sub(tableau.size());
+                Ok(tableau)
+            }
+            None => self.rebuilt(),
+        }
+    }
+
     /// Searches a node: it becomes a leaf or a split.
     fn visit(&mut self, checker: &Checker<'_>, node: OpenNode) -> Result<Option<Stop>, Limit>
         requires { IsPrepared checker.now }
     {
-        self.enter(&node);
-        let OpenNode {
-            place,
-            depth,
-            is_high,
-            tableau,
-        } = node;
-        let mut tableau = match tableau {
-            Some(tableau) => {
-                self.open_cells = self.open_cells.saturating_sub(tableau.size());
-                tableau
-            }
-            None => self.rebuilt()?,
-        };
-        let ray = match self.search.bound(&mut tableau)? {
-            Known::Open => return self.visit_open(checker, place, depth, is_high, tableau),
-            Known::Above => None,
-            Known::Empty(ray) => Some(ray),
-        };
-        if self.ground.aim != Aim::Better {
-            self.set_node(place, Node::Leaf(Vec::new(self.ground.alloc)));
+        let OpenNode { spot, tableau } = node;
+        self.enter(spot);
+        let mut tableau = self.taken(tableau)?;
+        match self.search.bound(&mut tableau)? {
+            Known::Open => self.visit_open(checker, spot, tableau),
+            Known::Above => self.visit_above(checker, spot, tableau),
+            Known::Empty(ray) => self.visit_empty(checker, spot.place, tableau, ray),
+        }
+    }
+
+    /// Searches a node that has no point that is looked for.
+    fn visit_above(
+        &mut self,
+        checker: &Checker<'_>,
+        spot: Spot,
+        tableau: Tableau,
+    ) -> Result<Option<Stop>, Limit>
+        requires { IsPrepared checker.now }
+    {
+        if self.close(checker, spot.place, &tableau, None)? {
             return Ok(None);
         }
-        let prices = self.prices(&tableau, ray)?;
-        if self.close(checker, place, prices.as_slice())? {
+        self.visit_open(checker, spot, tableau)
+    }
+
+    /// Searches a node that has no point.
+    fn visit_empty(
+        &mut self,
+        checker: &Checker<'_>,
+        place: usize,
+        tableau: Tableau,
+        ray: Ray,
+    ) -> Result<Option<Stop>, Limit>
+        requires { IsPrepared checker.now }
+    {
+        if self.close(checker, place, &tableau, Some(ray))? {
             return Ok(None);
         }
-        if ray.is_none() {
-            return self.visit_open(checker, place, depth, is_high, tableau);
-        }
-        self.part(checker, place, tableau, &[])
+        self.part(checker, place, &tableau, &[])
     }
 
     /// Searches a node whose bound doesn't reach the goal.
     fn visit_open(
         &mut self,
         checker: &Checker<'_>,
-        place: usize,
-        depth: usize,
-        is_high: bool,
+        spot: Spot,
         tableau: Tableau,
     ) -> Result<Option<Stop>, Limit>
         requires { IsPrepared checker.now }
     {
-        let alloc = self.ground.alloc;
-        let values = tableau.values(alloc)?;
-        if let Some(chosen) = self.search.branch(&tableau, values.as_slice())? {
-            self.divide(checker, place, tableau, chosen)?;
+        let values = tableau.values(self.ground.alloc)?;
+        let candidates = self.search.candidates(values.as_slice())?;
+        if candidates.is_empty() {
+            return self.visit_whole(checker, spot, tableau, values.as_slice());
+        }
+        self.divide(checker, spot.place, tableau, candidates.as_slice())?;
+        Ok(None)
+    }
+
+    /// Searches a node whose relaxation has a whole point.
+    fn visit_whole(
+        &mut self,
+        checker: &Checker<'_>,
+        spot: Spot,
+        tableau: Tableau,
+        values: &[f64],
+    ) -> Result<Option<Stop>, Limit>
+        requires { IsPrepared checker.now }
+    {
+        match self.take_point(values)? {
+            Taken::Nothing => self.go_on(checker, spot.place, &tableau, values),
+            Taken::TooMany => Ok(Some(Stop::TooMany)),
+            Taken::Better => {
+                self.reopen(spot, tableau)?;
+                Ok(Some(Stop::Better))
+            }
+        }
+    }
+
+    /// Goes on at a node whose point is no better.
+    fn go_on(
+        &mut self,
+        checker: &Checker<'_>,
+        place: usize,
+        tableau: &Tableau,
+        values: &[f64],
+    ) -> Result<Option<Stop>, Limit>
+        requires { IsPrepared checker.now }
+    {
+        if self.ground.aim == Aim::Better && self.close(checker, place, tableau, None)? {
             return Ok(None);
         }
-        let core_ones = core_ones(alloc, values.as_slice(), self.ground.core.len())?;
-        let ones = ones_of(alloc, values.as_slice(), self.ground.core)?;
-        if is_feasible(self.ground.layout, ones.as_slice()) {
-            let point = Best::of_ones(self.ground.layout, ones);
-            if point.objective < self.best.objective {
-                self.best = point;
-                self.set_goal();
-                self.reopen(place, depth, is_high, tableau)?;
-                return Ok(Some(Stop::Better));
-            }
-            if self.take_tie(point)? {
-                return Ok(Some(Stop::TooMany));
-            }
+        let ones = core_ones(self.ground.alloc, values, self.ground.core.len())?;
+        self.part(checker, place, tableau, ones.as_slice())
+    }
+
+    /// Takes the point with these values, if it is better than the best one, or as good where such points are looked for.
+    fn take_point(&mut self, values: &[f64]) -> Result<Taken, AllocError> {
+        let ones = ones_of(self.ground.alloc, values, self.ground.core)?;
+        if !is_feasible(self.ground.layout, ones.as_slice()) {
+            return Ok(Taken::Nothing);
         }
-        if self.ground.aim == Aim::Better {
-            let prices = self.prices(&tableau, None)?;
-            if self.close(checker, place, prices.as_slice())? {
-                return Ok(None);
-            }
+        let point = Best::of_ones(self.ground.layout, ones);
+        if point.objective < self.best.objective {
+            self.best = point;
+            self.set_goal();
+            return Ok(Taken::Better);
         }
-        self.part(checker, place, tableau, core_ones.as_slice())
+        if self.take_tie(point)? {
+            return Ok(Taken::TooMany);
+        }
+        Ok(Taken::Nothing)
     }
 
     /// Takes a point that is as good as the best one, if such points are looked for. Whether there are too many.
@@ -276,16 +345,15 @@ impl<'a> Tree<'a> {
         let Aim::Ties(most) = self.ground.aim else {
             return Ok(false);
         };
-        let is_tie = point.objective == self.best.objective;
-        if is_tie
-            && !self
-                .ties
-                .iter()
-                .any(|known| known.as_slice() == point.ones.as_slice())
-        {
+        if point.objective == self.best.objective && !self.is_known(point.ones.as_slice()) {
             self.ties.push(point.ones)?;
         }
         Ok(self.ties.len() > most)
+    }
+
+    /// Whether these are the columns of a point that was found.
+    fn is_known(&self, ones: &[usize]) -> bool {
+        self.ties.iter().any(|known| known.as_slice() == ones)
     }
 
     fn set_node(&mut self, place: usize, node: Node) {
@@ -295,18 +363,10 @@ impl<'a> Tree<'a> {
     }
 
     /// Has a node come again.
-    fn reopen(
-        &mut self,
-        place: usize,
-        depth: usize,
-        is_high: bool,
-        tableau: Tableau,
-    ) -> Result<(), AllocError> {
+    fn reopen(&mut self, spot: Spot, tableau: Tableau) -> Result<(), AllocError> {
         self.open_cells = self.open_cells.saturating_add(tableau.size());
         self.open.push(OpenNode {
-            place,
-            depth,
-            is_high,
+            spot,
             tableau: Some(tableau),
         })?;
         Ok(())
@@ -345,16 +405,41 @@ impl<'a> Tree<'a> {
         judged(checker, &mut self.sums, &place, prices)
     }
 
-    /// Closes a node by prices. Whether the checker takes a leaf of them.
-    fn close(&mut self, checker: &Checker<'_>, place: usize, prices: &[f64]) -> Result<bool, Limit>
+    /// Closes a node by the prices of its tableau. Whether the checker takes a leaf of them; where ties are looked for, nothing is
+    /// written.
+    fn close(
+        &mut self,
+        checker: &Checker<'_>,
+        place: usize,
+        tableau: &Tableau,
+        ray: Option<Ray>,
+    ) -> Result<bool, Limit>
         requires { IsPrepared checker.now }
     {
-        let Some(leaf) = self.leaf(checker, prices)? else {
-            return Ok(false);
-        };
-        let line = line_of(self.ground.alloc, checker.program, &leaf)?;
+        if self.ground.aim != Aim::Better {
+            self.set_node(place, Node::Leaf(Vec::new(self.ground.alloc)));
+            return Ok(true);
+        }
+        let prices = self.prices(tableau, ray)?;
+        match self.leaf(checker, prices.as_slice())? {
+            Some(leaf) => {
+                self.write_leaf(checker, place, &leaf)?;
+                Ok(true)
+            }
+            None => Ok(false),
+        }
+    }
+
+    /// Makes a node a leaf.
+    fn write_leaf(
+        &mut self,
+        checker: &Checker<'_>,
+        place: usize,
+        leaf: &Leaf,
+    ) -> Result<(), Limit> {
+        let line = line_of(self.ground.alloc, checker.program, leaf)?;
         self.set_node(place, Node::Leaf(line));
-        Ok(true)
+        Ok(())
     }
 
     /// Splits a node where its first block has more than one choice left, or closes it as one of a single point.
@@ -362,15 +447,26 @@ impl<'a> Tree<'a> {
         &mut self,
         checker: &Checker<'_>,
         place: usize,
-        tableau: Tableau,
+        tableau: &Tableau,
         ones: &[usize],
     ) -> Result<Option<Stop>, Limit>
         requires { IsPrepared checker.now }
     {
-        if let Some(split) = self.search.part_off(&tableau, ones) {
-            self.push_sides(place, tableau, Candidate { split, part: 1.0 })?;
-            return Ok(None);
+        match self.search.part_off(tableau, ones) {
+            Some(split) => {
+                let chosen = Candidate { split, part: 1.0 };
+                let tableau = tableau.copied(self.ground.alloc)?;
+                self.push_sides(place, tableau, chosen)?;
+                Ok(None)
+            }
+            None => self.close_point(checker, place),
         }
+    }
+
+    /// Closes a node of a single point.
+    fn close_point(&mut self, checker: &Checker<'_>, place: usize) -> Result<Option<Stop>, Limit>
+        requires { IsPrepared checker.now }
+    {
         if self.ground.aim != Aim::Better {
             self.set_node(place, Node::Leaf(Vec::new(self.ground.alloc)));
             return Ok(None);
@@ -383,44 +479,74 @@ impl<'a> Tree<'a> {
         let Some(leaf) = judged_point(checker, &mut self.sums, &shown)? else {
             return Ok(Some(Stop::Limit));
         };
-        let line = line_of(self.ground.alloc, checker.program, &leaf)?;
-        self.set_node(place, Node::Leaf(line));
+        self.write_leaf(checker, place, &leaf)?;
         Ok(None)
     }
 
-    /// Splits a node, and before it fixes the columns that are too costly, if they are many.
+    /// Splits a node by one of these, and before that fixes columns that are too costly: the tries are of what is left.
     fn divide(
         &mut self,
         checker: &Checker<'_>,
         place: usize,
         mut tableau: Tableau,
-        chosen: Candidate,
+        candidates: &[Candidate],
     ) -> Result<(), Limit>
         requires { IsPrepared checker.now }
     {
-        let costly = self.search.costly(&tableau)?;
-        let open = tableau.columns.iter().take(self.ground.core.len());
-        let count = open.filter(|column| column.high > 0.0).count();
-        let is_many = costly.len().saturating_mul(10) >= count.saturating_mul(FIXED_TENTHS);
-        if costly.is_empty() || !is_many {
-            return self.push_sides(place, tableau, chosen);
+        let place = self.fix_costly(checker, place, &mut tableau)?;
+        if let Some(chosen) = self.search.choose(&tableau, candidates)? {
+            self.push_sides(place, tableau, chosen)?;
         }
-        if self.ground.aim != Aim::Better {
+        Ok(())
+    }
+
+    /// Fixes the columns that are too costly at a node, if they are many. The node that is left.
+    fn fix_costly(
+        &mut self,
+        checker: &Checker<'_>,
+        place: usize,
+        tableau: &mut Tableau,
+    ) -> Result<usize, Limit>
+        requires { IsPrepared checker.now }
+    {
+        let costly = self.search.costly(tableau)?;
+        if !self.is_worth(costly.len(), tableau) {
+            return Ok(place);
+        }
+        match self.ground.aim {
             // Nothing is written of it.
-            for column in &costly {
-                tableau.set_high(*column, 0.0);
+            Aim::Ties(_) => {
+                close_all(tableau, costly.as_slice());
+                Ok(place)
             }
-            return self.push_sides(place, tableau, chosen);
+            Aim::Better => self.fix_shown(checker, place, tableau, costly.as_slice()),
         }
-        let columns = self.places_of(costly.as_slice())?;
-        let prices = self.prices(&tableau, None)?;
+    }
+
+    /// Whether so many columns are a part of the open ones that is worth a split.
+    fn is_worth(&self, count: usize, tableau: &Tableau) -> bool {
+        let columns = tableau.columns.iter().take(self.ground.core.len());
+        let open = columns.filter(|column| column.high > 0.0).count();
+        count > 0 && count.saturating_mul(10) >= open.saturating_mul(FIXED_TENTHS)
+    }
+
+    /// Fixes columns at a node, if the checker takes that. The node that is left.
+    fn fix_shown(
+        &mut self,
+        checker: &Checker<'_>,
+        place: usize,
+        tableau: &mut Tableau,
+        costly: &[usize],
+    ) -> Result<usize, Limit>
+        requires { IsPrepared checker.now }
+    {
+        let columns = self.places_of(costly)?;
+        let prices = self.prices(tableau, None)?;
         let Some(below) = self.fix(checker, place, columns, prices.as_slice())? else {
-            return self.push_sides(place, tableau, chosen);
+            return Ok(place);
         };
-        for column in &costly {
-            tableau.set_high(*column, 0.0);
-        }
-        self.push_sides(below, tableau, chosen)
+        close_all(tableau, costly);
+        Ok(below)
     }
 
     /// The places in the layout of columns of the problem.
@@ -445,36 +571,47 @@ impl<'a> Tree<'a> {
     ) -> Result<Option<usize>, Limit>
         requires { IsPrepared checker.now }
     {
-        let alloc = self.ground.alloc;
-        let side = Side {
+        self.open_split(Side {
             block: None,
-            columns,
+            columns: columns.clone()?,
             is_high: true,
-        };
-        self.splits
-            .push(side.open_split(alloc, self.ground.layout)?)?;
+        })?;
+        match self.leaf(checker, prices)? {
+            Some(leaf) => {
+                let line = line_of(self.ground.alloc, checker.program, &leaf)?;
+                self.go_to_side(false);
+                let (low, _) = self.split_node(place, columns, Node::Leaf(line))?;
+                Ok(Some(low))
+            }
+            None => {
+                self.sides.pop();
+                self.splits.pop();
+                Ok(None)
+            }
+        }
+    }
+
+    /// Goes below a split.
+    fn open_split(&mut self, side: Side) -> Result<(), AllocError> {
+        let split = side.open_split(self.ground.alloc, self.ground.layout)?;
+        self.splits.push(split)?;
         self.sides.push(side)?;
-        let leaf = self.leaf(checker, prices)?;
-        let Some(leaf) = leaf else {
-            self.sides.pop();
-            self.splits.pop();
-            return Ok(None);
-        };
-        let mut columns = Vec::new(alloc);
-        if let Some(side) = self.sides.last_mut() {
-            side.is_high = false;
-            columns.extend_from_slice(side.columns.as_slice())?;
-        }
-        if let Some(split) = self.splits.last_mut() {
-            split.is_high = false;
-        }
-        let line = line_of(alloc, checker.program, &leaf)?;
+        Ok(())
+    }
+
+    /// Makes a node a split, with this node on its high side. The places of its sides, the low one first.
+    fn split_node(
+        &mut self,
+        place: usize,
+        columns: Vec<usize>,
+        high_node: Node,
+    ) -> Result<(usize, usize), AllocError> {
         let low = self.nodes.len();
         self.nodes.push(Node::Open)?;
         let high = self.nodes.len();
-        self.nodes.push(Node::Leaf(line))?;
+        self.nodes.push(high_node)?;
         self.set_node(place, Node::Split { columns, low, high });
-        Ok(Some(low))
+        Ok((low, high))
     }
 
     /// Fixes columns at the root, before anything else. Whether the checker takes that.
@@ -490,8 +627,8 @@ impl<'a> Tree<'a> {
             return Ok(false);
         };
         if let Some(node) = self.open.last_mut() {
-            node.place = below;
-            node.depth = self.sides.len();
+            node.spot.place = below;
+            node.spot.depth = self.sides.len();
         }
         Ok(true)
     }
@@ -523,47 +660,72 @@ impl<'a> Tree<'a> {
         Ok(Some(tableau.copied(self.ground.alloc)?))
     }
 
+    /// A side of a split to come later: its tableau, if there is room.
+    fn kept_side(
+        &mut self,
+        split: Split,
+        tableau: &Tableau,
+        is_high: bool,
+    ) -> Result<Option<Tableau>, AllocError> {
+        match self.kept_copy(tableau)? {
+            Some(mut kept) => {
+                split.apply(self.search.problem, &mut kept, is_high);
+                Ok(Some(kept))
+            }
+            None => Ok(None),
+        }
+    }
+
     /// Splits a node.
     fn push_sides(
         &mut self,
         place: usize,
         tableau: Tableau,
         chosen: Candidate,
-    ) -> Result<(), Limit> {
-        let alloc = self.ground.alloc;
-        let columns = self.columns_of(chosen.split, &tableau)?;
-        let low = self.nodes.len();
-        self.nodes.push(Node::Open)?;
-        let high = self.nodes.len();
-        self.nodes.push(Node::Open)?;
-        let side = Side::low(chosen.split.block, columns.clone()?);
-        self.splits
-            .push(side.open_split(alloc, self.ground.layout)?)?;
-        self.sides.push(side)?;
-        self.set_node(place, Node::Split { columns, low, high });
+    ) -> Result<(), AllocError> {
+        let split = chosen.split;
+        let columns = self.columns_of(split, &tableau)?;
+        self.open_split(Side::low(split.block, columns.clone()?))?;
+        let (low, high) = self.split_node(place, columns, Node::Open)?;
         // The side that has more of the point comes first.
         let is_high_first = chosen.part > 0.5;
-        let mut later = self.kept_copy(&tableau)?;
-        let mut first = tableau;
-        self.open_cells = self.open_cells.saturating_add(first.size());
-        let problem = self.search.problem;
-        if let Some(later) = &mut later {
-            chosen.split.apply(problem, later, !is_high_first);
-        }
-        chosen.split.apply(problem, &mut first, is_high_first);
+        let (first, later) = if is_high_first {
+            (high, low)
+        } else {
+            (low, high)
+        };
+        let kept = self.kept_side(split, &tableau, !is_high_first)?;
+        self.push_node(later, !is_high_first, kept)?;
+        self.push_first(first, is_high_first, split, tableau)
+    }
+
+    /// Has the side of a split come first whose tableau is made of the node's own.
+    fn push_first(
+        &mut self,
+        place: usize,
+        is_high: bool,
+        split: Split,
+        mut tableau: Tableau,
+    ) -> Result<(), AllocError> {
+        self.open_cells = self.open_cells.saturating_add(tableau.size());
+        split.apply(self.search.problem, &mut tableau, is_high);
+        self.push_node(place, is_high, Some(tableau))
+    }
+
+    /// Has a side of the last split come.
+    fn push_node(
+        &mut self,
+        place: usize,
+        is_high: bool,
+        tableau: Option<Tableau>,
+    ) -> Result<(), AllocError> {
         let depth = self.sides.len();
-        self.open.push(OpenNode {
-            place: if is_high_first { low } else { high },
+        let spot = Spot {
+            place,
             depth,
-            is_high: !is_high_first,
-            tableau: later,
-        })?;
-        self.open.push(OpenNode {
-            place: if is_high_first { high } else { low },
-            depth,
-            is_high: is_high_first,
-            tableau: Some(first),
-        })?;
+            is_high,
+        };
+        self.open.push(OpenNode { spot, tableau })?;
         Ok(())
     }
 }
@@ -577,6 +739,13 @@ fn core_ones(alloc: Global, values: &[f64], count: usize) -> Result<Vec<usize>, 
         }
     }
     Ok(ones)
+}
+
+/// Leaves no room for columns.
+fn close_all(tableau: &mut Tableau, columns: &[usize]) {
+    for column in columns {
+        tableau.set_high(*column, 0.0);
+    }
 }
 
 /// Goes to a side in a tableau.
