@@ -14,7 +14,7 @@ SHELL = /bin/sh
 export PREFIX DESTDIR ZSH PYTHON
 
 # all that is installed, below PREFIX
-INSTALLED = bin/wdp bin/wdp-desk bin/wdp-office bin/wdp-solve lib/wdp share/doc/wdp share/man/man1/wdp.1 share/man/man1/wdp-office*.1 \
+INSTALLED = bin/wdp bin/wdp-desk bin/wdp-office bin/wdp-solve lib/wdp share/doc/wdp share/man/man1/wdp.1 share/man/man1/wdp-solve.1 share/man/man1/wdp-office*.1 \
 	share/bash-completion/completions/wdp share/bash-completion/completions/wdp-office "$$ZSH/_wdp" "$$ZSH/_wdp-office" "$$PYTHON/wdp"
 
 help:
@@ -54,7 +54,7 @@ install:
 	find "$$to/share/doc/wdp" -name '*.md' -exec sed -i -e '/^```/,/^```/s#\./wdp#wdp#g' -e 's#\(man \)*docs/wdp\.1#man wdp#g' \
 		-e 's#\[\([^]]*\)\]([./]*crates/[^)]*)#\1#g' {} +
 	ln -s "../$$PYTHON/wdp/__main__.py" "$$to/bin/wdp-office"
-	install -D -m 644 -t "$$to/share/man/man1" docs/wdp.1 manuals/man/*
+	install -D -m 644 -t "$$to/share/man/man1" docs/wdp*.1 manuals/man/*
 	install -D -m 644 -t "$$to/share/bash-completion/completions" manuals/bash/*
 	install -D -m 644 -t "$$to/$$ZSH" manuals/zsh/*
 

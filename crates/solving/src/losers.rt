@@ -20,31 +20,38 @@ fn bidder_of(name: &[u8]) -> Option<u16> {
     }
 }
 
+/// Whether a name is of a group's bidder.
+fn is_of(name: &[u8], group: &Group) -> bool {
+    match bidder_of(name) {
+        Some(bidder) => group.has(bidder),
+        None => false,
+    }
+}
+
+/// Adds a field to a line.
+fn add_field(text: &mut Vec<u8>, field: &[u8]) -> Result<(), AllocError> {
+    match text.last() {
+        None | Some(&b'\n') => {}
+        Some(_) => text.push(b' ')?,
+    }
+    text.extend_from_slice(field)?;
+    Ok(())
+}
+
 /// Adds a line without the names of a group's bidders, each with its number.
 fn add_line(text: &mut Vec<u8>, line: &[u8], group: &Group) -> Result<(), AllocError> {
     let mut rest = line;
-    let mut is_first = true;
-    let mut is_left_out = false;
+    let mut is_after_name = false;
     for _ in 0..line.len() {
         let Some(field) = next_field(rest) else {
             break;
         };
         rest = field.rest;
-        if is_left_out {
-            is_left_out = false;
-            continue;
+        let is_name = !is_after_name && is_of(field.text, group);
+        if !is_name && !is_after_name {
+            add_field(text, field.text)?;
         }
-        if let Some(bidder) = bidder_of(field.text) {
-            if group.has(bidder) {
-                is_left_out = true;
-                continue;
-            }
-        }
-        if !is_first {
-            text.push(b' ')?;
-        }
-        is_first = false;
-        text.extend_from_slice(field.text)?;
+        is_after_name = is_name;
     }
     text.push(b'\n')?;
     Ok(())

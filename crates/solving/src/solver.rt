@@ -7,12 +7,13 @@ ghost use Rattle.solving.specs.Audits.{IsUnsolved, WritesAccepted};
 use crate::audit::{write_audit, write_unproved};
 use crate::groups::{Found, Others, search};
 use crate::parts::add_part;
-use crate::ties::{Tied, find_ties};
+use crate::ties::add_ties;
 use answers::{check_counts, won_by_groups};
 use auction_input::{Input, NamedText, Refusal, Request, read_auction};
 use auction_terms::{Choice, Groups};
 use byte_sinks::Sink;
 use group_compiler::{Compiler, GroupPrograms, OpenGate, make_all};
+use outcome::Allocation;
 use std::alloc::{AllocError, Global};
 use std::sync::Wait;
 use std::thread::Threads;
@@ -68,6 +69,15 @@ enum Solved {
     NotProved { wanted: Wanted, solutions: Vec<u8> },
 }
 
+/// What shows that solutions are right.
+#[derive(Drop)]
+enum Shown {
+    /// The parts after the solutions.
+    By(Vec<u8>),
+    /// The steps were used up.
+    Lacks(Wanted),
+}
+
 /// Copies of texts, and one more.
 fn texts_with(alloc: Global, given: &Input, last: &NamedText) -> Result<Input, AllocError> {
     let mut texts = Vec::new(alloc);
@@ -100,16 +110,48 @@ fn read_known<R: Threads + Wait + Sync + AllocGlobal>(
     check_counts(&auction)?;
     let compiler = Compiler::new(rt, alloc, &auction.book, &auction.groups)?;
     let won = won_by_groups(rt, &auction, &compiler, workers)?;
+    Ok(choices_of_all(alloc, won.as_slice())?)
+}
+
+/// The bids that allocations have.
+fn choices_of_all(alloc: Global, won: &[Allocation]) -> Result<Vec<Vec<Choice>>, AllocError> {
     let mut known = Vec::new(alloc);
-    for allocation in &won {
-        if known
-            .push(Vec::from_slice(alloc, allocation.choices())?)
-            .is_err()
-        {
-            return Err(Refusal::OutOfMemory);
-        }
+    for allocation in won {
+        known.push(Vec::from_slice(alloc, allocation.choices())?)?;
     }
     Ok(known)
+}
+
+/// What is found with nobody left out.
+fn search_first(
+    alloc: Global,
+    programs: &GroupPrograms<'_>,
+    known: &[Vec<Choice>],
+    most_steps: u64,
+) -> Result<Found, AllocError> {
+    let nobody = Groups::only_empty(alloc)?;
+    let program = programs.without(alloc, nobody.group(1))?;
+    let start = match known.first() {
+        Some(choices) => choices.as_slice(),
+        None => &[],
+    };
+    search(alloc, &program, start, most_steps)
+}
+
+/// What was found of group 1 and then of the others.
+fn joined(
+    alloc: Global,
+    first: Found,
+    others: Vec<Option<Found>>,
+) -> Result<Vec<Found>, AllocError> {
+    let mut all = Vec::new(alloc);
+    all.push(first)?;
+    for found in others {
+        if let Some(found) = found {
+            all.push(found)?;
+        }
+    }
+    Ok(all)
 }
 
 /// What is found without each group, in order: the first one from nothing, and the others from what it came to.
@@ -124,13 +166,7 @@ fn search_groups<R: Threads + Wait + Sync + AllocGlobal>(
     requires few { options.workers ≤ MOST_WORKERS }
 {
     let alloc: Global = rt.alloc();
-    let nobody = Groups::only_empty(alloc)?;
-    let program = programs.without(alloc, nobody.group(1))?;
-    let start = match known.first() {
-        Some(choices) => choices.as_slice(),
-        None => &[],
-    };
-    let first = search(alloc, &program, start, options.most_steps)?;
+    let first = search_first(alloc, programs, known, options.most_steps)?;
     let others = Others {
         programs,
         groups,
@@ -139,14 +175,7 @@ fn search_groups<R: Threads + Wait + Sync + AllocGlobal>(
         most_steps: options.most_steps,
     };
     let made = make_all(rt, alloc, options.workers, &OpenGate, &others)?;
-    let mut all = Vec::new(alloc);
-    all.push(first)?;
-    for found in made {
-        if let Some(found) = found {
-            all.push(found)?;
-        }
-    }
-    Ok(all)
+    joined(alloc, first, made)
 }
 
 /// The parts `%solution`.
@@ -171,6 +200,42 @@ fn add_certificates(text: &mut Vec<u8>, all: &[Found]) -> Result<Option<usize>, 
     Ok(None)
 }
 
+/// What shows that what was found is right: the certificates, and the ties if they are asked for.
+fn show(
+    alloc: Global,
+    programs: &GroupPrograms<'_>,
+    all: &[Found],
+    options: Options,
+) -> Result<Shown, AllocError> {
+    let mut parts = Vec::new(alloc);
+    if let Some(group) = add_certificates(&mut parts, all)? {
+        return Ok(Shown::Lacks(Wanted::Group(group)));
+    }
+    match all.first() {
+        Some(first) if options.ties => {
+            if add_first_ties(alloc, programs, first, options.most_steps, &mut parts)? {
+                Ok(Shown::By(parts))
+            } else {
+                Ok(Shown::Lacks(Wanted::Ties))
+            }
+        }
+        _ => Ok(Shown::By(parts)),
+    }
+}
+
+/// Adds the parts on ties of group 1. Whether the steps sufficed.
+fn add_first_ties(
+    alloc: Global,
+    programs: &GroupPrograms<'_>,
+    first: &Found,
+    most_steps: u64,
+    text: &mut Vec<u8>,
+) -> Result<bool, AllocError> {
+    let nobody = Groups::only_empty(alloc)?;
+    let program = programs.without(alloc, nobody.group(1))?;
+    add_ties(alloc, &program, first, most_steps, text)
+}
+
 /// What is found of the programs of an auction.
 fn solve_programs<R: Threads + Wait + Sync + AllocGlobal>(
     rt: &R,
@@ -184,30 +249,18 @@ fn solve_programs<R: Threads + Wait + Sync + AllocGlobal>(
 {
     let alloc: Global = rt.alloc();
     let all = search_groups(rt, programs, groups, known, options)?;
-    let solutions = solutions_of(alloc, all.as_slice())?;
-    let mut parts = solutions.clone()?;
-    if let Some(group) = add_certificates(&mut parts, all.as_slice())? {
-        return Ok(Solved::NotProved {
-            wanted: Wanted::Group(group),
-            solutions,
-        });
-    }
-    if let Some(first) = all.first() {
-        if options.ties {
-            let nobody = Groups::only_empty(alloc)?;
-            let program = programs.without(alloc, nobody.group(1))?;
-            match find_ties(alloc, &program, first, options.most_steps)? {
-                Tied::Parts(text) => parts.extend_from_slice(text.as_slice())?,
-                Tied::NotProved => {
-                    return Ok(Solved::NotProved {
-                        wanted: Wanted::Ties,
-                        solutions,
-                    });
-                }
-            }
+    let shown = show(alloc, programs, all.as_slice(), options)?;
+    let mut text = solutions_of(alloc, all.as_slice())?;
+    Ok(match shown {
+        Shown::By(parts) => {
+            text.extend_from_slice(parts.as_slice())?;
+            Solved::Proved(text)
         }
-    }
-    Ok(Solved::Proved(parts))
+        Shown::Lacks(wanted) => Solved::NotProved {
+            wanted,
+            solutions: text,
+        },
+    })
 }
 
 /// What is found of an input.

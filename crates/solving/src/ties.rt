@@ -3,7 +3,7 @@
 use crate::groups::Found;
 use crate::known::columns_of;
 use crate::parts::{add_part, solution_of};
-use leaves::{Aim, Answer, Task, prove};
+use leaves::{Aim, Answer, Proof, Task, prove};
 use program_rows::Selection;
 use std::alloc::{AllocError, Global};
 
@@ -20,11 +20,13 @@ struct Ties<'p> {
     most_steps: u64,
 }
 
-/// What was found of the points that are as good.
+/// What a search for one more point came to.
 #[derive(Drop)]
-pub enum Tied {
-    /// The parts `%tie`, and `%unique` if there are few enough.
-    Parts(Vec<u8>),
+enum Sought {
+    /// There is none, as this text shows.
+    Unique(Vec<u8>),
+    /// The columns at 1 of one that was missed.
+    Another(Vec<usize>),
     /// The steps were used up.
     NotProved,
 }
@@ -63,48 +65,85 @@ impl<'p> Ties<'p> {
         }
     }
 
+    /// Looks for one more point.
+    fn seek(&self) -> Result<Sought, AllocError> {
+        if self.points.len() > MOST_TIES + 1 {
+            return Ok(Sought::NotProved);
+        }
+        let least = self.objective.saturating_add(1);
+        let task = Task {
+            known: &[],
+            least: Some(least),
+            left_out: self.points.as_slice(),
+            aim: Aim::Better,
+            most_steps: self.most_steps,
+        };
+        Ok(match prove(self.alloc, self.program, task)? {
+            Answer::Proved(proof) => sought_of(proof, least),
+            Answer::NotProved { .. } | Answer::TooMany(_) => Sought::NotProved,
+        })
+    }
+
     /// The text that shows that there are no others; nothing where the steps are used up. A point that was missed is added.
     fn prove_unique(&mut self) -> Result<Option<Vec<u8>>, AllocError> {
         for _ in 0..MOST_TIES {
-            if self.points.len() > MOST_TIES + 1 {
-                return Ok(None);
-            }
-            let least = self.objective.saturating_add(1);
-            let task = Task {
-                known: &[],
-                least: Some(least),
-                left_out: self.points.as_slice(),
-                aim: Aim::Better,
-                most_steps: self.most_steps,
-            };
-            match prove(self.alloc, self.program, task)? {
-                Answer::Proved(proof) if proof.objective == least => {
-                    return Ok(Some(proof.certificate));
-                }
-                Answer::Proved(proof) => self.points.push(proof.ones)?,
-                _ => return Ok(None),
+            match self.seek()? {
+                Sought::Unique(certificate) => return Ok(Some(certificate)),
+                Sought::Another(ones) => self.points.push(ones)?,
+                Sought::NotProved => return Ok(None),
             }
         }
         Ok(None)
     }
 
     /// Adds the parts of the points but the first one.
-    fn add_ties(&self, text: &mut Vec<u8>) -> Result<(), AllocError> {
+    fn add_points(&self, text: &mut Vec<u8>) -> Result<(), AllocError> {
         for ones in self.points.iter().skip(1).take(MOST_TIES) {
             let solution = solution_of(self.alloc, self.program, ones.as_slice())?;
             add_part(text, b"%tie", solution.as_slice())?;
         }
         Ok(())
     }
+
+    /// Adds the parts of all points that were found. Whether the steps suffice to show that there are no more, if they are few enough.
+    fn add_parts(&mut self, text: &mut Vec<u8>) -> Result<bool, AllocError> {
+        if self.points.len() > MOST_TIES + 1 {
+            self.add_points(text)?;
+            return Ok(true);
+        }
+        let Some(unique) = self.prove_unique()? else {
+            return Ok(false);
+        };
+        self.add_points(text)?;
+        add_part(text, b"%unique", unique.as_slice())?;
+        Ok(true)
+    }
 }
 
-/// Finds every award as good as the best one of group 1's program.
-pub fn find_ties<'p>(
+/// What a search for a point below this objective came to.
+fn sought_of(proof: Proof, least: i128) -> Sought {
+    let Proof {
+        ones,
+        objective,
+        certificate,
+        ..
+    } = proof;
+    if objective == least {
+        Sought::Unique(certificate)
+    } else {
+        Sought::Another(ones)
+    }
+}
+
+/// Adds the parts `%tie` of every award as good as the best one of group 1's program, and `%unique` if there are few enough. Whether the
+/// steps sufficed.
+pub fn add_ties<'p>(
     alloc: Global,
     program: &'p Selection<'p>,
     first: &Found,
     most_steps: u64,
-) -> Result<Tied, AllocError> {
+    text: &mut Vec<u8>,
+) -> Result<bool, AllocError> {
     let mut points = Vec::new(alloc);
     points.push(columns_of(alloc, program, first.choices.as_slice())?)?;
     let mut ties = Ties {
@@ -114,20 +153,5 @@ pub fn find_ties<'p>(
         objective: first.objective,
         most_steps,
     };
-    if !ties.find()? {
-        return Ok(Tied::NotProved);
-    }
-    let mut unique = None;
-    if ties.points.len() <= MOST_TIES + 1 {
-        unique = ties.prove_unique()?;
-        if unique.is_none() {
-            return Ok(Tied::NotProved);
-        }
-    }
-    let mut text = Vec::new(alloc);
-    ties.add_ties(&mut text)?;
-    if let Some(unique) = unique {
-        add_part(&mut text, b"%unique", unique.as_slice())?;
-    }
-    Ok(Tied::Parts(text))
+    Ok(ties.find()? && ties.add_parts(text)?)
 }
