@@ -2,6 +2,8 @@
 said to be, each task runs once after those that it waits for, and what breaks off, doesn't begin, isn't run or can't be compared has
 failed."""
 
+import importlib.machinery
+import importlib.util
 import itertools
 import os
 import re
@@ -19,6 +21,7 @@ from gate.edits import Sources, edit_of
 from gate.check_output import is_within, findings_in
 from gate.steps import Steps, counts_in
 from gate.trial import Trial
+from trials.program import list_programs
 from trials.program_runs import seen
 
 LIB = read_text("fixtures", "edits", "names.rt.txt")
@@ -219,6 +222,16 @@ def test_without_rt(tmp_path):
     here = {"cwd": tmp_path, "env": {"PATH": str(tmp_path)}}
     came = seen("/usr/bin/python3", [f"{ROOT}/tools/prove"], b"", **here)
     assert (came[0], came[1].splitlines()[-1], came[2]) == (2, b"0 passed, 1 failed", b"")
+
+
+def test_each_step_takes_the_programs(tmp_path):
+    loader = importlib.machinery.SourceFileLoader("whole_gate", str(ROOT / "test"))
+    gate = importlib.util.module_from_spec(importlib.util.spec_from_loader("whole_gate", loader))
+    loader.exec_module(gate)
+    found = {name: shutil.copy("/bin/true", tmp_path / name) for name in list_programs()}
+    _, command = gate.on_programs({name: str(path) for name, path in found.items()})[-1]
+    came = subprocess.run([*command, "--collect-only", "-q"], cwd=ROOT, capture_output=True)
+    assert (came.returncode, came.stderr) == (0, b"")
 
 
 HEAD = "import pytest, os\n\ndef test_one():\n    pass\n\n"
