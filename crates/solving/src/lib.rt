@@ -4,12 +4,8 @@
 
 mod audit;
 mod groups;
-mod known;
-mod losers;
 mod nowhere;
-mod parts;
 mod solver;
-mod ties;
 
 pub use audit::{write_audit, write_unproved};
 pub use solver::{Options, Unsolved, Wanted, solve};

@@ -5,13 +5,12 @@ ghost use Rattle.auction_terms.specs.declared.limits.TheConstants.{MOST_WORKERS}
 ghost use Rattle.solving.specs.Audits.{IsUnsolved, WritesAccepted};
 
 use crate::audit::{write_audit, write_unproved};
-use crate::groups::{Found, Others, search};
-use crate::parts::add_part;
-use crate::ties::add_ties;
+use crate::groups::Others;
 use answers::{check_counts, won_by_groups};
 use auction_input::{Input, NamedText, Refusal, Request, read_auction};
 use auction_terms::{Choice, Groups};
 use byte_sinks::Sink;
+use findings::{Found, add_part, add_ties, search};
 use group_compiler::{Compiler, GroupPrograms, OpenGate, make_all};
 use outcome::Allocation;
 use std::alloc::{AllocError, Global};

@@ -1,6 +1,6 @@
 //! Every award of a tie, and the text that shows that there are no others.
 
-use crate::groups::Found;
+use crate::found::Found;
 use crate::known::columns_of;
 use crate::parts::{add_part, solution_of};
 use leaves::{Aim, Answer, Proof, Task, prove};
