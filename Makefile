@@ -14,7 +14,7 @@ SHELL = /bin/sh
 export PREFIX DESTDIR ZSH PYTHON
 
 # all that is installed, below PREFIX
-INSTALLED = bin/wdp bin/wdp-desk bin/wdp-office bin/wdp-solve lib/wdp share/doc/wdp share/man/man1/wdp.1 share/man/man1/wdp-desk.1 share/man/man1/wdp-office*.1 \
+INSTALLED = bin/wdp bin/wdp-desk bin/wdp-office bin/wdp-solve lib/wdp share/doc/wdp share/man/man1/wdp.1 share/man/man1/wdp-desk.1 share/man/man1/wdp-solve.1 share/man/man1/wdp-office*.1 \
 	share/bash-completion/completions/wdp share/bash-completion/completions/wdp-office "$$ZSH/_wdp" "$$ZSH/_wdp-office" "$$PYTHON/wdp"
 
 help:

@@ -81,6 +81,11 @@ def wdp_desk(pytestconfig: pytest.Config) -> str:
 
 
 @pytest.fixture(scope="session")
+def wdp_solve(pytestconfig: pytest.Config) -> str:
+    return find_program(pytestconfig, "wdp_solve")
+
+
+@pytest.fixture(scope="session")
 def failing(tmp_path_factory: pytest.TempPathFactory) -> str:
     """The library of tools/trials/failing.c, to preload."""
     made = tmp_path_factory.mktemp("failing") / "failing.so"

@@ -71,6 +71,7 @@ MEASURING = {
     "desk": ["load", "--sessions", "2", "--bids", "1-2", "--port", "18480"],
     "filter": ["random", "100"],
     "hostile_workbooks": ["lying"],
+    "solve": ["--solver", "@solve", "--wdp", "@", "--ties", "--cbc", EXAMPLES / "worked.txt"],
     "mutated_workbooks": ["20"],
     "bare_machine": ["--list"],
 }
@@ -84,6 +85,7 @@ SHOWN = {
     "filter": "100 calls, 0 replies differ\n$",
     "hostile": r"(?s).*\| submitted .*\n\n[01] within bounds, [01] beyond\n$",
     "hostile_workbooks": r"(?s).*\| lying .*\n\n[01] within bounds, [01] beyond\n$",
+    "solve": r"\| worked\.txt \| \d+ \| 4 \| [\d.]+ \| \d+ \| 0 \| [\d.]+ \|\n$",
     "mutated_workbooks": r"\d+ read, \d+ refused, 0 in tracebacks\n$",
     "bare_machine": r"(?s)README.md:\n  \./wdp text examples/one_form\.txt\n.*docs/OFFICE.md:\n  apt-get .*docs/PYTHON.md:\n  apt-get .*"
     r"installs:\n  make install && wdp --version\n",
@@ -93,8 +95,9 @@ STATUSES = {"hostile": (0, 1), "hostile_workbooks": (0, 1)}
 
 
 @pytest.mark.parametrize("name", MEASURING)
-def test_scripts_that_measure(wdp: str, name: str) -> None:
-    words = [wdp if word == "@" else word for word in MEASURING[name]]
+def test_scripts_that_measure(wdp: str, wdp_solve: str, name: str) -> None:
+    programs = {"@": wdp, "@solve": wdp_solve}
+    words = [programs.get(str(word), word) for word in MEASURING[name]]
     printed = run_script(wdp, [name, *words], statuses=STATUSES.get(name, (0,)))
     assert re.match(SHOWN[name], printed)
 

@@ -103,7 +103,7 @@ impl<'p> Search<'p> {
     }
 
     /// The split whose sides raise the objective most.
-    fn choose(
+    fn strongest(
         &mut self,
         tableau: &Tableau,
         candidates: &[Candidate],
@@ -134,19 +134,21 @@ impl<'p> Search<'p> {
         Ok(strongest)
     }
 
-    /// Where to split a node; nothing where its point is whole.
-    pub fn branch(
+    /// The splits that part the point of a node, those first that halve a block; none where its point is whole.
+    pub fn candidates(&self, values: &[f64]) -> Result<Vec<Candidate>, AllocError> {
+        let mut candidates = find_candidates(self.alloc, self.problem, values)?;
+        candidates.sort_by_key(|candidate| OrderedFloat((candidate.part - 0.5).abs()))?;
+        Ok(candidates)
+    }
+
+    /// By which of these to split a node; nothing where there are none.
+    pub fn choose(
         &mut self,
         tableau: &Tableau,
-        values: &[f64],
+        candidates: &[Candidate],
     ) -> Result<Option<Candidate>, AllocError> {
-        let mut candidates = find_candidates(self.alloc, self.problem, values)?;
-        if candidates.is_empty() {
-            return Ok(None);
-        }
-        candidates.sort_by_key(|candidate| OrderedFloat((candidate.part - 0.5).abs()))?;
         self.trial.copy_from(tableau);
-        let chosen = self.choose(tableau, candidates.as_slice())?;
+        let chosen = self.strongest(tableau, candidates)?;
         let steps = self.trial.take_steps();
         self.count(steps);
         Ok(chosen)
