@@ -1,3 +1,4 @@
 mod Copies
 mod Extending
+mod Parts
 mod Rewinding

@@ -5,5 +5,6 @@ pub mod Heads
 pub mod Judging
 pub mod Recording
 pub mod Replies
+pub mod Settling
 pub mod Words
 pub mod inside

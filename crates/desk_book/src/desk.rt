@@ -68,11 +68,15 @@ impl<J: Judge + Drop> Desk<J> {
         })
     }
 
-    pub fn rules(&self) -> &Rules {
+    pub fn rules(&self) -> &Rules
+        ensures { result.now ≡ self.now.rules }
+    {
         &self.rules
     }
 
-    pub fn book(&self) -> &Book<Commitment> {
+    pub fn book(&self) -> &Book<Commitment>
+        ensures { result.now ≡ self.now.book }
+    {
         &self.book
     }
 
