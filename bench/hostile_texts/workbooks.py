@@ -97,7 +97,7 @@ def make_linked(kind, target, text, count=1, body=""):
 
 
 def make_comments():
-    places = (f"{workbooks.get_column_letter(column)}{row}" for row in range(1, 1_900) for column in range(1, 34))
+    places = (f"{workbooks.get_column_letter(column)}{row}" for row in range(1, 304) for column in range(1, 34))
     listed = "".join(f'<comment ref="{place}"/>' for place in places)
     return make_linked("comments", "comments1.xml", f'<comments xmlns="{workbooks.MAIN}"><commentList>{listed}</commentList></comments>')
 
@@ -220,7 +220,7 @@ KINDS = {
     "attributes": lambda: workbooks.make_one(f"<sheetData><row {' '.join(f'a{n}=' + chr(34) * 2 for n in range(5_000))}/></sheetData>" * 250),
     "deep": lambda: workbooks.make_one("<a>" * 1_400_000 + small),
     "comment": lambda: workbooks.make_one("<!--" + "<x" * 7_000_000 + "-->" + small),
-    "texts": lambda: workbooks.RawWorkbook(("Bids", make_rows(2, "<c><v>1</v></c>")), texts="<si><t>x</t></si>" * 249_000).bytes(),
+    "texts": lambda: workbooks.RawWorkbook(("Bids", make_rows(2, "<c><v>1</v></c>")), texts="<si><t>x</t></si>" * 100_000).bytes(),
     "styles": lambda: make_styles(["0"] * 24_000, make_rows(2, "<c><v>1</v></c>")).bytes(),
     "entries": make_entries,
 }

@@ -103,8 +103,9 @@ def table(style: str) -> dict[str, Any]:
     return linked("table", "table1.xml", root)
 
 
-def comment(cell: str) -> dict[str, Any]:
-    listed = f"<commentList><comment ref='{cell}'/></commentList>"
+def comment(cell: str, count: int = 1) -> dict[str, Any]:
+    comments = f"<comment ref='{cell}'/>" * count
+    listed = f"<commentList>{comments}</commentList>"
     return linked("comments", "comments1.xml", f"<comments xmlns='{MAIN}'>{listed}</comments>")
 
 

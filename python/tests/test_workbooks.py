@@ -19,7 +19,18 @@ import workbooks
 from commands import OfficeFolder
 from hand_made import make_like_apple, make_like_excel, make_like_google
 from mutated import mutate
-from odd_workbooks import AC, COMPATIBLE, ODD, TAKEN, Odd, condition, linked, make_odd, make_styles
+from odd_workbooks import (
+    AC,
+    COMPATIBLE,
+    ODD,
+    TAKEN,
+    Odd,
+    comment,
+    condition,
+    linked,
+    make_odd,
+    make_styles,
+)
 from wdp.files import Unreadable
 from wdp.office.known import KNOWN, ORDERED
 from wdp.office.workbooks import read_workbook
@@ -58,6 +69,14 @@ TOO_MUCH: dict[str, tuple[Callable[[], bytes], str]] = {
     "fonts": (
         lambda: make_odd(Odd(styles=make_styles(font="<font><sz val='11'/></font>" * 1_024))),
         "it has more than 1,024 fonts or fills",
+    ),
+    "texts": (
+        lambda: workbooks.RawWorkbook(("Bids", ""), texts="<si/>" * 100_001).bytes(),
+        "it has more than 100,000 texts",
+    ),
+    "comments": (
+        lambda: make_odd(Odd(**comment("B3", 10_001))),
+        "it has more than 10,000 comments",
     ),
     "sheets": (
         lambda: workbooks.RawWorkbook(*((f"s{number}", "") for number in range(1_001))).bytes(),

@@ -14,6 +14,7 @@ from wdp.office.remarks import Remarks
 
 _MOST_AREAS = 500  # merged, of conditions, or under drawings
 _MOST_RULES = 500  # of conditions
+_MOST_COMMENTS = 10_000
 _MOST_COMPARED = 200_000  # colours of conditions with colours of fonts
 _MOST_SCANS = 16  # of all cells, for fonts that can't be told from a colour of a condition
 _FROZEN = ("frozen", "frozenSplit")
@@ -196,6 +197,8 @@ class _Surroundings:
                 if parse_cell(cell) is None:
                     raise BadWorkbook("its comments aren't understood")
                 self.remarks.comments.append(cell)
+        if len(self.remarks.comments) > _MOST_COMMENTS:
+            raise BadWorkbook(f"it has more than {_MOST_COMMENTS:,} comments")
 
     def _take_drawing(self, part: XmlPart) -> None:
         """Takes the cells under each drawing: up to the sheet's end, if its size isn't in cells."""

@@ -33,6 +33,7 @@ from wdp.texts.tables import TableRow
 
 _LONGEST_NAME = 31  # characters of a sheet's name
 _MOST_SHEETS = 1_000
+_MOST_TEXTS = 100_000  # that cells share
 _MOST_SHEETS_NAMED = 9  # in a message
 _MOST_OF_A_TITLE = 20  # rows of another sheet, of which one may be the first row of a form
 
@@ -126,6 +127,8 @@ class _Workbook:
         for text in part.iterate(None, "si"):
             part.check(text)
             texts.append(_join_text(text, part))
+            if len(texts) > _MOST_TEXTS:
+                raise BadWorkbook(f"it has more than {_MOST_TEXTS:,} texts")
         part.check(part.root)
         return texts
 
