@@ -57,6 +57,18 @@ fn add_line(text: &mut Vec<u8>, line: &[u8], group: &Group) -> Result<(), AllocE
     Ok(())
 }
 
+/// Adds the lines of a certificate, each without the names of a group's bidders.
+fn add_lines(text: &mut Vec<u8>, certificate: &[u8], group: &Group) -> Result<(), AllocError> {
+    let mut lines = LineReader::new(certificate);
+    for _ in 0..certificate.len() {
+        let Some(line) = lines.next() else {
+            break;
+        };
+        add_line(text, line, group)?;
+    }
+    Ok(())
+}
+
 /// A certificate without the names of a group's bidders.
 pub fn without_names(
     alloc: Global,
@@ -64,9 +76,6 @@ pub fn without_names(
     group: &Group,
 ) -> Result<Vec<u8>, AllocError> {
     let mut text = Vec::new(alloc);
-    let mut lines = LineReader::new(certificate);
-    while let Some(line) = lines.next() {
-        add_line(&mut text, line, group)?;
-    }
+    add_lines(&mut text, certificate, group)?;
     Ok(text)
 }
