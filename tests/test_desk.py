@@ -306,7 +306,8 @@ def torn(data: bytes, end: int, chance: random.Random) -> bytes:
 
 @pytest.mark.parametrize("seed", range(12))
 def test_kills_and_torn_ends(wdp_desk: str, tmp_path: Path, seed: int) -> None:
-    """No reply that was told is without its entry, whatever becomes of the bytes behind the last that were told of."""
+    """No reply that was told is without its entry, whatever becomes of the bytes behind those that were synced: up to the last entry
+    that was told, and those of which an entry says so."""
     chance = random.Random(seed)
     journal = tmp_path / "j"
     told: list[bytes] = []
@@ -322,9 +323,11 @@ def test_kills_and_torn_ends(wdp_desk: str, tmp_path: Path, seed: int) -> None:
         time.sleep(chance.random() * 0.01)
         desk.kill()
         data = journal.read_bytes()
-        kept = {(entry.words[0], entry.chain): entry.end for entry in entries_of(FRONT, data)}
-        ends = [kept[entry] for entry in told_entries(told)]
-        journal.write_bytes(torn(data, max(ends, default=len(FRONT)), chance))
+        entries = list(entries_of(FRONT, data))
+        kept = {(entry.words[0], entry.chain): entry.end for entry in entries}
+        synced = [kept[entry] for entry in told_entries(told)]
+        synced += [int(entry.words[-1]) for entry in entries]
+        journal.write_bytes(torn(data, max(synced, default=len(FRONT)), chance))
     desk = Conversation(wdp_desk, journal)
     assert int(desk.opened.split()[0]) >= len(told_entries(told))
     desk.end()

@@ -3,7 +3,9 @@
 use crate::disk::Disk;
 use crate::faults::Explaining;
 use crate::reading::{Counted, read_all, read_exactly, read_line};
-use desk_book::{Desk, FrontFault, HEAD_LIMIT, JOURNAL_LIMIT, ReadFault, find_front, replay, serve_calls};
+use desk_book::{
+    Desk, FrontFault, HEAD_LIMIT, JOURNAL_LIMIT, ReadFault, find_front, replay, serve_calls,
+};
 use desk_line::Stop;
 use std::fs::{File, OpenOptions, TryLockError};
 use std::io::Write;

@@ -3,9 +3,7 @@
 use crate::faults::Explaining;
 use crate::filter::{Ended, journal_ended, print_ended};
 use crate::reading::read_all;
-use desk_book::{
-    Counts, Desk, EntryText, JOURNAL_LIMIT, Replayed, find_entry, find_front, replay,
-};
+use desk_book::{Counts, Desk, EntryText, JOURNAL_LIMIT, Replayed, find_entry, find_front, replay};
 use itoa::Buffer;
 use std::alloc::{AllocError, Global};
 use std::fs::File;
