@@ -136,7 +136,7 @@ fn rules_count(heads: &[u8]) -> Option<usize> {
         if *byte == b' ' {
             return if 0 < digits { Some(count) } else { None };
         }
-        if !byte.is_ascii_digit() || digits == 7 {
+        if !byte.is_ascii_digit() || digits >= 7 {
             return None;
         }
         count = count.saturating_add(scale.saturating_mul(usize::from(*byte - b'0')));

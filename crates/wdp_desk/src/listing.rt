@@ -116,7 +116,10 @@ fn add_state(
 ) -> Result<(), AllocError> {
     let desk = &replayed.desk;
     let counts = desk.counts(alloc)?;
-    for (place, (bidder, counts)) in desk.rules().bidders().iter().zip(&counts).enumerate() {
+    for (place, bidder) in desk.rules().bidders().iter().enumerate() {
+        let Some(counts) = counts.get(place) else {
+            break;
+        };
         let number = place.min(255) as u16 + 1;
         add_bidder(list, desk, number, bidder.name.as_bytes(), counts)?;
     }

@@ -19,18 +19,28 @@ pub fn read_words(rt: &HostRuntime) -> Words {
         return Words::Wrong;
     };
     let _program = args.next();
-    match (args.next(), args.next(), args.next(), args.next()) {
-        (Some(word), None, None, None) if word.as_str() == "--help" => Words::Help,
-        (Some(word), None, None, None) if word.as_str() == "--version" => Words::Version,
-        (Some(journal), None, None, None) if !journal.starts_with("--") => {
-            Words::Filter { journal }
-        }
-        (Some(word), Some(journal), None, None) if word.as_str() == "--replay" => {
-            Words::Replay { journal }
-        }
-        (Some(word), Some(journal), Some(openings), None) if word.as_str() == "--settle" => {
-            Words::Settle { journal, openings }
-        }
+    let Some(first) = args.next() else {
+        return Words::Wrong;
+    };
+    let second = args.next();
+    let third = args.next();
+    if args.next().is_some() {
+        return Words::Wrong;
+    }
+    match second {
+        Some(journal) => words_with(first.as_str(), journal, third),
+        None if first.as_str() == "--help" => Words::Help,
+        None if first.as_str() == "--version" => Words::Version,
+        None if first.starts_with("--") => Words::Wrong,
+        None => Words::Filter { journal: first },
+    }
+}
+
+// What an option asks for, of a journal and perhaps of openings.
+fn words_with(option: &str, journal: String, openings: Option<String>) -> Words {
+    match openings {
+        Some(openings) if option == "--settle" => Words::Settle { journal, openings },
+        None if option == "--replay" => Words::Replay { journal },
         _ => Words::Wrong,
     }
 }
