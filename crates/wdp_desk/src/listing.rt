@@ -50,20 +50,12 @@ fn add_entry(list: &mut Vec<u8>, text: &EntryText<'_>) -> Result<(), AllocError>
     add_words(list, &words)
 }
 
-// Adds the lines of the entries between these bytes of a journal.
-fn add_entries(
-    list: &mut Vec<u8>,
-    bytes: &[u8],
-    from: usize,
-    end: usize,
-) -> Result<(), AllocError> {
-    let mut at = from;
-    while at < end {
-        let Some(text) = find_entry(&bytes[at..end]) else {
-            return Ok(());
-        };
+// Adds the lines of entries, of which the bytes are these, one after the other.
+fn add_entries(list: &mut Vec<u8>, entries: &[u8]) -> Result<(), AllocError> {
+    let mut rest = entries;
+    while let Some(text) = find_entry(rest) {
         add_entry(list, &text)?;
-        at += text.len;
+        rest = &rest[text.len..];
     }
     Ok(())
 }
@@ -146,7 +138,9 @@ fn lines_of(
     if let Ok(front) = find_front(bytes) {
         let words: [&[u8]; 1] = [front.line];
         add_words(&mut list, &words)?;
-        add_entries(&mut list, bytes, front.len, replayed.end.min(bytes.len()))?;
+        if front.len <= replayed.end && replayed.end <= bytes.len() {
+            add_entries(&mut list, &bytes[front.len..replayed.end])?;
+        }
     }
     add_state(alloc, &mut list, replayed)?;
     if replayed.end < bytes.len() {
