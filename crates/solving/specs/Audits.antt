@@ -33,8 +33,8 @@ WritesAccepted asked given before after = (text : List ℕ) × IsAcceptedText as
 
 -- nothing was written; or a put failed, after the first bytes of a text that a request accepts
 pub data IsLeft (asked : Request) (given : Input) (before after : Outlet) : Refusal → Type 0 where
-  unwritten : {r : Refusal} → after ≡ before → IsLeft asked given before after r
-  in_part : {written : ℕ} → (text : List ℕ) → IsAcceptedText asked given text → GoesInPart before after text written
+  untouched : {r : Refusal} → after ≡ before → IsLeft asked given before after r
+  cut_off : {written : ℕ} → (text : List ℕ) → IsAcceptedText asked given text → GoesInPart before after text written
       → IsLeft asked given before after (refusal.Write (write.Sink written))
 
 -- why there is no audit, and what is left then: nothing; the first bytes of a text that a put cut off; or solutions that aren't proved, where they were
