@@ -95,7 +95,10 @@ def test_a_relative_folder_gives_solvers_a_whole_path(tmp_path: Path, wdp: str) 
     assert auction.read("report.txt") == REPORT, seen
 
 
-NESTED = "i=0; while [ $i -lt 3000 ]; do mkdir d; cd -P d; i=$((i+1)); done"
+HUNDRED = "hundred=$(printf 'd/%.0s' $(seq 100))"
+NESTED = (
+    f"{HUNDRED}; i=0; while [ $i -lt 30 ]; do mkdir -p $hundred; cd -P $hundred; i=$((i+1)); done"
+)
 
 
 def test_nested_folders_are_taken_away(tmp_path: Path, wdp: str) -> None:

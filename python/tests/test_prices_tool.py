@@ -729,7 +729,8 @@ def test_an_award_that_is_drawn_gets_prices_of_its_own(tied: AuctionFolder, tmp_
         assert figures["drawn"] == 2
         assert (figures["prices"] is not None) == has_prices
         assert (BELONG in page) == has_prices
-        assert run_prices(award.where / "results/audit.txt", "--output", path).status == 0
+        written = ["--output", path, "--replace"]
+        assert run_prices(award.where / "results/audit.txt", *written).status == 0
     (winner,) = (each["name"] for each in figures["bidders"] if each["bid"])
     assert winner != read_winner(tied)
     assert figures["prices"]["total"] == 20
