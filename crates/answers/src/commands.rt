@@ -99,7 +99,7 @@ fn answer_auction<R: Threads + Wait + Sync + AllocGlobal, S: Sink>(
 
 // Writes what is asked for of an auction. It only borrows the auction, so that each command is proved by the auction alone, and
 // `answer_auction` then says it of the input once for all of them.
-fn write_output<R: Threads + Wait + Sync + AllocGlobal, S: Sink>(
+fn write_output<R: Threads + Sync + AllocGlobal, S: Sink>(
     rt: &R,
     request: &Request,
     auction: &Auction<'_>,

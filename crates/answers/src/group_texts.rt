@@ -23,7 +23,7 @@ use outcome::add_names_line;
 /// Why not all programs went out. `written` bytes did, of the whole in order; the count stops at its greatest value.
 #[derive(Clone, Copy, Debug, PartialEq, Eq)]
 pub enum RunFault {
-    /// Memory, or the start of a thread, was refused, before anything went out.
+    /// Memory was refused, before anything went out.
     OutOfMemory { written: u64 },
     /// A put failed in the line or the text of a group, counted from 1.
     Sink { group: usize, written: u64 },
@@ -98,7 +98,7 @@ fn fault_in(k: usize, fault: WriteFault) -> RunFault
 }
 
 /// Writes the line and the text of the program of each group, in order, from the pages of the book. It takes no memory.
-pub fn write_programs<S: Sink>(
+pub fn write_joined<S: Sink>(
     book: &ClosedBook,
     pages: &Pages,
     groups: &Groups,

@@ -14,10 +14,9 @@ ghost use Rattle.answers.specs.inside.SolutionWinners.{AreMade, parsed_winners};
 use crate::first_faulty::Lowest;
 use crate::winning::{won_by_all, won_by_named};
 use auction_input::{Auction, PartKind, Refusal};
-use group_compiler::{Compiler, Maker, OpenGate, make_all};
+use group_compiler::{Compiler, Maker, make_each};
 use outcome::Allocation;
 use std::alloc::{AllocError, Global};
-use std::sync::Wait;
 use std::thread::Threads;
 
 /// Finds what the solution of each group's program wins, by the program of the bids that it names. A solution that this
@@ -125,7 +124,7 @@ pub fn check_counts(auction: &Auction<'_>) -> Result<(), Refusal>
 
 /// What the solutions of an auction whose counts are right win, group by group, by the auction's compiler. No more programs
 /// stand at once than there are workers.
-pub fn won_by_groups<R: Threads + Wait + Sync + AllocGlobal>(
+pub fn won_by_groups<R: Threads + Sync + AllocGlobal>(
     rt: &R,
     auction: &Auction<'_>,
     compiler: &Compiler<'_, '_>,
@@ -146,7 +145,7 @@ pub fn won_by_groups<R: Threads + Wait + Sync + AllocGlobal>(
         solutions: auction.solutions.as_slice(),
         left: Lowest::none(),
     };
-    let made = make_all(rt, alloc, workers, &OpenGate, &winning)?;
+    let made = make_each(rt, alloc, workers, &winning)?;
     all_won(alloc, &winning, made)
 }
 

@@ -167,11 +167,12 @@ module _ (asked : Request) (input : Input) (last_wins : Bool) (same : input.last
   parsed-is t forms groups parsed = auction-is t parsed.rules forms parsed.each parsed.alone groups parsed.known parsed.accepted
 
   -- a round that leaves no book leaves no auction
-  pub run-refused : asked ≢ request.Check → (r : Refusal) → RefusesRun last_wins parts r → RefusesAuction asked input r
-  run-refused reads r (inl refused) = inl (refused asked input same cut)
-  run-refused reads r (inr unanswered) =
+  pub run-refused : asked ≢ request.Check → asked ≢ request.Forms → (r : Refusal) → RefusesRun last_wins parts r → RefusesAuction asked input r
+  run-refused reads formless r (inl refused) = inl (refused asked input same cut)
+  run-refused reads formless r (inr unanswered) =
       inr (
         reads,
+        formless,
         auction_of unanswered.t unanswered.forms unanswered.groups (rest_in
             parts),
         parsed-is unanswered.t unanswered.forms unanswered.groups unanswered.parsed,

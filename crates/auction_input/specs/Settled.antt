@@ -35,10 +35,10 @@ held auction = record {
   rule_texts = bytes_of auction.rule_texts.items;
 }
 
--- the auction, which the request reads, is accepted, and yet a wrong answer of the desk is reported: that it gave one isn't said, since
--- nothing is known of what a lock gives
+-- the auction, which the request reads (`check` and `forms` read none), is accepted, and yet a wrong answer of the desk is reported: that it
+-- gave one isn't said, since nothing is known of what a lock gives
 abbrev pub IsUnsettled : Request → Input → Refusal → Type 0
-IsUnsettled asked input r = (asked ≢ request.Check) × (auction : Auction) × (parsed_auction asked input ≡ Ok auction) × (r ≡ refusal.Round round.WrongAnswer)
+IsUnsettled asked input r = (asked ≢ request.Check) × (asked ≢ request.Forms) × (auction : Auction) × (parsed_auction asked input ≡ Ok auction) × (r ≡ refusal.Round round.WrongAnswer)
 
 -- why an input leaves no settled auction
 abbrev pub RefusesAuction : Request → Input → Refusal → Type 0

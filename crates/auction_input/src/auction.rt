@@ -200,7 +200,8 @@ pub fn read_auction<'t, R: Threads + Wait + Sync + AllocGlobal>(
     request: &Request,
     input: &'t Input,
 ) -> Result<Auction<'t>, Refusal>
-    requires { request.now ≢ Request.Check }
+    requires auction { request.now ≢ Request.Check }
+    requires not_forms { request.now ≢ Request.Forms }
     ensures parsed { IfOk result (λ auction. parsed_auction request.now input.now ≡ Ok (held auction)) }
     ensures submitted { IfOk result (λ auction. HoldsForms input.now auction.book) }
     ensures sold { IfOk result (λ auction. IsSold request.now input.now (held auction)) }

@@ -18,6 +18,7 @@ mod pool;
 mod rendering;
 mod section;
 mod steps;
+mod stop;
 mod work;
 mod writing;
 
@@ -31,6 +32,6 @@ pub use limits::{ALL_DRAWS, WORKER_DRAWS};
 pub use maker::Maker;
 pub use page::Page;
 pub use pages::Pages;
-pub use pool::{compile_all, make_all};
+pub use pool::{compile_all, make_all, make_each};
 pub use section::Section;
 pub use writing::add_group_text;

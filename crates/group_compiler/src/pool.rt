@@ -22,30 +22,14 @@ use crate::compiling::Compiler;
 use crate::gate::Gate;
 use crate::maker::Maker;
 use crate::ordering::in_order;
+use crate::stop::{AtGate, Nowhere, Stop};
 use crate::work::{Work, make_drawn};
 use auction_terms::Groups;
 use bid_desk::ClosedBook;
 use std::alloc::{AllocError, Global};
-use std::snapshot::Snapshot;
 use std::sync::Wait;
 use std::thread;
-use std::thread::{Promise, Threads};
-
-/// What a worker's thread promises: its work from a claim with the draws of one worker.
-#[derive(Drop)]
-pub struct WorkOfOneClaim<G, M> {
-    pub claims: Snapshot<Claims>,
-    pub gate: Snapshot<G>,
-    pub maker: Snapshot<M>,
-}
-
-impl<G: Gate, M: Maker> Promise<Result<Work<M::Made>, AllocError>> for WorkOfOneClaim<G, M> {
-    ghost use Rattle.std.specs.Prelude.{IfOk};
-    ghost use Rattle.group_compiler.specs.inside.Works.{IsWork, draws};
-    ghost use Rattle.group_compiler.specs.declared.limits.TheConstants.{WORKER_DRAWS};
-
-    ghost kept_by = { λ p r. IfOk r (λ work. IsWork p.claims.value (M.count_of p.maker.value) (M.groups_of p.maker.value) (M.makes p.maker.value) (G.is_past p.gate.value) work × (draws work ≡ WORKER_DRAWS)) };
-}
+use std::thread::Threads;
 
 // What every maker keeps to: how many numbers there may be.
 fn within_limits<M: Maker>(maker: &M)
@@ -55,19 +39,19 @@ fn within_limits<M: Maker>(maker: &M)
 }
 
 // The work of two claims, as that of one.
-fn join_works<G: Gate, M: Maker>(
+fn join_works<R, G: Stop<R>, M: Maker>(
     claims: &Claims,
-    gate: &G,
+    stop: &G,
     maker: &M,
     mut mine: Work<M::Made>,
     theirs: Work<M::Made>,
 ) -> Result<Work<M::Made>, AllocError>
     requires mine { IsWork claims.now (M.count_of maker.now) (M.groups_of maker.now)
-        (M.makes maker.now) (G.is_past gate.now) mine }
+        (M.makes maker.now) (G.is_past stop.now) mine }
     requires theirs { IsWork claims.now (M.count_of maker.now) (M.groups_of maker.now)
-        (M.makes maker.now) (G.is_past gate.now) theirs }
+        (M.makes maker.now) (G.is_past stop.now) theirs }
     ensures { IfOk result (λ both. IsWork claims.now (M.count_of maker.now) (M.groups_of maker.now)
-        (M.makes maker.now) (G.is_past gate.now) both × (draws both ≡ draws mine + draws theirs)) }
+        (M.makes maker.now) (G.is_past stop.now) both × (draws both ≡ draws mine + draws theirs)) }
 {
     within_limits(maker);
     let Work { claim, mut results } = theirs;
@@ -77,32 +61,32 @@ fn join_works<G: Gate, M: Maker>(
 }
 
 // The same of what two workers give, if neither was refused memory.
-fn join_both<G: Gate, M: Maker>(
+fn join_both<R, G: Stop<R>, M: Maker>(
     claims: &Claims,
-    gate: &G,
+    stop: &G,
     maker: &M,
     mine: Result<Work<M::Made>, AllocError>,
     theirs: Result<Work<M::Made>, AllocError>,
 ) -> Result<Work<M::Made>, AllocError>
     requires mine { IfOk mine (IsWork claims.now (M.count_of maker.now) (M.groups_of maker.now)
-        (M.makes maker.now) (G.is_past gate.now)) }
+        (M.makes maker.now) (G.is_past stop.now)) }
     requires theirs { IfOk theirs (IsWork claims.now (M.count_of maker.now) (M.groups_of maker.now)
-        (M.makes maker.now) (G.is_past gate.now)) }
+        (M.makes maker.now) (G.is_past stop.now)) }
     ensures work { IfOk result (IsWork claims.now (M.count_of maker.now) (M.groups_of maker.now)
-        (M.makes maker.now) (G.is_past gate.now)) }
+        (M.makes maker.now) (G.is_past stop.now)) }
     ensures draws { (a b : ℕ) → IfOk mine (λ work. draws work ≡ a)
         → IfOk theirs (λ work. draws work ≡ b) → IfOk result (λ both. draws both ≡ a + b) }
 {
-    join_works(claims, gate, maker, mine?, theirs?)
+    join_works::<R, G, M>(claims, stop, maker, mine?, theirs?)
 }
 
-// Splits off a claim and starts a thread with it, until one worker is left, which works here.
-fn run_workers<R: Threads + Wait + Sync, G: Gate + Sync, M: Maker + Sync>(
+// Splits off a claim and joins a thread that works from it, until one worker is left, which works here.
+fn run_workers<R: Threads + Sync, G: Stop<R> + Sync, M: Maker + Sync>(
     rt: &R,
     alloc: Global,
     claims: &Claims,
     workers: usize,
-    gate: &G,
+    stop: &G,
     maker: &M,
     mut claim: Claim,
 ) -> Result<Work<M::Made>, AllocError>
@@ -110,64 +94,79 @@ fn run_workers<R: Threads + Wait + Sync, G: Gate + Sync, M: Maker + Sync>(
     requires fresh { claim.drawn ≡ [] }
     requires room { WORKER_DRAWS * workers ≤ claim.room }
     requires workers { 0 < workers }
-    requires due { IsDueOncePast (M.groups_of maker.now) (G.is_past gate.now) (M.is_due maker.now) }
+    requires due { IsDueOncePast (M.groups_of maker.now) (G.is_past stop.now) (M.is_due maker.now) }
     ensures { IfOk result (λ work. IsWork claims.now (M.count_of maker.now) (M.groups_of maker.now)
-        (M.makes maker.now) (G.is_past gate.now) work × (draws work ≡ claim.room)) }
+        (M.makes maker.now) (G.is_past stop.now) work × (draws work ≡ claim.room)) }
 {
     if workers == 1 {
-        return make_drawn(rt, alloc, claims, gate, maker, claim);
+        return make_drawn(rt, alloc, claims, stop, maker, claim);
     }
     let other = claims.split(&mut claim)?;
-    let (mine, theirs) = thread::scope(
-        thread::scope_env(),
+    let (theirs, mine) = thread::join(
         rt,
-        |scope| -> Result<
-            (
-                Result<Work<M::Made>, AllocError>,
-                Result<Work<M::Made>, AllocError>,
-            ),
-            AllocError,
-        >
+        move || -> Result<Work<M::Made>, AllocError>
             requires { IsSync R.row × IsSync G.row × IsSync M.row × IsOf claims.now other
-                × (other.drawn ≡ []) × (other.room ≡ WORKER_DRAWS) × IsOf claims.now claim
+                × (other.drawn ≡ []) × (other.room ≡ WORKER_DRAWS)
+                × IsDueOncePast (M.groups_of maker.now) (G.is_past stop.now) (M.is_due maker.now) }
+            ensures { IfOk result (λ work. IsWork claims.entry.now
+                (M.count_of maker.entry.now) (M.groups_of maker.entry.now)
+                (M.makes maker.entry.now) (G.is_past stop.entry.now) work
+                × (draws work ≡ WORKER_DRAWS)) }
+        { make_drawn(rt, alloc, claims, stop, maker, other) },
+        move || -> Result<Work<M::Made>, AllocError>
+            requires { IsSync R.row × IsSync G.row × IsSync M.row × IsOf claims.now claim
                 × (claim.drawn ≡ []) × (WORKER_DRAWS * (workers - 1) ≤ claim.room) × (1 < workers)
-                × IsDueOncePast (M.groups_of maker.now) (G.is_past gate.now) (M.is_due maker.now) }
-            ensures { IfOk result (λ r. IfOk r.0
-                (λ work. IsWork claims.entry.now (M.count_of maker.entry.now)
-                (M.groups_of maker.entry.now) (M.makes maker.entry.now) (G.is_past gate.entry.now) work
-                × (draws work ≡ claim.room))
-                × IfOk r.1 (λ work. IsWork claims.entry.now (M.count_of maker.entry.now)
-                (M.groups_of maker.entry.now) (M.makes maker.entry.now) (G.is_past gate.entry.now) work
-                × (draws work ≡ WORKER_DRAWS))) }
-        {
-            let promise = WorkOfOneClaim {
-                claims: Snapshot::of(claims),
-                gate: Snapshot::of(gate),
-                maker: Snapshot::of(maker),
-            };
-            let child = scope.spawn_with(
-                promise,
-                move || -> Result<Work<M::Made>, AllocError>
-                    requires { IsSync R.row × IsSync G.row × IsSync M.row × IsOf claims.now other
-                        × (other.drawn ≡ []) × (other.room ≡ WORKER_DRAWS)
-                        × IsDueOncePast (M.groups_of maker.now) (G.is_past gate.now) (M.is_due maker.now) }
-                    ensures { IfOk result (λ work. IsWork claims.entry.now
-                        (M.count_of maker.entry.now) (M.groups_of maker.entry.now)
-                        (M.makes maker.entry.now) (G.is_past gate.entry.now) work
-                        × (draws work ≡ WORKER_DRAWS)) }
-                { make_drawn(rt, alloc, claims, gate, maker, other) },
-            )?;
-            let mine = run_workers(rt, alloc, claims, workers - 1, gate, maker, claim);
-            Ok((mine, child.join(rt)))
-        },
-    )?;
-    join_both(claims, gate, maker, mine, theirs)
+                × IsDueOncePast (M.groups_of maker.now) (G.is_past stop.now) (M.is_due maker.now) }
+            ensures { IfOk result (λ work. IsWork claims.entry.now
+                (M.count_of maker.entry.now) (M.groups_of maker.entry.now)
+                (M.makes maker.entry.now) (G.is_past stop.entry.now) work
+                × (draws work ≡ claim.room)) }
+        { run_workers(rt, alloc, claims, workers - 1, stop, maker, claim) },
+    );
+    join_both::<R, G, M>(claims, stop, maker, mine, theirs)
+}
+
+// What is made of each number, in order. With the number of a group a worker stops first.
+pub(crate) fn make_by<R: Threads + Sync, G: Stop<R> + Sync, M: Maker + Sync>(
+    rt: &R,
+    alloc: Global,
+    workers: usize,
+    stop: &G,
+    maker: &M,
+) -> Result<Vec<M::Made>, AllocError>
+    requires some { 1 ≤ workers }
+    requires few { workers ≤ MOST_WORKERS }
+    requires due { IsDueOncePast (M.groups_of maker.now) (G.is_past stop.now) (M.is_due maker.now) }
+    ensures made { IfOk result (λ all. AllZip (M.makes maker.now)
+        (range_with_len 0 (M.count_of maker.now)) all.items) }
+    ensures past { IfOk result (λ _. AreAllPast (M.groups_of maker.now) (G.is_past stop.now)) }
+{
+    let (claims, claim) = Claims::open(alloc)?;
+    let work = run_workers(rt, alloc, &claims, workers, stop, maker, claim)?;
+    let Work { claim, results } = work;
+    claims.close(claim);
+    in_order(alloc, maker, results)
 }
 
 /// What is made of each number, in order, with 1 to 64 workers, which draw the numbers from one counter. No more than one
-/// thing a worker is being made at once. The groups' numbers are drawn, too: with each a worker stops at the gate, at which it
-/// is counted from 1, and only then makes what is made of that number. So each group comes past, and nothing is made of a
-/// number before. If memory or the start of a thread is refused, nothing is given.
+/// thing a worker is being made at once. It waits for nothing but its own workers. If memory is refused, nothing is given.
+pub fn make_each<R: Threads + Sync, M: Maker + Sync>(
+    rt: &R,
+    alloc: Global,
+    workers: usize,
+    maker: &M,
+) -> Result<Vec<M::Made>, AllocError>
+    requires some { 1 ≤ workers }
+    requires few { workers ≤ MOST_WORKERS }
+    requires due { (n : ℕ) → M.is_due maker.now n }
+    ensures { IfOk result (λ all. AllZip (M.makes maker.now)
+        (range_with_len 0 (M.count_of maker.now)) all.items) }
+{
+    make_by(rt, alloc, workers, &Nowhere, maker)
+}
+
+/// The same, but the groups' numbers are drawn, too: with each a worker stops at the gate, at which it is counted from 1, and
+/// only then makes what is made of that number. So each group comes past, and nothing is made of a number before.
 pub fn make_all<R: Threads + Wait + Sync, G: Gate + Sync, M: Maker + Sync>(
     rt: &R,
     alloc: Global,
@@ -182,16 +181,12 @@ pub fn make_all<R: Threads + Wait + Sync, G: Gate + Sync, M: Maker + Sync>(
         (range_with_len 0 (M.count_of maker.now)) all.items) }
     ensures past { IfOk result (λ _. AreAllPast (M.groups_of maker.now) (G.is_past gate.now)) }
 {
-    let (claims, claim) = Claims::open(alloc)?;
-    let work = run_workers(rt, alloc, &claims, workers, gate, maker, claim)?;
-    let Work { claim, results } = work;
-    claims.close(claim);
-    in_order(alloc, maker, results)
+    make_by(rt, alloc, workers, &AtGate { gate }, maker)
 }
 
 /// Compiles all groups with 1 to 64 workers, which draw the groups' numbers from one counter, and gives in order what
 /// `compile_one` gives for each. A worker stops at the gate with the group's number that it drew, and then compiles that
-/// group. If memory or the start of a thread is refused, nothing is given.
+/// group. If memory is refused, nothing is given.
 pub fn compile_all<'g, R: Threads + Wait + Sync, G: Gate + Sync>(
     rt: &R,
     alloc: Global,

@@ -1,4 +1,4 @@
-//! One worker: it draws numbers, stops at the gate with each that is a group's, and then makes what is to be made of it.
+//! One worker: it draws numbers, stops with each that is a group's, and then makes what is to be made of it.
 
 ghost use Rattle.std.specs.Prelude.{◌≡◌, ◌+◌, ◌<◌, ◌≤◌, ◌++◌, ◌∷◌, [], All, cond, map, nat_lt, IfOk, OnOk};
 ghost use Rattle.auction_terms.specs.declared.limits.TheConstants.{MOST_GROUPS};
@@ -9,10 +9,9 @@ ghost use Rattle.group_compiler.specs.declared.limits.TheConstants.{WORKER_DRAWS
 
 use crate::claim::Claim;
 use crate::claims::Claims;
-use crate::gate::Gate;
 use crate::maker::Maker;
+use crate::stop::Stop;
 use std::alloc::{AllocError, Global};
-use std::sync::Wait;
 
 /// What is made of this number, from 0.
 #[derive(Drop)]
@@ -29,33 +28,33 @@ pub struct Work<T> {
 }
 
 // Draws and makes until a number is drawn that is no group's, and of which nothing is made.
-pub(crate) fn make_drawn<R: Wait, G: Gate, M: Maker>(
+pub(crate) fn make_drawn<R, G: Stop<R>, M: Maker>(
     rt: &R,
     alloc: Global,
     claims: &Claims,
-    gate: &G,
+    stop: &G,
     maker: &M,
     claim: Claim,
 ) -> Result<Work<M::Made>, AllocError>
     requires same { IsOf claims.now claim }
     requires fresh { claim.drawn ≡ [] }
     requires room { WORKER_DRAWS ≤ claim.room }
-    requires due { IsDueOncePast (M.groups_of maker.now) (G.is_past gate.now) (M.is_due maker.now) }
+    requires due { IsDueOncePast (M.groups_of maker.now) (G.is_past stop.now) (M.is_due maker.now) }
     ensures { IfOk result (λ work. IsWork claims.now (M.count_of maker.now) (M.groups_of maker.now)
-        (M.makes maker.now) (G.is_past gate.now) work × (draws work ≡ claim.room)) }
+        (M.makes maker.now) (G.is_past stop.now) work × (draws work ≡ claim.room)) }
 {
     let results = Vec::new(alloc);
     let mut work = Work { claim, results };
-    draw_on(rt, alloc, claims, gate, maker, &mut work)?;
+    draw_on(rt, alloc, claims, stop, maker, &mut work)?;
     Ok(work)
 }
 
-// The same, into work in which nothing is drawn yet. With each number that is a group's it stops at the gate.
-fn draw_on<R: Wait, G: Gate, M: Maker>(
+// The same, into work in which nothing is drawn yet. With each number that is a group's it stops.
+fn draw_on<R, G: Stop<R>, M: Maker>(
     rt: &R,
     alloc: Global,
     claims: &Claims,
-    gate: &G,
+    stop: &G,
     maker: &M,
     work: &mut Work<M::Made>,
 ) -> Result<(), AllocError>
@@ -63,9 +62,9 @@ fn draw_on<R: Wait, G: Gate, M: Maker>(
     requires fresh { work.old.claim.drawn ≡ [] }
     requires none { work.old.results.items ≡ [] }
     requires room { WORKER_DRAWS ≤ work.old.claim.room }
-    requires due { IsDueOncePast (M.groups_of maker.now) (G.is_past gate.now) (M.is_due maker.now) }
+    requires due { IsDueOncePast (M.groups_of maker.now) (G.is_past stop.now) (M.is_due maker.now) }
     ensures { OnOk result (IsWork claims.now (M.count_of maker.now) (M.groups_of maker.now)
-        (M.makes maker.now) (G.is_past gate.now) work.new × (draws work.new ≡ draws work.old)) }
+        (M.makes maker.now) (G.is_past stop.now) work.new × (draws work.new ≡ draws work.old)) }
 {
     let groups = maker.groups() as u64;
     let end = (maker.count() as u64).max(groups);
@@ -75,7 +74,7 @@ fn draw_on<R: Wait, G: Gate, M: Maker>(
             break;
         }
         if number < groups {
-            gate.arrive(rt, number as usize + 1);
+            stop.stop(rt, number as usize + 1);
         }
         add_made(&mut work.results, alloc, maker, number)?;
     }

@@ -19,11 +19,10 @@ use byte_sinks::Sink;
 use group_compiler::Compiler;
 use outcome::{Allocation, write_allocation};
 use std::alloc::Global;
-use std::sync::Wait;
 use std::thread::Threads;
 
 /// Writes what the one solution wins without group k of an auction.
-pub fn write_winners<R: Threads + Wait + Sync + AllocGlobal, S: Sink>(
+pub fn write_winners<R: Threads + Sync + AllocGlobal, S: Sink>(
     rt: &R,
     auction: &Auction<'_>,
     k: usize,
@@ -46,7 +45,7 @@ pub fn write_winners<R: Threads + Wait + Sync + AllocGlobal, S: Sink>(
 }
 
 // What the solution of the program of group k wins.
-fn won_by_group<R: Threads + Wait + Sync + AllocGlobal>(
+fn won_by_group<R: Threads + Sync + AllocGlobal>(
     rt: &R,
     book: &ClosedBook,
     groups: &Groups,

@@ -11,11 +11,10 @@ use auction_input::{Auction, Refusal, Request};
 use byte_sinks::Sink;
 use group_compiler::Compiler;
 use outcome::report;
-use std::sync::Wait;
 use std::thread::Threads;
 
 /// Writes what the solutions of all groups of an auction win, and the groups' opportunity costs.
-pub fn write_costs<R: Threads + Wait + Sync + AllocGlobal, S: Sink>(
+pub fn write_costs<R: Threads + Sync + AllocGlobal, S: Sink>(
     rt: &R,
     auction: &Auction<'_>,
     workers: usize,

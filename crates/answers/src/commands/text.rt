@@ -13,11 +13,10 @@ use auction_input::{Auction, Refusal, Request};
 use auction_terms::{Groups, MOST_WORKERS};
 use bid_desk::ClosedBook;
 use byte_sinks::Sink;
-use group_compiler::{OpenGate, Pages};
+use group_compiler::Pages;
 use presolve::has_few_bids;
 use rayon::current_num_threads;
 use std::alloc::Global;
-use std::sync::Wait;
 use std::thread::Threads;
 
 // How many workers make the pages: one for each processor, unless there is little to do.
@@ -32,7 +31,7 @@ fn page_workers(rt: &impl Threads, book: &ClosedBook) -> usize
 }
 
 /// Writes the text of the program with nobody left out, joined from pages that are made side by side.
-pub fn write_program_of_all<R: Threads + Wait + Sync + AllocGlobal, S: Sink>(
+pub fn write_program_of_all<R: Threads + Sync + AllocGlobal, S: Sink>(
     rt: &R,
     auction: &Auction<'_>,
     out: &mut S,
@@ -48,7 +47,7 @@ pub fn write_program_of_all<R: Threads + Wait + Sync + AllocGlobal, S: Sink>(
     book.within_limits();
     let groups = Groups::only_empty(alloc)?;
     let workers = page_workers(rt, book);
-    let pages = Pages::of_book(rt, alloc, book, groups.count(), workers, &OpenGate)?;
+    let pages = Pages::new(rt, alloc, book, workers)?;
     write_program_without(book, &pages, groups.group(1), out)?;
     Ok(())
 }

@@ -48,8 +48,8 @@ pub fn verify<R: Threads + Wait + Sync + AllocGlobal, S: Sink>(
 
 /// Writes what the solutions of an auction win, and the groups' opportunity costs, where certificates show that nobody wins more
 /// without its group; after it, if there are prices, what the winners pay; and what is known of other awards. What is written is
-/// true of the auction, whatever texts of solutions, certificates, ties and prices it came with.
-pub fn write_verified<R: Threads + Wait + Sync + AllocGlobal, S: Sink>(
+/// true of the auction, whatever texts of solutions, certificates, ties and prices it came with. It waits for nothing but its own workers.
+pub fn write_verified<R: Threads + Sync + AllocGlobal, S: Sink>(
     rt: &R,
     auction: &Auction<'_>,
     workers: usize,

@@ -13,13 +13,13 @@ loop-turn-preserved g c =
     let h = c.loop-turn.invariant in
     let count = g.M.Maker.count_of c.args.maker.now in
     let groups = g.M.Maker.groups_of c.args.maker.now in
-    let is_past = g.G.Gate.is_past c.args.gate.now in
+    let is_past = g.G.Stop.is_past c.args.stop.now in
     let n = c.draw-number.result in
     let old = c.loop-turn.work.claim.drawn in
     let new : c.draw-number.new.claim.drawn ≡ old ++ n ∷ [] = c.draw-number.ensures.drawn in
     let long : length c.draw-number.new.claim.drawn ≡ length old + 1 = ap (λ (xs : List ℕ). length xs) new ∙ length-append old (n ∷ []) in
     let past : n < groups → is_past (n + 1) = elim c.if-number-groups.branch [
-      | then-number-groups w ↦ λ below. w.arrive.ensures
+      | then-number-groups w ↦ λ below. w.stop.ensures
       | else-number-groups w ↦ λ below. absurd (let above = w.if-number-groups.false in let g = c.groups-groups.ensures.groups in omega arith)
     ] in
     let step = c.in_ok-add_made.ensures in
@@ -39,7 +39,7 @@ returns-then-number-end g c =
     let h = c.loop-turn.invariant in
     let count = g.M.Maker.count_of c.args.maker.now in
     let groups = g.M.Maker.groups_of c.args.maker.now in
-    let is_past = g.G.Gate.is_past c.args.gate.now in
+    let is_past = g.G.Stop.is_past c.args.stop.now in
     let n = c.draw-number.result in
     let old = c.loop-turn.work.claim.drawn in
     let new : c.draw-number.new.claim.drawn ≡ old ++ n ∷ [] = c.draw-number.ensures.drawn in

@@ -11,5 +11,5 @@ invariant-loop-turn g l = record {
   whole : l.work.claim.room + length l.work.claim.drawn ≡ l.fn.work.claim.room;
   numbers : map (λ r. r.number) l.work.results.items ≡ filter (λ n. nat_lt n (g.M.Maker.count_of l.maker)) l.work.claim.drawn;
   results : All (λ r. g.M.Maker.makes l.maker r.number r.made) l.work.results.items;
-  past : All (λ n. n < g.M.Maker.groups_of l.maker → g.G.Gate.is_past l.gate (n + 1)) l.work.claim.drawn;
+  past : All (λ n. n < g.M.Maker.groups_of l.maker → g.G.Stop.is_past l.stop (n + 1)) l.work.claim.drawn;
 }

@@ -10,8 +10,8 @@ returns-in-Ok-clause-faithful g c =
     let book = c.args.book.now in
     let groups = c.args.groups.now in
     let limits = c.within_limits.ensures in
-    on_ok_weaker c.write_programs.result (λ sent. (
+    on_ok_weaker c.write_joined.result (λ sent. (
       programs_bytes book (map (compiled book) groups),
       written-texts-are-faithful book limits.lots limits.book groups,
       sent.taken,
-    )) c.write_programs.ensures.ok
+    )) c.write_joined.ensures.ok

@@ -15,7 +15,7 @@ pub returns-in-Err-OutOfMemory-clause-refused : goal.returns-in-Err-OutOfMemory-
 returns-in-Err-OutOfMemory-clause-refused g c =
     let book = c.args.auction.now.book in
     let programs = map (compiled book) c.args.auction.now.groups in
-    let stopped = subst (StopsAsReported book programs (g.S.Sink.state c.args.out.now) (g.S.Sink.state c.run_compile.new.out))
+    let stopped = subst (StopsAsReported book programs (g.S.Sink.state c.args.out.now) (g.S.Sink.state c.write_programs.new.out))
     c.in-Err-OutOfMemory.field-0-is c.in-Err-OutOfMemory.ensures.stopped in
     by_refusal (inr refl) stopped.1
 
@@ -24,11 +24,11 @@ returns-in-Err-Sink-clause-refused g c =
     let book = c.args.auction.now.book in
     let groups = c.args.auction.now.groups in
     let programs = map (compiled book) groups in
-    let stopped = subst (StopsAsReported book programs (g.S.Sink.state c.args.out.now) (g.S.Sink.state c.run_compile.new.out))
+    let stopped = subst (StopsAsReported book programs (g.S.Sink.state c.args.out.now) (g.S.Sink.state c.write_programs.new.out))
     c.in-Err-Sink.field-0-is c.in-Err-Sink.ensures.stopped in
     by_put (programs_bytes book programs) (ap (λ (out : List ℕ). Ok out) (of-groups book 1 groups))
     (let (most, some, ends, failed, place) = stopped in record {
-      front = sent-front book programs _ _ (g.S.Sink.state c.args.out.now).taken (g.S.Sink.state c.run_compile.new.out).taken ends;
+      front = sent-front book programs _ _ (g.S.Sink.state c.args.out.now).taken (g.S.Sink.state c.write_programs.new.out).taken ends;
       failed = failed;
       place = place;
     })

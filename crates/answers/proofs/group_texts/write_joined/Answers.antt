@@ -6,7 +6,7 @@ use Rattle.byte_sinks.specs.Sinks.{GoesWhole}
 use Rattle.outcome.specs.Report.{in_turn}
 use Rattle.answers.specs.GroupTexts.{program_bytes, programs_bytes}
 use Rattle.answers.proofs.GroupTextFacts.{ends-in, ends-parsed, fails-parsed, in_turn-rest, programs-more}
-use Rattle.answers.proofs.group_texts.write_programs.Goals as goal
+use Rattle.answers.proofs.group_texts.write_joined.Goals as goal
 
 pub loop-place-preserved : goal.loop-place-preserved
 loop-place-preserved g c =

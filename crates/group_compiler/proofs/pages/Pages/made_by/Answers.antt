@@ -5,7 +5,7 @@ use Rattle.bid_desk.specs.Closing.{book_of}
 use Rattle.group_compiler.specs.Pages.{PageText, all_pages, page_of_lots}
 use Rattle.group_compiler.proofs.OrderFacts.{pages_in_order}
 use Rattle.group_compiler.proofs.JoinedFacts.{length_pages}
-use Rattle.group_compiler.proofs.pages.Pages.of_book.Goals as goal
+use Rattle.group_compiler.proofs.pages.Pages.made_by.Goals as goal
 
 pub returns-clause-pages : goal.returns-clause-pages
 returns-clause-pages g c =

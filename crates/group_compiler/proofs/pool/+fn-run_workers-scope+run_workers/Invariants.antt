@@ -1,8 +1,0 @@
-use Rattle.std.proofs.Common.{◌-◌, ◌*◌}
-use Rattle.group_compiler.proofs.pool.+fn-run_workers-scope+run_workers.Given as goal
-
-abbrev pub decreases-scope : goal.decreases-scope
-decreases-scope g l = 2 * l.workers - 1
-
-abbrev pub decreases-run_workers : goal.decreases-run_workers
-decreases-run_workers g l = 2 * l.workers
