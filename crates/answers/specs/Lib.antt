@@ -16,6 +16,7 @@ pub mod Forms
 pub mod GroupTexts
 pub mod Output
 pub mod Outside
+pub mod RunCalls
 pub mod Runs
 pub mod Sizes
 pub mod Verified

@@ -1,6 +1,6 @@
 //! The program on its words, its input and two sinks.
 
-ghost use Rattle.std.specs.Prelude.{◌≡◌, ◌≢◌, ◌⊎◌, ◌<◌, ◌≤◌, IfErr, IfOk, IfSome, IsSome, List, OnErr, OnOk, Ok, codes, flat_map, length, ℕ};
+ghost use Rattle.std.specs.Prelude.{◌≡◌, ◌≢◌, ◌⊎◌, ◌<◌, ◌≤◌, Bool, IfErr, IfOk, IfSome, IsSome, List, OnErr, OnOk, Ok, codes, flat_map, length, ℕ};
 ghost use Rattle.byte_sinks.specs.Sinks.{GoesWhole};
 ghost use Rattle.std.specs.IoError.{error_kind};
 ghost use Rattle.std.specs.declared.io.ErrorKind.TheVariants as io_kind;
@@ -13,7 +13,9 @@ ghost use Rattle.answers.specs.Exact.{Ends, Writes};
 ghost use Rattle.answers.specs.Outside.{outside_of};
 ghost use Rattle.auction_input.specs.Requests.{IsRequestWithinLimits};
 ghost use Rattle.answers.specs.Runs.{HasLooked, IsRun, Reads, begun};
+ghost use Rattle.auction_input.specs.FileCalls.{AreBegun, AreMade, openings};
 ghost use Rattle.auction_input.specs.FileTexts.{IsUnread};
+ghost use Rattle.answers.specs.RunCalls.{AreCalled, looks_named};
 ghost use Rattle.answers.specs.inside.Runs.{HasExplainedInput, HasShown, IsReportedSo, IsReported, IsLeftUnanswered, IsUnprepared, IsUnreported};
 
 use crate::command_line::{Command, command_of};
@@ -41,17 +43,19 @@ use std::thread::Threads;
 pub fn run<R: Threads + Wait + Sync + AllocGlobal, D: Files, I: Read, S: Output, F: Sink>(
     rt: &R,
     words: io::Result<Args>,
-    files: &D,
+    files: &mut D,
     input: &mut Source<I>,
     out: &mut S,
     faults: &mut F,
 ) -> u8
     ensures status { result ≤ 2 }
-    ensures outside { IsRun (D.shelf files.now) (asked_of words) result
+    ensures outside { IsRun (D.shelf files.old) (asked_of words) result
         (outside_of (I.remaining input.old.reader) input.old.failures (S.sendable out.old) (S.state out.old)
         (F.state faults.old))
         (outside_of (I.remaining input.new.reader) input.new.failures (S.sendable out.new) (S.state out.new)
         (F.state faults.new)) }
+    ensures shelf_kept { D.shelf files.new ≡ D.shelf files.old }
+    ensures called { AreCalled (asked_of words) result (D.calls files.old) (D.calls files.new) }
     // Where std gives no words, memory was short, or one of them isn't UTF-8.
     ensures wordless { IfErr words (λ e. (error_kind e ≡ io_kind.OutOfMemory → result ≡ 1)
         × (error_kind e ≢ io_kind.OutOfMemory → (result ≡ 2)
@@ -96,16 +100,21 @@ fn put_fault<F: Sink>(text: &[u8], faults: &mut F) -> u8
 // Looks at the files that a command line names, and opens the one that is to be written.
 fn prepare<D: Files, S: Output>(
     alloc: Global,
-    files: &D,
+    files: &mut D,
     command: &Command,
     out: &mut S,
 ) -> Result<(), FileRefusal>
-    ensures looked { OnOk result (HasLooked (D.shelf files.now) (command_line_of command.now)) }
+    ensures looked { OnOk result (HasLooked (D.shelf files.old) (command_line_of command.now)) }
     ensures begun { OnOk result (S.state out.new
         ≡ begun (command_line_of command.now).output (S.state out.old)) }
-    ensures refused { IfErr result (IsUnprepared (D.shelf files.now) (S.sendable out.old)
+    ensures refused { IfErr result (IsUnprepared (D.shelf files.old) (S.sendable out.old)
         (command_line_of command.now)) }
     ensures kept { OnErr result (S.state out.new ≡ S.state out.old) }
+    ensures shelf_kept { D.shelf files.new ≡ D.shelf files.old }
+    ensures called { OnOk result ((with_rights : Bool) × AreMade (looks_named (command_line_of command.now).files
+        (command_line_of command.now).output with_rights) (D.calls files.old) (D.calls files.new)) }
+    ensures looks_begun { OnErr result ((with_rights : Bool) × AreBegun (looks_named (command_line_of command.now).files
+        (command_line_of command.now).output with_rights) (D.calls files.old) (D.calls files.new)) }
 {
     let names = command.files.as_slice();
     let Some(output) = &command.output else {
@@ -128,15 +137,20 @@ fn prepare<D: Files, S: Output>(
 fn read_input<D: Files, I: Read>(
     alloc: Global,
     command: &Command,
-    files: &D,
+    files: &mut D,
     input: &mut Source<I>,
 ) -> Result<Input, Unread>
-    ensures read { IfOk result (Reads (D.shelf files.now) (command_line_of command.now)
+    ensures read { IfOk result (Reads (D.shelf files.old) (command_line_of command.now)
         (I.remaining input.old.reader) (I.remaining input.new.reader)) }
     ensures unfailed { OnOk result (input.new.failures ≡ input.old.failures) }
-    ensures unread { IfErr result (λ f. IsUnread (D.shelf files.now) (command_line_of command.now).files f
+    ensures unread { IfErr result (λ f. IsUnread (D.shelf files.old) (command_line_of command.now).files f
         (I.remaining input.old.reader) (I.remaining input.new.reader) input.old.failures
         input.new.failures) }
+    ensures shelf_kept { D.shelf files.new ≡ D.shelf files.old }
+    ensures called { OnOk result (AreMade (openings (command_line_of command.now).files)
+        (D.calls files.old) (D.calls files.new)) }
+    ensures begun { OnErr result (AreBegun (openings (command_line_of command.now).files)
+        (D.calls files.old) (D.calls files.new)) }
 {
     match read_inputs(alloc, files, command.files.as_slice(), input) {
         Ok(given) => Ok(given.with_last_wins(command.last_wins)),
@@ -148,19 +162,21 @@ fn read_input<D: Files, I: Read>(
 fn answer_command<R: Threads + Wait + Sync + AllocGlobal, D: Files, I: Read, S: Output, F: Sink>(
     rt: &R,
     command: &Command,
-    files: &D,
+    files: &mut D,
     input: &mut Source<I>,
     out: &mut S,
     faults: &mut F,
 ) -> u8
     requires { IsRequestWithinLimits command.now.request }
     ensures status { result ≤ 1 }
-    ensures outside { IsRun (D.shelf files.now)
+    ensures outside { IsRun (D.shelf files.old)
         (for_answer (command_line_of command.now)) result
         (outside_of (I.remaining input.old.reader) input.old.failures (S.sendable out.old) (S.state out.old)
         (F.state faults.old))
         (outside_of (I.remaining input.new.reader) input.new.failures (S.sendable out.new) (S.state out.new)
         (F.state faults.new)) }
+    ensures shelf_kept { D.shelf files.new ≡ D.shelf files.old }
+    ensures called { AreCalled (for_answer (command_line_of command.now)) result (D.calls files.old) (D.calls files.new) }
 {
     if let Err(refusal) = prepare(rt.alloc(), files, command, out) {
         print_file_refusal(command, refusal, faults);

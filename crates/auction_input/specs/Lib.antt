@@ -6,6 +6,7 @@ pub mod BookLeft
 pub mod CallLimit
 pub mod Described
 pub mod FileTexts
+pub mod FileCalls
 pub mod FileLooks
 pub mod FileWords
 pub mod FormTexts

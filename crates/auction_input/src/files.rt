@@ -3,6 +3,7 @@
 ghost use Rattle.std.specs.Prelude.{◌≡◌, ℕ, IfErr, IfOk, List, OnErr, OnOk, Option, Result, Some, Err, flat_map};
 ghost use Rattle.auction_input.specs.declared.files.FileFault.{FileFault as Fault};
 ghost use Rattle.auction_input.specs.declared.files.FileFault.TheVariants.{Unopened};
+ghost use Rattle.auction_input.specs.FileCalls.{AreMade, FileCall, opened, readable, replaced, rights, standard_input};
 ghost use Rattle.auction_input.specs.FileTexts.{IsFound, Shelf, is_standard_output, sent_to};
 ghost use Rattle.auction_input.specs.FileWords.{fault_words, kind_words};
 
@@ -140,34 +141,47 @@ pub struct Identity {
     pub number: u64,
 }
 
-/// Files by their names.
+/// Files by their names. What they are asked is kept, in order.
 pub trait Files {
-    /// What contracts see of them: their bytes, and what the system finds of them, where that is known.
+    /// What contracts see of them: their bytes, and what the system finds of them, where that is known. No call changes it.
     ghost shelf: { Self → Shelf };
+
+    /// The calls so far, in order, if they are known.
+    ghost calls: { Self → Option (List FileCall) };
 
     type File: Read + Drop;
 
     /// What distinguishes standard input from files, if the system knows.
-    fn standard_input(&self) -> Option<Identity>
-        ensures { IsFound ((shelf self.now).standard_input) result };
+    fn standard_input(&mut self) -> Option<Identity>
+        ensures found { IsFound ((shelf self.old).standard_input) result }
+        ensures shelf_kept { shelf self.new ≡ shelf self.old }
+        ensures called { AreMade (standard_input ∷ []) (calls self.old) (calls self.new) };
 
     /// What distinguishes a file that isn't standard input from others, or why it isn't read.
-    fn readable(&self, name: &str) -> Result<Identity, FileFault>
-        ensures { IsFound ((shelf self.now).readable name.now) result };
+    fn readable(&mut self, name: &str) -> Result<Identity, FileFault>
+        ensures found { IsFound ((shelf self.old).readable name.now) result }
+        ensures shelf_kept { shelf self.new ≡ shelf self.old }
+        ensures called { AreMade (readable name.now ∷ []) (calls self.old) (calls self.new) };
 
     /// What distinguishes a file that isn't standard output from others, if there is one yet, or why another isn't put in its place.
-    fn replaced(&self, name: &str) -> Result<Option<Identity>, FileFault>
-        ensures { IsFound ((shelf self.now).replaced name.now) result };
+    fn replaced(&mut self, name: &str) -> Result<Option<Identity>, FileFault>
+        ensures found { IsFound ((shelf self.old).replaced name.now) result }
+        ensures shelf_kept { shelf self.new ≡ shelf self.old }
+        ensures called { AreMade (replaced name.now ∷ []) (calls self.old) (calls self.new) };
 
     /// Whether a file that there is may be written.
-    fn rights(&self, name: &str) -> Result<(), FileFault>
-        ensures { IsFound ((shelf self.now).rights name.now) result };
+    fn rights(&mut self, name: &str) -> Result<(), FileFault>
+        ensures found { IsFound ((shelf self.old).rights name.now) result }
+        ensures shelf_kept { shelf self.new ≡ shelf self.old }
+        ensures called { AreMade (rights name.now ∷ []) (calls self.old) (calls self.new) };
 
     /// Opens a file that isn't standard input.
-    fn open(&self, name: &str) -> Result<Self::File, FileFault>
-        ensures content { IfOk result (λ file. Self.File.remaining file ≡ (shelf self.now).content name.now) }
-        ensures opened { OnOk result (IsFound ((shelf self.now).opened name.now) (Ok tt)) }
-        ensures unopened { IfErr result (λ f. IsFound ((shelf self.now).opened name.now) (Err f)) };
+    fn open(&mut self, name: &str) -> Result<Self::File, FileFault>
+        ensures content { IfOk result (λ file. Self.File.remaining file ≡ (shelf self.old).content name.now) }
+        ensures opened { OnOk result (IsFound ((shelf self.old).opened name.now) (Ok tt)) }
+        ensures unopened { IfErr result (λ f. IsFound ((shelf self.old).opened name.now) (Err f)) }
+        ensures shelf_kept { shelf self.new ≡ shelf self.old }
+        ensures called { AreMade (opened name.now ∷ []) (calls self.old) (calls self.new) };
 }
 
 /// A sink that may be sent to a file.

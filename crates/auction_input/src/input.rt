@@ -1,6 +1,7 @@
 //! Reading the input.
 
-ghost use Rattle.std.specs.Prelude.{◌≡◌, ◌≢◌, ◌≤◌, ◌<◌, ℕ, IfErr, IfOk, List, None, OnOk, Option, false, length};
+ghost use Rattle.std.specs.Prelude.{◌≡◌, ◌≢◌, ◌≤◌, ◌<◌, ◌∷◌, [], ℕ, IfErr, IfOk, List, None, OnErr, OnOk, Option, false, length};
+ghost use Rattle.auction_input.specs.FileCalls.{AreBegun, AreMade, opened, opening, openings};
 ghost use Rattle.auction_input.specs.FileTexts.{AreRead, AreSound, IsContent, IsInputRead, IsTextOf, IsTextUnread, IsUnread, IsUnreadOf, bytes_in, fault_among, is_standard_input, named_files, refused_at};
 ghost use Rattle.auction_input.specs.inside.FileTexts.{file_unread};
 ghost use Rattle.auction_input.specs.ReadInput.{IsUntaken, IsWhole};
@@ -120,7 +121,7 @@ fn file_unread(place: usize, fault: InputFault) -> Unread
 // Reads the file of a name, which is at that place, with at most so many bytes, and counts a read that fails.
 fn read_file<D: Files>(
     alloc: Global,
-    files: &D,
+    files: &mut D,
     name: &str,
     place: usize,
     failures: &mut u64,
@@ -129,10 +130,12 @@ fn read_file<D: Files>(
     requires limit { limit ≤ INPUT_LIMIT }
     requires file { is_standard_input name.now ≡ false }
     ensures within { IfOk result (λ text. length text.items ≤ limit) }
-    ensures content { IfOk result (λ text. IsContent ((D.shelf files.now).content name.now) text.items) }
+    ensures content { IfOk result (λ text. IsContent ((D.shelf files.old).content name.now) text.items) }
     ensures unfailed { OnOk result (failures.new ≡ failures.old) }
     ensures unread { IfErr result (λ f. (count : ℕ) (left : Option (List ℕ)) → IsTextUnread
-        (D.shelf files.now) name.now place count limit left left failures.old failures.new f) }
+        (D.shelf files.old) name.now place count limit left left failures.old failures.new f) }
+    ensures shelf_kept { D.shelf files.new ≡ D.shelf files.old }
+    ensures called { AreMade (opened name.now ∷ []) (D.calls files.old) (D.calls files.new) }
 {
     let file = match files.open(name) {
         Ok(file) => file,
@@ -160,7 +163,7 @@ pub fn is_standard_input(name: &str) -> bool
 // Reads what a name, which is at that place, stands for, with at most so many bytes.
 fn read_named<D: Files, I: Read>(
     alloc: Global,
-    files: &D,
+    files: &mut D,
     name: &str,
     place: usize,
     input: &mut Source<I>,
@@ -168,12 +171,14 @@ fn read_named<D: Files, I: Read>(
 ) -> Result<Vec<u8>, Unread>
     requires { limit ≤ INPUT_LIMIT }
     ensures within { IfOk result (λ text. length text.items ≤ limit) }
-    ensures text { IfOk result (λ text. IsTextOf (D.shelf files.now).content name.now
+    ensures text { IfOk result (λ text. IsTextOf (D.shelf files.old).content name.now
         (I.remaining input.old.reader) (I.remaining input.new.reader) text.items) }
     ensures unfailed { OnOk result (input.new.failures ≡ input.old.failures) }
-    ensures unread { IfErr result (λ f. (count : ℕ) → IsTextUnread (D.shelf files.now) name.now place
+    ensures unread { IfErr result (λ f. (count : ℕ) → IsTextUnread (D.shelf files.old) name.now place
         count limit (I.remaining input.old.reader) (I.remaining input.new.reader) input.old.failures
         input.new.failures f) }
+    ensures shelf_kept { D.shelf files.new ≡ D.shelf files.old }
+    ensures called { AreMade (opening name.now) (D.calls files.old) (D.calls files.new) }
 {
     if !is_standard_input(name) {
         return read_file(alloc, files, name, place, &mut input.failures, limit);
@@ -201,7 +206,7 @@ fn fault_among(text: &[u8], place: usize, count: usize) -> Option<FileFault>
 // Reads the text of a name, which is at that place among so many, with at most so many bytes.
 fn read_text<D: Files, I: Read>(
     alloc: Global,
-    files: &D,
+    files: &mut D,
     name: &str,
     place: usize,
     count: usize,
@@ -212,13 +217,15 @@ fn read_text<D: Files, I: Read>(
     requires limit { limit ≤ INPUT_LIMIT }
     ensures within { IfOk result (λ text. length text.bytes ≤ limit) }
     ensures name { IfOk result (λ text. text.name ≡ name.now) }
-    ensures text { IfOk result (λ text. IsTextOf (D.shelf files.now).content text.name
+    ensures text { IfOk result (λ text. IsTextOf (D.shelf files.old).content text.name
         (I.remaining input.old.reader) (I.remaining input.new.reader) text.bytes) }
     ensures sound { IfOk result (λ text. fault_among text.bytes place count ≡ None) }
     ensures unfailed { OnOk result (input.new.failures ≡ input.old.failures) }
-    ensures unread { IfErr result (λ f. IsTextUnread (D.shelf files.now) name.now place count limit
+    ensures unread { IfErr result (λ f. IsTextUnread (D.shelf files.old) name.now place count limit
         (I.remaining input.old.reader) (I.remaining input.new.reader) input.old.failures
         input.new.failures f) }
+    ensures shelf_kept { D.shelf files.new ≡ D.shelf files.old }
+    ensures called { AreMade (opening name.now) (D.calls files.old) (D.calls files.new) }
 {
     let bytes = read_named(alloc, files, name, place, input, limit)?;
     if let Some(fault) = fault_among(bytes.as_slice(), place, count) {
@@ -231,18 +238,23 @@ fn read_text<D: Files, I: Read>(
 // Reads the texts of names, in order.
 fn read_each<D: Files, I: Read>(
     alloc: Global,
-    files: &D,
+    files: &mut D,
     names: &[String],
     input: &mut Source<I>,
 ) -> Result<Vec<NamedText>, Unread>
-    ensures read { IfOk result (λ texts. AreRead (D.shelf files.now).content (named_files names.now)
+    ensures read { IfOk result (λ texts. AreRead (D.shelf files.old).content (named_files names.now)
         (I.remaining input.old.reader) (I.remaining input.new.reader) texts.items) }
     ensures sound { IfOk result (λ texts. AreSound 0 (length names.now) texts.items) }
     ensures within { IfOk result (λ texts. bytes_in texts.items ≤ INPUT_LIMIT) }
     ensures unfailed { OnOk result (input.new.failures ≡ input.old.failures) }
-    ensures unread { IfErr result (λ f. IsUnreadOf (D.shelf files.now) (named_files names.now) f
+    ensures unread { IfErr result (λ f. IsUnreadOf (D.shelf files.old) (named_files names.now) f
         (I.remaining input.old.reader) (I.remaining input.new.reader) input.old.failures
         input.new.failures) }
+    ensures shelf_kept { D.shelf files.new ≡ D.shelf files.old }
+    ensures called { OnOk result (AreMade (openings (named_files names.now))
+        (D.calls files.old) (D.calls files.new)) }
+    ensures begun { OnErr result (AreBegun (openings (named_files names.now))
+        (D.calls files.old) (D.calls files.new)) }
 {
     let mut texts = Vec::new(alloc);
     let mut room = INPUT_LIMIT;
@@ -262,16 +274,21 @@ fn read_each<D: Files, I: Read>(
 /// counted with those of standard input.
 pub fn read_inputs<D: Files, I: Read>(
     alloc: Global,
-    files: &D,
+    files: &mut D,
     names: &[String],
     input: &mut Source<I>,
 ) -> Result<Input, Unread>
-    ensures read { IfOk result (λ read. IsInputRead (D.shelf files.now).content (named_files names.now)
+    ensures read { IfOk result (λ read. IsInputRead (D.shelf files.old).content (named_files names.now)
         (I.remaining input.old.reader) (I.remaining input.new.reader) read.texts) }
     ensures unfailed { OnOk result (input.new.failures ≡ input.old.failures) }
-    ensures unread { IfErr result (λ f. IsUnread (D.shelf files.now) (named_files names.now) f
+    ensures unread { IfErr result (λ f. IsUnread (D.shelf files.old) (named_files names.now) f
         (I.remaining input.old.reader) (I.remaining input.new.reader) input.old.failures
         input.new.failures) }
+    ensures shelf_kept { D.shelf files.new ≡ D.shelf files.old }
+    ensures called { OnOk result (AreMade (openings (named_files names.now))
+        (D.calls files.old) (D.calls files.new)) }
+    ensures begun { OnErr result (AreBegun (openings (named_files names.now))
+        (D.calls files.old) (D.calls files.new)) }
 {
     if names.is_empty() {
         let bytes = read_bytes(alloc, input, INPUT_LIMIT)?;

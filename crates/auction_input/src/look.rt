@@ -1,10 +1,11 @@
 //! Looking at files by their names, before any of them is opened.
 
-ghost use Rattle.std.specs.Prelude.{◌≡◌, ◌⊎◌, ◌++◌, ◌∷◌, [], IfErr, Ok, OnOk, Option, Some, false, true};
+ghost use Rattle.std.specs.Prelude.{◌≡◌, ◌⊎◌, ◌++◌, ◌∷◌, [], Bool, IfErr, Ok, OnErr, OnOk, Option, Some, false, map, true};
 ghost use Rattle.std.specs.List.{list_any, position_or_len};
 ghost use Rattle.std.specs.Option.{option_map};
 ghost use Rattle.std.specs.Result.{result_err};
 ghost use Rattle.indexmap.specs.IndexSet.{keys};
+ghost use Rattle.auction_input.specs.FileCalls.{AreBegun, AreMade, look_at, looks, looks_written};
 ghost use Rattle.auction_input.specs.FileTexts.{IsFound, named_files};
 ghost use Rattle.auction_input.specs.FileLooks.{AreTaken, Finding, FindsNothing, FindsWritten, IsFirstRefused, FindsAgainst, is_same, names_read, read_as, refusal_after};
 ghost use Rattle.auction_input.specs.declared.files.FileFault.TheVariants as file_fault;
@@ -19,8 +20,10 @@ use std::alloc::Global;
 type Seen = IndexSet<Option<Identity>>;
 
 // What distinguishes what is read by a name, a file or standard input, or why it isn't read.
-fn find<D: Files>(files: &D, name: &str) -> Result<Option<Identity>, FileFault>
-    ensures { IsFound (read_as (D.shelf files.now) name.now) result }
+fn find<D: Files>(files: &mut D, name: &str) -> Result<Option<Identity>, FileFault>
+    ensures found { IsFound (read_as (D.shelf files.old) name.now) result }
+    ensures shelf_kept { D.shelf files.new ≡ D.shelf files.old }
+    ensures called { AreMade (look_at name.now ∷ []) (D.calls files.old) (D.calls files.new) }
 {
     if is_standard_input(name) {
         return Ok(files.standard_input());
@@ -57,14 +60,16 @@ fn refused(place: usize, fault: FileFault) -> FileRefusal
 }
 
 // Looks at what is read by a name, and notes what distinguishes it from others.
-fn look_at_input<D: Files>(files: &D, name: &str, seen: &mut Seen) -> Result<(), FileRefusal>
+fn look_at_input<D: Files>(files: &mut D, name: &str, seen: &mut Seen) -> Result<(), FileRefusal>
     ensures taken { OnOk result ((file : Option File)
-        × IsFound (read_as (D.shelf files.now) name.now) (Ok file)
+        × IsFound (read_as (D.shelf files.old) name.now) (Ok file)
         × (refusal_after (keys seen.old) (Ok file) ≡ None)
         × (keys seen.new ≡ keys seen.old ++ file ∷ [])) }
     ensures refused { IfErr result (λ r. (r.fault ≡ file_fault.OutOfMemory)
-        ⊎ ((finding : Finding) × IsFound (read_as (D.shelf files.now) name.now) finding
+        ⊎ ((finding : Finding) × IsFound (read_as (D.shelf files.old) name.now) finding
         × (refusal_after (keys seen.old) finding ≡ Some r))) }
+    ensures shelf_kept { D.shelf files.new ≡ D.shelf files.old }
+    ensures called { AreMade (look_at name.now ∷ []) (D.calls files.old) (D.calls files.new) }
 {
     let place = seen.len();
     let file = match find(files, name) {
@@ -78,12 +83,17 @@ fn look_at_input<D: Files>(files: &D, name: &str, seen: &mut Seen) -> Result<(),
 }
 
 // Looks at all that is read, in order: without names that is standard input.
-fn look_at_inputs<D: Files>(files: &D, names: &[String], seen: &mut Seen) -> Result<(), FileRefusal>
+fn look_at_inputs<D: Files>(files: &mut D, names: &[String], seen: &mut Seen) -> Result<(), FileRefusal>
     requires { keys seen.old ≡ [] }
-    ensures taken { OnOk result (AreTaken (D.shelf files.now) (names_read (named_files names.now))
+    ensures taken { OnOk result (AreTaken (D.shelf files.old) (names_read (named_files names.now))
         (keys seen.new)) }
     ensures refused { IfErr result (λ r. (r.fault ≡ file_fault.OutOfMemory)
-        ⊎ IsFirstRefused (D.shelf files.now) (names_read (named_files names.now)) r) }
+        ⊎ IsFirstRefused (D.shelf files.old) (names_read (named_files names.now)) r) }
+    ensures shelf_kept { D.shelf files.new ≡ D.shelf files.old }
+    ensures called { OnOk result (AreMade (map look_at (names_read (named_files names.now)))
+        (D.calls files.old) (D.calls files.new)) }
+    ensures begun { OnErr result (AreBegun (map look_at (names_read (named_files names.now)))
+        (D.calls files.old) (D.calls files.new)) }
 {
     if names.is_empty() {
         return look_at_input(files, "-", seen);
@@ -98,8 +108,11 @@ fn look_at_inputs<D: Files>(files: &D, names: &[String], seen: &mut Seen) -> Res
 }
 
 // Looks at a file that is written, which may be none of those that are read.
-fn look_at_written<D: Files>(files: &D, name: &str, seen: &Seen) -> Result<(), FileFault>
-    ensures { FindsWritten (D.shelf files.now) (keys seen.now) name.now (result_err result) }
+fn look_at_written<D: Files>(files: &mut D, name: &str, seen: &Seen) -> Result<(), FileFault>
+    ensures found { FindsWritten (D.shelf files.old) (keys seen.now) name.now (result_err result) }
+    ensures shelf_kept { D.shelf files.new ≡ D.shelf files.old }
+    ensures called { (with_rights : Bool) × AreMade (looks_written (Some name.now) with_rights)
+        (D.calls files.old) (D.calls files.new) }
 {
     if is_standard_output(name) {
         return Ok(());
@@ -119,14 +132,19 @@ fn look_at_written<D: Files>(files: &D, name: &str, seen: &Seen) -> Result<(), F
 /// something is found. Without names standard input is read.
 pub fn look_at_files<D: Files>(
     alloc: Global,
-    files: &D,
+    files: &mut D,
     names: &[String],
     output: Option<&str>,
 ) -> Result<(), FileRefusal>
-    ensures looked { OnOk result (FindsNothing (D.shelf files.now) (named_files names.now)
+    ensures looked { OnOk result (FindsNothing (D.shelf files.old) (named_files names.now)
         (option_map (λ name. name.now) output.entry)) }
-    ensures refused { IfErr result (FindsAgainst (D.shelf files.now) (named_files names.now)
+    ensures refused { IfErr result (FindsAgainst (D.shelf files.old) (named_files names.now)
         (option_map (λ name. name.now) output.entry)) }
+    ensures shelf_kept { D.shelf files.new ≡ D.shelf files.old }
+    ensures called { OnOk result ((with_rights : Bool) × AreMade (looks (named_files names.now)
+        (option_map (λ name. name.now) output.entry) with_rights) (D.calls files.old) (D.calls files.new)) }
+    ensures begun { OnErr result ((with_rights : Bool) × AreBegun (looks (named_files names.now)
+        (option_map (λ name. name.now) output.entry) with_rights) (D.calls files.old) (D.calls files.new)) }
 {
     let mut seen = Seen::new(alloc);
     match look_at_inputs(files, names, &mut seen) {

@@ -195,7 +195,8 @@ fn status_of<R: Threads + Wait + Sync + AllocGlobal>(
 ) -> u8 {
     let mut input = Source::new(row.input);
     let words = reported(rt.alloc(), row.words);
-    run(rt, words, &NO_FILES, &mut input, out, faults)
+    let mut files = NO_FILES;
+    run(rt, words, &mut files, &mut input, out, faults)
 }
 
 /// Whether such a run ends as it has to on a sink that takes so many bytes a put and has so much room: the output's front went
@@ -245,7 +246,8 @@ fn is_refused<R: Threads + Wait + Sync + AllocGlobal, I: Read>(
     let mut out = MemorySink::new(alloc);
     let mut faults = MemorySink::new(alloc);
     let words = reported(alloc, &["wdp"]);
-    let status = run(rt, words, &NO_FILES, input, &mut out, &mut faults);
+    let mut files = NO_FILES;
+    let status = run(rt, words, &mut files, input, &mut out, &mut faults);
     status == 1 && faults.bytes() == line && out.bytes().is_empty()
 }
 
@@ -377,7 +379,9 @@ fn ends_unreported<R: Threads + Wait + Sync + AllocGlobal>(
     let mut out = MemorySink::new(rt.alloc());
     let mut input = Source::new(b"".as_slice());
     let words = reported(rt.alloc(), words);
-    run(rt, words, &NO_FILES, &mut input, &mut out, faults) == status && out.bytes().is_empty()
+    let mut files = NO_FILES;
+    let ended = run(rt, words, &mut files, &mut input, &mut out, faults);
+    ended == status && out.bytes().is_empty()
 }
 
 #[test]

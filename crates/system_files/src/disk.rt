@@ -68,10 +68,11 @@ impl Files for Disk<'_> {
       replaced = λ _. None;
       rights = λ _. None;
     } };
+    ghost calls = { λ _. None };
 
     type File = File;
 
-    fn standard_input(&self) -> Option<Identity> {
+    fn standard_input(&mut self) -> Option<Identity> {
         match fs::metadata(self.rt, "/dev/stdin") {
             Ok(found) => Some(identity_of(&found)),
             Err(_) => None,
@@ -79,7 +80,7 @@ impl Files for Disk<'_> {
     }
 
     // A file, or a pipe of the shell's.
-    fn readable(&self, name: &str) -> Result<Identity, FileFault> {
+    fn readable(&mut self, name: &str) -> Result<Identity, FileFault> {
         let found = match fs::metadata(self.rt, name) {
             Ok(found) => found,
             Err(error) => return Err(fault_of(&error, FileFault::Unopened)),
@@ -92,7 +93,7 @@ impl Files for Disk<'_> {
     }
 
     // Where there is no file yet, its folder is seen when it is made; a link to nothing isn't followed.
-    fn replaced(&self, name: &str) -> Result<Option<Identity>, FileFault> {
+    fn replaced(&mut self, name: &str) -> Result<Option<Identity>, FileFault> {
         match fs::metadata(self.rt, name) {
             Ok(found) => match kind_of(&found) {
                 None => Ok(Some(identity_of(&found))),
@@ -106,7 +107,7 @@ impl Files for Disk<'_> {
         }
     }
 
-    fn rights(&self, name: &str) -> Result<(), FileFault> {
+    fn rights(&mut self, name: &str) -> Result<(), FileFault> {
         match OpenOptions::new().write(true).open(self.rt, name) {
             Ok(_file) => Ok(()),
             Err(error) if error.kind() == ErrorKind::PermissionDenied => Err(FileFault::ReadOnly),
@@ -114,7 +115,7 @@ impl Files for Disk<'_> {
         }
     }
 
-    fn open(&self, name: &str) -> Result<File, FileFault> {
+    fn open(&mut self, name: &str) -> Result<File, FileFault> {
         match File::open(self.rt, name) {
             Ok(file) => Ok(file),
             Err(error) => Err(fault_of(&error, FileFault::Unopened)),

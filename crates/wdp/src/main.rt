@@ -39,8 +39,8 @@ fn work<R: Threads + Wait + Sync + AllocGlobal>(rt: &R, system: &HostRuntime) ->
     let mut out = Out::new(system);
     let mut faults = Noted::new(StdSink::new(system.stderr()));
     let words = env::args(system);
-    let disk = Disk::new(system);
-    let status = run(rt, words, &disk, &mut input, &mut out, &mut faults);
+    let mut disk = Disk::new(system);
+    let status = run(rt, words, &mut disk, &mut input, &mut out, &mut faults);
     // `explain`, which printed faults, said nothing on standard error.
     let is_whole = status == 0 || (status == 1 && !faults.is_used());
     ExitCode::from(ended(out, is_whole, status, &mut faults))

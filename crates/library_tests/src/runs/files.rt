@@ -36,14 +36,15 @@ impl Files for MemoryFiles {
       replaced = λ _. None;
       rights = λ _. None;
     } };
+    ghost calls = { λ _. None };
 
     type File = LimitReader;
 
-    fn standard_input(&self) -> Option<Identity> {
+    fn standard_input(&mut self) -> Option<Identity> {
         None
     }
 
-    fn readable(&self, name: &str) -> Result<Identity, FileFault> {
+    fn readable(&mut self, name: &str) -> Result<Identity, FileFault> {
         match self.place_of(name) {
             Some(place) => Ok(Identity {
                 device: 0,
@@ -53,15 +54,15 @@ impl Files for MemoryFiles {
         }
     }
 
-    fn replaced(&self, name: &str) -> Result<Option<Identity>, FileFault> {
+    fn replaced(&mut self, name: &str) -> Result<Option<Identity>, FileFault> {
         Ok(self.readable(name).ok())
     }
 
-    fn rights(&self, _: &str) -> Result<(), FileFault> {
+    fn rights(&mut self, _: &str) -> Result<(), FileFault> {
         Ok(())
     }
 
-    fn open(&self, name: &str) -> Result<LimitReader, FileFault> {
+    fn open(&mut self, name: &str) -> Result<LimitReader, FileFault> {
         for (other, bytes) in self.files {
             if *other == name {
                 return Ok(LimitReader {
@@ -231,7 +232,8 @@ fn ends_so<R: Threads + Wait + Sync + AllocGlobal>(rt: &R, row: &Row) -> bool {
     let mut faults = MemorySink::new(alloc);
     let mut input = Source::new(row.input);
     let words = reported(alloc, row.words);
-    let status = run(rt, words, &FILES, &mut input, &mut out, &mut faults);
+    let mut files = FILES;
+    let status = run(rt, words, &mut files, &mut input, &mut out, &mut faults);
     status == row.status && out.bytes() == row.output && faults.bytes() == row.line
 }
 

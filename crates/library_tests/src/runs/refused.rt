@@ -85,10 +85,11 @@ fn answers<R: Threads + Wait + Sync + AllocGlobal>(rt: &R, row: &Run) -> Result<
     let mut out = Expected::new(row.output);
     let mut faults = Expected::new(SHORT);
     let words = reported(rt.alloc(), row.words);
+    let mut files = NO_FILES;
     match run(
         rt,
         words,
-        &NO_FILES,
+        &mut files,
         &mut Source::new(row.input),
         &mut out,
         &mut faults,
