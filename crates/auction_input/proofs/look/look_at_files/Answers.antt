@@ -1,6 +1,7 @@
 use Rattle.std.proofs.Common.{inl, inr}
 use Rattle.indexmap.specs.IndexSet.{keys}
 use Rattle.auction_input.specs.FileLooks.{by_memory, by_read, by_written}
+use Rattle.auction_input.proofs.FileCallFacts.{begun-before, begun-whole, looks-read, made-more}
 use Rattle.auction_input.proofs.look.look_at_files.Goals as goal
 
 pub returns-in-Err-clause-refused : goal.returns-in-Err-clause-refused

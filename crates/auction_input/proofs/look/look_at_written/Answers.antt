@@ -5,29 +5,29 @@ use Rattle.auction_input.specs.FileLooks.{absent, is_same, present, read_too, st
 use Rattle.auction_input.specs.FileTexts.{is_standard_output}
 use Rattle.auction_input.proofs.look.look_at_written.Goals as goal
 
-pub returns-then-is_standard_output : goal.returns-then-is_standard_output
-returns-then-is_standard_output g c =
+pub returns-then-is_standard_output-clause-found : goal.returns-then-is_standard_output-clause-found
+returns-then-is_standard_output-clause-found g c =
     let is : is_standard_output c.args.name.now ≡ true = search rules in
     standard is
 
-pub returns-in-Ok-None : goal.returns-in-Ok-None
-returns-in-Ok-None g c =
+pub returns-in-Ok-None-clause-found : goal.returns-in-Ok-None-clause-found
+returns-in-Ok-None-clause-found g c =
     let other : is_standard_output c.args.name.now ≡ false = search rules in
-    absent other (rw c.in-Ok-None.field-0-is at c.in-Ok-None.ensures)
+    absent other (rw c.in-Ok-None.field-0-is at c.in-Ok-None.ensures.found)
 
-pub returns-in-Err : goal.returns-in-Err
-returns-in-Err g c =
+pub returns-in-Err-clause-found : goal.returns-in-Err-clause-found
+returns-in-Err-clause-found g c =
     let other : is_standard_output c.args.name.now ≡ false = search rules in
-    unreplaced c.in-Err.fault other c.in-Err.ensures
+    unreplaced c.in-Err.fault other c.in-Err.ensures.found
 
-pub returns-then-contains : goal.returns-then-contains
-returns-then-contains g c =
+pub returns-then-contains-clause-found : goal.returns-then-contains-clause-found
+returns-then-contains-clause-found g c =
     let other : is_standard_output c.args.name.now ≡ false = search rules in
     let is_read : list_any (is_same (Some c.in-Ok-Some.file)) (keys c.args.seen.now) ≡ true = search rules in
-    read_too c.in-Ok-Some.file other (rw c.in-Ok-Some.field-0-is at c.in-Ok-Some.ensures) is_read
+    read_too c.in-Ok-Some.file other (rw c.in-Ok-Some.field-0-is at c.in-Ok-Some.ensures.found) is_read
 
-pub returns : goal.returns
-returns g c =
+pub returns-clause-found : goal.returns-clause-found
+returns-clause-found g c =
     let other : is_standard_output c.args.name.now ≡ false = search rules in
     let unread : list_any (is_same (Some c.in-Ok-Some.file)) (keys c.args.seen.now) ≡ false = search rules in
-    present c.in-Ok-Some.file c.rights.result other (rw c.in-Ok-Some.field-0-is at c.in-Ok-Some.ensures) unread c.rights.ensures
+    present c.in-Ok-Some.file c.rights.result other (rw c.in-Ok-Some.field-0-is at c.in-Ok-Some.ensures.found) unread (rw c.replaced.ensures.shelf_kept at c.rights.ensures.found)
