@@ -24,6 +24,7 @@ mod LineFacts
 pub mod OthersFacts
 pub mod PricedFacts
 pub mod ProgramTextFacts
+mod RunCallFacts
 pub mod RunFacts
 mod SizeFacts
 pub mod VerifiedFacts

@@ -6,7 +6,7 @@ mod CallFacts
 mod BidderNameFacts
 mod BookFacts
 pub mod FaultFacts
-mod FileCallFacts
+pub mod FileCallFacts
 mod FileFacts
 mod LookFacts
 pub mod FormStageFacts

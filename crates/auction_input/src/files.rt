@@ -1,6 +1,6 @@
 //! Files, as a run sees them.
 
-ghost use Rattle.std.specs.Prelude.{◌≡◌, ℕ, IfErr, IfOk, List, OnErr, OnOk, Option, Result, Some, Err, flat_map};
+ghost use Rattle.std.specs.Prelude.{◌≡◌, ◌∷◌, [], ℕ, IfErr, IfOk, List, OnErr, OnOk, Option, Result, Some, Err, flat_map};
 ghost use Rattle.auction_input.specs.declared.files.FileFault.{FileFault as Fault};
 ghost use Rattle.auction_input.specs.declared.files.FileFault.TheVariants.{Unopened};
 ghost use Rattle.auction_input.specs.FileCalls.{AreMade, FileCall, opened, readable, replaced, rights, standard_input};

@@ -8,3 +8,9 @@ returns-in-Ok-clause-read g c =
 
 pub returns-in-Err-clause-unread : goal.returns-in-Err-clause-unread
 returns-in-Err-clause-unread g c = rw c.as_slice.ensures.value at c.in-Err.ensures.unread
+
+pub returns-in-Ok-clause-called : goal.returns-in-Ok-clause-called
+returns-in-Ok-clause-called g c = rw c.as_slice.ensures.value at c.in-Ok.ensures.called
+
+pub returns-in-Err-clause-begun : goal.returns-in-Err-clause-begun
+returns-in-Err-clause-begun g c = rw c.as_slice.ensures.value at c.in-Err.ensures.begun

@@ -7,7 +7,7 @@ use Rattle.auction_input.specs.declared.input.Unread.{Unread}
 use Rattle.auction_input.specs.declared.input.TheConstants.{INPUT_LIMIT}
 use Rattle.auction_input.proofs.FileCallFacts.{made-more, made-none, opening-next, openings-more}
 use Rattle.auction_input.proofs.FileFacts.{bytes-more, read-more, sound-more, text-front, unread-next}
-use Rattle.auction_input.proofs.StepFacts.{if-err-of}
+use Rattle.auction_input.proofs.StepFacts.{if-err-of, on-err-given}
 use Rattle.auction_input.proofs.input.read_each.Goals as goal
 
 pub loop-name-init : goal.loop-name-init

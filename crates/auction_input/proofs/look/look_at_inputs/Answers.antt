@@ -5,7 +5,7 @@ use Rattle.auction_input.specs.FileTexts.{named_files}
 use Rattle.auction_input.specs.FileCalls.{look_at}
 use Rattle.auction_input.proofs.FileCallFacts.{begun-whole, look-next, made-more, made-none}
 use Rattle.auction_input.proofs.LookFacts.{read-names, read-none, refused-alone, refused-next, taken-alone, taken-more, taken-none}
-use Rattle.auction_input.proofs.StepFacts.{if-err-weaker, on-ok-weaker}
+use Rattle.auction_input.proofs.StepFacts.{if-err-weaker, on-err-given, on-ok-weaker}
 use Rattle.auction_input.proofs.look.look_at_inputs.Goals as goal
 
 pub returns-then-is_empty-clause-taken : goal.returns-then-is_empty-clause-taken
@@ -24,6 +24,12 @@ returns-then-is_empty-clause-refused g c =
       | inl memory ↦ inl memory
       | inr found ↦ inr (refused-alone shelf (codes "-") (keys c.args.seen.now) r c.requires found)
     ]) c.look_at_input.ensures.refused)
+
+pub returns-then-is_empty-clause-begun : goal.returns-then-is_empty-clause-begun
+returns-then-is_empty-clause-begun g c =
+    let none : length c.args.names.now ≡ 0 = search rules in
+    rw (read-none c.args.names.now none)
+    (on-err-given c.look_at_input.result (begun-whole (look_at (codes "-") ∷ []) _ _ c.look_at_input.ensures.called))
 
 pub loop-name-init : goal.loop-name-init
 loop-name-init g c = record {

@@ -1,8 +1,10 @@
-use Rattle.std.proofs.Common.{◌≡◌, Some, false, rules, true}
+use Rattle.std.proofs.Common.{◌≡◌, ◌∷◌, [], Some, false, rules, true}
 use Rattle.std.specs.List.{list_any}
 use Rattle.indexmap.specs.IndexSet.{keys}
+use Rattle.auction_input.specs.FileCalls.{replaced, rights}
 use Rattle.auction_input.specs.FileLooks.{absent, is_same, present, read_too, standard, unreplaced}
 use Rattle.auction_input.specs.FileTexts.{is_standard_output}
+use Rattle.auction_input.proofs.FileCallFacts.{made-more}
 use Rattle.auction_input.proofs.look.look_at_written.Goals as goal
 
 pub returns-then-is_standard_output-clause-found : goal.returns-then-is_standard_output-clause-found
@@ -31,3 +33,9 @@ returns-clause-found g c =
     let other : is_standard_output c.args.name.now ≡ false = search rules in
     let unread : list_any (is_same (Some c.in-Ok-Some.file)) (keys c.args.seen.now) ≡ false = search rules in
     present c.in-Ok-Some.file c.rights.result other (rw c.in-Ok-Some.field-0-is at c.in-Ok-Some.ensures.found) unread (rw c.replaced.ensures.shelf_kept at c.rights.ensures.found)
+
+pub returns-clause-called : goal.returns-clause-called
+returns-clause-called g c =
+    let name = c.args.name.now in
+    let other : is_standard_output name ≡ false = search rules in
+    (true, rw other (made-more (replaced name ∷ []) (rights name ∷ []) _ _ _ c.replaced.ensures.called c.rights.ensures.called))
