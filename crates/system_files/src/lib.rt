@@ -7,6 +7,6 @@ mod stack;
 mod terminal;
 
 pub use disk::Disk;
-pub use out::{Out, Unkept};
+pub use out::{Ending, Out, Unkept};
 pub use stack::{TooLittle, print_lack, touch};
 pub use terminal::StandardInput;

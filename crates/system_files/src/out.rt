@@ -1,6 +1,6 @@
 //! Where the output goes: to standard output, or to a file that takes its place when it is whole.
 
-ghost use Rattle.std.specs.Prelude.{◌≡◌, IfOk, None};
+ghost use Rattle.std.specs.Prelude.{◌≡◌, Bool, IfOk, None, OnOk, true};
 ghost use Rattle.std.specs.Option.{option_map};
 
 use crate::disk::fault_of;
@@ -140,12 +140,23 @@ impl NewFile {
     }
 }
 
+/// An output that comes to an end.
+pub trait Ending: Output {
+    /// Whether it came to its end as a whole, and not by a file that was left.
+    ghost is_kept: { Self → Bool };
+
+    /// Ends the output: a file that is whole takes its place, another goes.
+    fn end(&mut self, is_whole: bool) -> Result<(), Unkept>
+        ensures { OnOk result (is_kept self.new ≡ is_whole) };
+}
+
 /// Standard output, or the file that it was sent to. Nothing is known of the bytes that it has taken.
 #[derive(Drop)]
 pub struct Out<'r> {
     rt: &'r HostRuntime,
     file: Option<NewFile>,
     failures: u64,
+    is_kept: bool,
 }
 
 impl<'r> Out<'r> {
@@ -154,20 +165,23 @@ impl<'r> Out<'r> {
             rt,
             file: None,
             failures: 0,
+            is_kept: false,
         }
     }
+}
 
-    /// Ends the output: a file that is whole takes its place, another goes.
-    pub fn end(self, is_whole: bool) -> Result<(), Unkept> {
-        let Out { rt, file, .. } = self;
-        match file {
-            Some(file) if is_whole => file.keep(rt),
-            Some(file) => {
-                file.leave(rt);
-                Ok(())
-            }
-            None => Ok(()),
+impl Ending for Out<'_> {
+    ghost is_kept = { λ s. s.is_kept };
+
+    fn end(&mut self, is_whole: bool) -> Result<(), Unkept> {
+        self.is_kept = false;
+        match self.file.take() {
+            Some(file) if is_whole => file.keep(self.rt)?,
+            Some(file) => file.leave(self.rt),
+            None => {}
         }
+        self.is_kept = is_whole;
+        Ok(())
     }
 }
 

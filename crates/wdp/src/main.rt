@@ -1,7 +1,7 @@
 //! The winner determination compiler: the words, the files and the standard streams, handed to `run`.
 #![tactic(auto)]
 
-ghost use Rattle.std.specs.Prelude.{◌≡◌};
+ghost use Rattle.std.specs.Prelude.{◌≡◌, true};
 
 mod noted;
 
@@ -13,15 +13,18 @@ use std::env;
 use std::process::ExitCode;
 use std::sync::Wait;
 use std::thread::Threads;
-use system_files::{Disk, Out, StandardInput, print_lack, touch};
+use system_files::{Disk, Ending, Out, StandardInput, print_lack, touch};
 
 const HINT: &[u8] =
     b"wdp: reads standard input; a line with Ctrl-D alone ends it, and wdp COMMAND FILE reads a file\n";
 
-// The exit status, once the output has come to its end: that of the run, but 1 where a whole file can't take its place.
-fn ended<F: Sink>(out: Out<'_>, is_whole: bool, status: u8, faults: &mut F) -> u8
-    ensures { result ≡ 0 → status ≡ 0 }
+// Ends the output, and gives the exit status: that of the run, but 1 where a whole file can't take its place. `explain` that
+// printed faults ends with 1, has said nothing on standard error, and its output is whole, too.
+fn ended<S: Ending, F: Sink + Drop>(out: &mut S, status: u8, faults: &mut Noted<F>) -> u8
+    ensures status { result ≡ 0 → status ≡ 0 }
+    ensures kept { result ≡ 0 → S.is_kept out.new ≡ true }
 {
+    let is_whole = status == 0 || (status == 1 && !faults.is_used());
     match out.end(is_whole) {
         Ok(()) => status,
         Err(unkept) => {
@@ -41,9 +44,7 @@ fn work<R: Threads + Wait + Sync + AllocGlobal>(rt: &R, system: &HostRuntime) ->
     let words = env::args(system);
     let mut disk = Disk::new(system);
     let status = run(rt, words, &mut disk, &mut input, &mut out, &mut faults);
-    // `explain`, which printed faults, said nothing on standard error.
-    let is_whole = status == 0 || (status == 1 && !faults.is_used());
-    ExitCode::from(ended(out, is_whole, status, &mut faults))
+    ExitCode::from(ended(&mut out, status, &mut faults))
 }
 
 fn main(rt: HostRuntime) -> ExitCode {
