@@ -1,8 +1,8 @@
--- What a run asks of files, by the looks and then by the openings.
+-- What a run asks of files, by the looks and then by the calls_to_open.
 use Rattle.std.proofs.Common.{◌≡◌, ◌≢◌, ◌⊎◌, ◌++◌, ◌∷◌, ◌<◌, [], ℕ, Bool, List, None, Option, Some, arith, false, inl, inr, length, refl, suc, subst, sym, zero}
 use Rattle.std.specs.Prelude.{String}
 use Rattle.std.proofs.lemmas.List.{append-nil}
-use Rattle.auction_input.specs.FileCalls.{AreBegun, AreMade, FileCall, looks, openings}
+use Rattle.auction_input.specs.FileCalls.{AreBegun, AreAsked, FileCall, looks, calls_to_open}
 use Rattle.auction_input.specs.FileTexts.{named_files}
 use Rattle.auction_input.proofs.FileCallFacts.{begun-before, begun-more, made-more, made-none}
 use Rattle.byte_sinks.specs.Sinks.{Outlet}
@@ -31,7 +31,7 @@ looks-output (first ∷ names) name with_rights = refl
 
 -- all that is due was asked
 pub called-whole : (line : CommandLine) (status : ℕ) (before between after : Option (List FileCall))
-    → (with_rights : Bool) × AreMade (looks_named line.files line.output with_rights) before between → AreMade (openings line.files) between after
+    → (with_rights : Bool) × AreAsked (looks_named line.files line.output with_rights) before between → AreAsked (calls_to_open line.files) between after
     → AreCalled (for_answer line) status before after
 called-whole line status before between after (with_rights, looked) opened = (
   with_rights,
@@ -39,7 +39,7 @@ called-whole line status before between after (with_rights, looked) opened = (
     calls_for line with_rights,
     [],
     sym (append-nil (calls_for line with_rights)),
-    made-more (looks_named line.files line.output with_rights) (openings line.files) before between after looked opened,
+    made-more (looks_named line.files line.output with_rights) (calls_to_open line.files) before between after looked opened,
     λ zero. refl,
   ),
 )
@@ -55,15 +55,15 @@ pub called-looking : (line : CommandLine) (before after : Option (List FileCall)
     → (with_rights : Bool) × AreBegun (looks_named line.files line.output with_rights) before after → AreCalled (for_answer line) 1 before after
 called-looking line before after (with_rights, looked) =
     called-refused line 1 before after (omega arith)
-    (with_rights, begun-before (looks_named line.files line.output with_rights) (openings line.files) before after looked)
+    (with_rights, begun-before (looks_named line.files line.output with_rights) (calls_to_open line.files) before after looked)
 
 -- all looks were made, not all files were read, and the run is refused
 pub called-reading : (line : CommandLine) (before between after : Option (List FileCall))
-    → (with_rights : Bool) × AreMade (looks_named line.files line.output with_rights) before between → AreBegun (openings line.files) between after
+    → (with_rights : Bool) × AreAsked (looks_named line.files line.output with_rights) before between → AreBegun (calls_to_open line.files) between after
     → AreCalled (for_answer line) 1 before after
 called-reading line before between after (with_rights, looked) opened =
     called-refused line 1 before after (omega arith)
-    (with_rights, begun-more (looks_named line.files line.output with_rights) (openings line.files) before between after looked opened)
+    (with_rights, begun-more (looks_named line.files line.output with_rights) (calls_to_open line.files) before between after looked opened)
 
 -- nothing was asked, and the run is refused
 pub called-none : (line : CommandLine) (status : ℕ) (calls : Option (List FileCall)) → 0 < status → AreCalled (for_answer line) status calls calls

@@ -13,7 +13,7 @@ ghost use Rattle.answers.specs.Exact.{Ends, Writes};
 ghost use Rattle.answers.specs.Outside.{outside_of};
 ghost use Rattle.auction_input.specs.Requests.{IsRequestWithinLimits};
 ghost use Rattle.answers.specs.Runs.{HasLooked, IsRun, Reads, begun};
-ghost use Rattle.auction_input.specs.FileCalls.{AreBegun, AreMade, openings};
+ghost use Rattle.auction_input.specs.FileCalls.{AreBegun, AreAsked, calls_to_open};
 ghost use Rattle.auction_input.specs.FileTexts.{IsUnread};
 ghost use Rattle.answers.specs.RunCalls.{AreCalled, looks_named};
 ghost use Rattle.answers.specs.inside.Runs.{HasExplainedInput, HasShown, IsReportedSo, IsReported, IsLeftUnanswered, IsUnprepared, IsUnreported};
@@ -111,7 +111,7 @@ fn prepare<D: Files, S: Output>(
         (command_line_of command.now)) }
     ensures kept { OnErr result (S.state out.new ≡ S.state out.old) }
     ensures shelf_kept { D.shelf files.new ≡ D.shelf files.old }
-    ensures called { OnOk result ((with_rights : Bool) × AreMade (looks_named (command_line_of command.now).files
+    ensures called { OnOk result ((with_rights : Bool) × AreAsked (looks_named (command_line_of command.now).files
         (command_line_of command.now).output with_rights) (D.calls files.old) (D.calls files.new)) }
     ensures looks_begun { OnErr result ((with_rights : Bool) × AreBegun (looks_named (command_line_of command.now).files
         (command_line_of command.now).output with_rights) (D.calls files.old) (D.calls files.new)) }
@@ -147,9 +147,9 @@ fn read_input<D: Files, I: Read>(
         (I.remaining input.old.reader) (I.remaining input.new.reader) input.old.failures
         input.new.failures) }
     ensures shelf_kept { D.shelf files.new ≡ D.shelf files.old }
-    ensures called { OnOk result (AreMade (openings (command_line_of command.now).files)
+    ensures called { OnOk result (AreAsked (calls_to_open (command_line_of command.now).files)
         (D.calls files.old) (D.calls files.new)) }
-    ensures begun { OnErr result (AreBegun (openings (command_line_of command.now).files)
+    ensures begun { OnErr result (AreBegun (calls_to_open (command_line_of command.now).files)
         (D.calls files.old) (D.calls files.new)) }
 {
     match read_inputs(alloc, files, command.files.as_slice(), input) {

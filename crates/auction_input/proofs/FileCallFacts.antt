@@ -3,27 +3,27 @@ use Rattle.std.proofs.Common.{◌≡◌, ◌+◌, ◌++◌, ◌∷◌, ◌∙◌
 use Rattle.std.specs.Prelude.{String, flat_map}
 use Rattle.std.proofs.lemmas.Grind.{flat_map-append}
 use Rattle.std.proofs.lemmas.List.{append-nil, append_assoc, map-append}
-use Rattle.auction_input.specs.FileCalls.{AreBegun, AreMade, FileCall, look_at, looks, opening, openings}
+use Rattle.auction_input.specs.FileCalls.{AreBegun, AreAsked, FileCall, look_at, looks, call_to_open, calls_to_open}
 use Rattle.auction_input.specs.FileLooks.{names_read}
 use Rattle.auction_input.specs.FileTexts.{named_files}
 use Rattle.auction_input.proofs.FileFacts.{names-at}
 
 -- no call
-pub made-none : (calls : Option (List FileCall)) → AreMade [] calls calls
+pub made-none : (calls : Option (List FileCall)) → AreAsked [] calls calls
 made-none calls = λ made is. is ∙ ap (λ (xs : List FileCall). Some xs) (sym (append-nil made))
 
 -- calls after calls
-pub made-more : (first next : List FileCall) (before between after : Option (List FileCall)) → AreMade first before between → AreMade next between after
-    → AreMade (first ++ next) before after
+pub made-more : (first next : List FileCall) (before between after : Option (List FileCall)) → AreAsked first before between → AreAsked next between after
+    → AreAsked (first ++ next) before after
 made-more first next before between after made more = λ calls is.
     more (calls ++ first) (made calls is) ∙ ap (λ (xs : List FileCall). Some xs) (append_assoc calls first next)
 
 -- all that is due is begun, too
-pub begun-whole : (due : List FileCall) (before after : Option (List FileCall)) → AreMade due before after → AreBegun due before after
+pub begun-whole : (due : List FileCall) (before after : Option (List FileCall)) → AreAsked due before after → AreBegun due before after
 begun-whole due before after made = (due, [], sym (append-nil due), made)
 
 -- what is due after calls that were made is begun
-pub begun-more : (first due : List FileCall) (before between after : Option (List FileCall)) → AreMade first before between → AreBegun due between after
+pub begun-more : (first due : List FileCall) (before between after : Option (List FileCall)) → AreAsked first before between → AreBegun due between after
     → AreBegun (first ++ due) before after
 begun-more first due before between after made (more, left, is, did) = (
   first ++ more,
@@ -39,18 +39,18 @@ begun-before due next before after (made, left, is, did) =
 
 -- the looks where no file is written
 pub looks-read : (names : List (List ℕ)) (output : Option (List ℕ)) (with_rights : Bool) (before after : Option (List FileCall)) → output ≡ None
-    → AreMade (map look_at (names_read names)) before after → AreMade (looks names output with_rights) before after
+    → AreAsked (map look_at (names_read names)) before after → AreAsked (looks names output with_rights) before after
 looks-read names output with_rights before after none made = rw (none, append-nil (map look_at (names_read names))) made
 
--- the openings of one name more
-pub openings-more : (names : List (List ℕ)) (name : List ℕ) → openings (names ++ name ∷ []) ≡ openings names ++ opening name
-openings-more names name =
-    flat_map-append opening names (name ∷ []) ∙ ap (λ (xs : List FileCall). openings names ++ xs) (append-nil (opening name))
+-- the calls_to_open of one name more
+pub calls_to_open-more : (names : List (List ℕ)) (name : List ℕ) → calls_to_open (names ++ name ∷ []) ≡ calls_to_open names ++ call_to_open name
+calls_to_open-more names name =
+    flat_map-append call_to_open names (name ∷ []) ∙ ap (λ (xs : List FileCall). calls_to_open names ++ xs) (append-nil (call_to_open name))
 
 -- after the looks before a place the one at the name there is made
 pub look-next : {Z : Type 0} (names : List (String Z)) (i : ℕ) (name : String Z) (seen : List ℕ) (before between after : Option (List FileCall))
     → take (i + 1) names ≡ take i names ++ name ∷ [] → seen ≡ name.bytes.items
-    → AreMade (map look_at (named_files (take i names))) before between → AreMade (look_at seen ∷ []) between after
+    → AreAsked (map look_at (named_files (take i names))) before between → AreAsked (look_at seen ∷ []) between after
     → AreBegun (map look_at (named_files names)) before after
 look-next names i name seen before between after item is made more =
     let first = map look_at (named_files (take i names)) in
@@ -62,17 +62,17 @@ look-next names i name seen before between after item is made more =
       made-more first (look_at seen ∷ []) before between after made more,
     )
 
--- after the openings before a place the one of the name there is made
+-- after the calls_to_open before a place the one of the name there is made
 pub opening-next : {Z : Type 0} (names : List (String Z)) (i : ℕ) (name : String Z) (seen : List ℕ) (before between after : Option (List FileCall))
     → take (i + 1) names ≡ take i names ++ name ∷ [] → seen ≡ name.bytes.items
-    → AreMade (openings (named_files (take i names))) before between → AreMade (opening seen) between after
-    → AreBegun (openings (named_files names)) before after
+    → AreAsked (calls_to_open (named_files (take i names))) before between → AreAsked (call_to_open seen) between after
+    → AreBegun (calls_to_open (named_files names)) before after
 opening-next names i name seen before between after item is made more =
-    let first = openings (named_files (take i names)) in
+    let first = calls_to_open (named_files (take i names)) in
     let others = named_files (drop (i + 1) names) in (
-      first ++ opening seen,
-      openings others,
-      rw is (ap openings (names-at names i name item) ∙ flat_map-append opening (named_files (take i names)) (name.bytes.items ∷ others)
-      ∙ sym (append_assoc first (opening name.bytes.items) (openings others))),
-      made-more first (opening seen) before between after made more,
+      first ++ call_to_open seen,
+      calls_to_open others,
+      rw is (ap calls_to_open (names-at names i name item) ∙ flat_map-append call_to_open (named_files (take i names)) (name.bytes.items ∷ others)
+      ∙ sym (append_assoc first (call_to_open name.bytes.items) (calls_to_open others))),
+      made-more first (call_to_open seen) before between after made more,
     )

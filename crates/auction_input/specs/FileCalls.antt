@@ -12,12 +12,12 @@ pub data FileCall : Type 0 where
   opened : List ℕ → FileCall
 
 -- after the calls before, if they are known, these were made, in this order, and no others
-abbrev pub AreMade : List FileCall → Option (List FileCall) → Option (List FileCall) → Type 0
-AreMade made before after = (calls : List FileCall) → before ≡ Some calls → after ≡ Some (calls ++ made)
+abbrev pub AreAsked : List FileCall → Option (List FileCall) → Option (List FileCall) → Type 0
+AreAsked made before after = (calls : List FileCall) → before ≡ Some calls → after ≡ Some (calls ++ made)
 
 -- some of these were made, without a gap from the first one on, and no others
 abbrev pub AreBegun : List FileCall → Option (List FileCall) → Option (List FileCall) → Type 0
-AreBegun due before after = (made : List FileCall) × (left : List FileCall) × (due ≡ made ++ left) × AreMade made before after
+AreBegun due before after = (made : List FileCall) × (left : List FileCall) × (due ≡ made ++ left) × AreAsked made before after
 
 -- the look at what is read by a name
 abbrev pub look_at : List ℕ → FileCall
@@ -33,10 +33,10 @@ looks_written (Some name) with_rights =
 abbrev pub looks : List (List ℕ) → Option (List ℕ) → Bool → List FileCall
 looks names output with_rights = map look_at (names_read names) ++ looks_written output with_rights
 
--- the opening of what is read by a name: standard input is open
-abbrev pub opening : List ℕ → List FileCall
-opening name = if is_standard_input name then [] else opened name ∷ []
+-- what is asked to open what is read by a name: nothing where that is standard input
+abbrev pub call_to_open : List ℕ → List FileCall
+call_to_open name = if is_standard_input name then [] else opened name ∷ []
 
--- the openings of all files that are read, in order
-abbrev pub openings : List (List ℕ) → List FileCall
-openings names = flat_map opening names
+-- what is asked to open all files that are read, in order
+abbrev pub calls_to_open : List (List ℕ) → List FileCall
+calls_to_open names = flat_map call_to_open names

@@ -3,7 +3,7 @@
 ghost use Rattle.std.specs.Prelude.{◌≡◌, ◌∷◌, [], ℕ, IfErr, IfOk, List, OnErr, OnOk, Option, Result, Some, Err, flat_map};
 ghost use Rattle.auction_input.specs.declared.files.FileFault.{FileFault as Fault};
 ghost use Rattle.auction_input.specs.declared.files.FileFault.TheVariants.{Unopened};
-ghost use Rattle.auction_input.specs.FileCalls.{AreMade, FileCall, opened, readable, replaced, rights, standard_input};
+ghost use Rattle.auction_input.specs.FileCalls.{AreAsked, FileCall, opened, readable, replaced, rights, standard_input};
 ghost use Rattle.auction_input.specs.FileTexts.{IsFound, Shelf, is_standard_output, sent_to};
 ghost use Rattle.auction_input.specs.FileWords.{fault_words, kind_words};
 
@@ -155,25 +155,25 @@ pub trait Files {
     fn standard_input(&mut self) -> Option<Identity>
         ensures found { IsFound ((shelf self.old).standard_input) result }
         ensures shelf_kept { shelf self.new ≡ shelf self.old }
-        ensures called { AreMade (standard_input ∷ []) (calls self.old) (calls self.new) };
+        ensures called { AreAsked (standard_input ∷ []) (calls self.old) (calls self.new) };
 
     /// What distinguishes a file that isn't standard input from others, or why it isn't read.
     fn readable(&mut self, name: &str) -> Result<Identity, FileFault>
         ensures found { IsFound ((shelf self.old).readable name.now) result }
         ensures shelf_kept { shelf self.new ≡ shelf self.old }
-        ensures called { AreMade (readable name.now ∷ []) (calls self.old) (calls self.new) };
+        ensures called { AreAsked (readable name.now ∷ []) (calls self.old) (calls self.new) };
 
     /// What distinguishes a file that isn't standard output from others, if there is one yet, or why another isn't put in its place.
     fn replaced(&mut self, name: &str) -> Result<Option<Identity>, FileFault>
         ensures found { IsFound ((shelf self.old).replaced name.now) result }
         ensures shelf_kept { shelf self.new ≡ shelf self.old }
-        ensures called { AreMade (replaced name.now ∷ []) (calls self.old) (calls self.new) };
+        ensures called { AreAsked (replaced name.now ∷ []) (calls self.old) (calls self.new) };
 
     /// Whether a file that there is may be written.
     fn rights(&mut self, name: &str) -> Result<(), FileFault>
         ensures found { IsFound ((shelf self.old).rights name.now) result }
         ensures shelf_kept { shelf self.new ≡ shelf self.old }
-        ensures called { AreMade (rights name.now ∷ []) (calls self.old) (calls self.new) };
+        ensures called { AreAsked (rights name.now ∷ []) (calls self.old) (calls self.new) };
 
     /// Opens a file that isn't standard input.
     fn open(&mut self, name: &str) -> Result<Self::File, FileFault>
@@ -181,7 +181,7 @@ pub trait Files {
         ensures opened { OnOk result (IsFound ((shelf self.old).opened name.now) (Ok tt)) }
         ensures unopened { IfErr result (λ f. IsFound ((shelf self.old).opened name.now) (Err f)) }
         ensures shelf_kept { shelf self.new ≡ shelf self.old }
-        ensures called { AreMade (opened name.now ∷ []) (calls self.old) (calls self.new) };
+        ensures called { AreAsked (opened name.now ∷ []) (calls self.old) (calls self.new) };
 }
 
 /// A sink that may be sent to a file.

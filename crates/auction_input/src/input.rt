@@ -1,7 +1,7 @@
 //! Reading the input.
 
 ghost use Rattle.std.specs.Prelude.{◌≡◌, ◌≢◌, ◌≤◌, ◌<◌, ◌∷◌, [], ℕ, IfErr, IfOk, List, None, OnErr, OnOk, Option, false, length};
-ghost use Rattle.auction_input.specs.FileCalls.{AreBegun, AreMade, opened, opening, openings};
+ghost use Rattle.auction_input.specs.FileCalls.{AreBegun, AreAsked, opened, call_to_open, calls_to_open};
 ghost use Rattle.auction_input.specs.FileTexts.{AreRead, AreSound, IsContent, IsInputRead, IsTextOf, IsTextUnread, IsUnread, IsUnreadOf, bytes_in, fault_among, is_standard_input, named_files, refused_at};
 ghost use Rattle.auction_input.specs.inside.FileTexts.{file_unread};
 ghost use Rattle.auction_input.specs.ReadInput.{IsUntaken, IsWhole};
@@ -135,7 +135,7 @@ fn read_file<D: Files>(
     ensures unread { IfErr result (λ f. (count : ℕ) (left : Option (List ℕ)) → IsTextUnread
         (D.shelf files.old) name.now place count limit left left failures.old failures.new f) }
     ensures shelf_kept { D.shelf files.new ≡ D.shelf files.old }
-    ensures called { AreMade (opened name.now ∷ []) (D.calls files.old) (D.calls files.new) }
+    ensures called { AreAsked (opened name.now ∷ []) (D.calls files.old) (D.calls files.new) }
 {
     let file = match files.open(name) {
         Ok(file) => file,
@@ -178,7 +178,7 @@ fn read_named<D: Files, I: Read>(
         count limit (I.remaining input.old.reader) (I.remaining input.new.reader) input.old.failures
         input.new.failures f) }
     ensures shelf_kept { D.shelf files.new ≡ D.shelf files.old }
-    ensures called { AreMade (opening name.now) (D.calls files.old) (D.calls files.new) }
+    ensures called { AreAsked (call_to_open name.now) (D.calls files.old) (D.calls files.new) }
 {
     if !is_standard_input(name) {
         return read_file(alloc, files, name, place, &mut input.failures, limit);
@@ -225,7 +225,7 @@ fn read_text<D: Files, I: Read>(
         (I.remaining input.old.reader) (I.remaining input.new.reader) input.old.failures
         input.new.failures f) }
     ensures shelf_kept { D.shelf files.new ≡ D.shelf files.old }
-    ensures called { AreMade (opening name.now) (D.calls files.old) (D.calls files.new) }
+    ensures called { AreAsked (call_to_open name.now) (D.calls files.old) (D.calls files.new) }
 {
     let bytes = read_named(alloc, files, name, place, input, limit)?;
     if let Some(fault) = fault_among(bytes.as_slice(), place, count) {
@@ -251,9 +251,9 @@ fn read_each<D: Files, I: Read>(
         (I.remaining input.old.reader) (I.remaining input.new.reader) input.old.failures
         input.new.failures) }
     ensures shelf_kept { D.shelf files.new ≡ D.shelf files.old }
-    ensures called { OnOk result (AreMade (openings (named_files names.now))
+    ensures called { OnOk result (AreAsked (calls_to_open (named_files names.now))
         (D.calls files.old) (D.calls files.new)) }
-    ensures begun { OnErr result (AreBegun (openings (named_files names.now))
+    ensures begun { OnErr result (AreBegun (calls_to_open (named_files names.now))
         (D.calls files.old) (D.calls files.new)) }
 {
     let mut texts = Vec::new(alloc);
@@ -285,9 +285,9 @@ pub fn read_inputs<D: Files, I: Read>(
         (I.remaining input.old.reader) (I.remaining input.new.reader) input.old.failures
         input.new.failures) }
     ensures shelf_kept { D.shelf files.new ≡ D.shelf files.old }
-    ensures called { OnOk result (AreMade (openings (named_files names.now))
+    ensures called { OnOk result (AreAsked (calls_to_open (named_files names.now))
         (D.calls files.old) (D.calls files.new)) }
-    ensures begun { OnErr result (AreBegun (openings (named_files names.now))
+    ensures begun { OnErr result (AreBegun (calls_to_open (named_files names.now))
         (D.calls files.old) (D.calls files.new)) }
 {
     if names.is_empty() {

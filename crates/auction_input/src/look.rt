@@ -5,7 +5,7 @@ ghost use Rattle.std.specs.List.{list_any, position_or_len};
 ghost use Rattle.std.specs.Option.{option_map};
 ghost use Rattle.std.specs.Result.{result_err};
 ghost use Rattle.indexmap.specs.IndexSet.{keys};
-ghost use Rattle.auction_input.specs.FileCalls.{AreBegun, AreMade, look_at, looks, looks_written};
+ghost use Rattle.auction_input.specs.FileCalls.{AreBegun, AreAsked, look_at, looks, looks_written};
 ghost use Rattle.auction_input.specs.FileTexts.{IsFound, named_files};
 ghost use Rattle.auction_input.specs.FileLooks.{AreTaken, Finding, FindsNothing, FindsWritten, IsFirstRefused, FindsAgainst, is_same, names_read, read_as, refusal_after};
 ghost use Rattle.auction_input.specs.declared.files.FileFault.TheVariants as file_fault;
@@ -23,7 +23,7 @@ type Seen = IndexSet<Option<Identity>>;
 fn find<D: Files>(files: &mut D, name: &str) -> Result<Option<Identity>, FileFault>
     ensures found { IsFound (read_as (D.shelf files.old) name.now) result }
     ensures shelf_kept { D.shelf files.new ≡ D.shelf files.old }
-    ensures called { AreMade (look_at name.now ∷ []) (D.calls files.old) (D.calls files.new) }
+    ensures called { AreAsked (look_at name.now ∷ []) (D.calls files.old) (D.calls files.new) }
 {
     if is_standard_input(name) {
         return Ok(files.standard_input());
@@ -69,7 +69,7 @@ fn look_at_input<D: Files>(files: &mut D, name: &str, seen: &mut Seen) -> Result
         ⊎ ((finding : Finding) × IsFound (read_as (D.shelf files.old) name.now) finding
         × (refusal_after (keys seen.old) finding ≡ Some r))) }
     ensures shelf_kept { D.shelf files.new ≡ D.shelf files.old }
-    ensures called { AreMade (look_at name.now ∷ []) (D.calls files.old) (D.calls files.new) }
+    ensures called { AreAsked (look_at name.now ∷ []) (D.calls files.old) (D.calls files.new) }
 {
     let place = seen.len();
     let file = match find(files, name) {
@@ -90,7 +90,7 @@ fn look_at_inputs<D: Files>(files: &mut D, names: &[String], seen: &mut Seen) ->
     ensures refused { IfErr result (λ r. (r.fault ≡ file_fault.OutOfMemory)
         ⊎ IsFirstRefused (D.shelf files.old) (names_read (named_files names.now)) r) }
     ensures shelf_kept { D.shelf files.new ≡ D.shelf files.old }
-    ensures called { OnOk result (AreMade (map look_at (names_read (named_files names.now)))
+    ensures called { OnOk result (AreAsked (map look_at (names_read (named_files names.now)))
         (D.calls files.old) (D.calls files.new)) }
     ensures begun { OnErr result (AreBegun (map look_at (names_read (named_files names.now)))
         (D.calls files.old) (D.calls files.new)) }
@@ -111,7 +111,7 @@ fn look_at_inputs<D: Files>(files: &mut D, names: &[String], seen: &mut Seen) ->
 fn look_at_written<D: Files>(files: &mut D, name: &str, seen: &Seen) -> Result<(), FileFault>
     ensures found { FindsWritten (D.shelf files.old) (keys seen.now) name.now (result_err result) }
     ensures shelf_kept { D.shelf files.new ≡ D.shelf files.old }
-    ensures called { (with_rights : Bool) × AreMade (looks_written (Some name.now) with_rights)
+    ensures called { (with_rights : Bool) × AreAsked (looks_written (Some name.now) with_rights)
         (D.calls files.old) (D.calls files.new) }
 {
     if is_standard_output(name) {
@@ -141,7 +141,7 @@ pub fn look_at_files<D: Files>(
     ensures refused { IfErr result (FindsAgainst (D.shelf files.old) (named_files names.now)
         (option_map (λ name. name.now) output.entry)) }
     ensures shelf_kept { D.shelf files.new ≡ D.shelf files.old }
-    ensures called { OnOk result ((with_rights : Bool) × AreMade (looks (named_files names.now)
+    ensures called { OnOk result ((with_rights : Bool) × AreAsked (looks (named_files names.now)
         (option_map (λ name. name.now) output.entry) with_rights) (D.calls files.old) (D.calls files.new)) }
     ensures begun { OnErr result ((with_rights : Bool) × AreBegun (looks (named_files names.now)
         (option_map (λ name. name.now) output.entry) with_rights) (D.calls files.old) (D.calls files.new)) }

@@ -5,7 +5,7 @@ use Rattle.auction_input.specs.declared.input.InputFault.TheVariants as input
 use Rattle.auction_input.specs.declared.input.Unread.TheVariants as unread
 use Rattle.auction_input.specs.declared.input.Unread.{Unread}
 use Rattle.auction_input.specs.declared.input.TheConstants.{INPUT_LIMIT}
-use Rattle.auction_input.proofs.FileCallFacts.{made-more, made-none, opening-next, openings-more}
+use Rattle.auction_input.proofs.FileCallFacts.{made-more, made-none, opening-next, calls_to_open-more}
 use Rattle.auction_input.proofs.FileFacts.{bytes-more, read-more, sound-more, text-front, unread-next}
 use Rattle.auction_input.proofs.StepFacts.{if-err-of, on-err-given}
 use Rattle.auction_input.proofs.input.read_each.Goals as goal
@@ -45,7 +45,7 @@ loop-name-preserved g c =
       unfailed = c.in_ok-text.ensures.unfailed ∙ so.unfailed;
       at = omega arith;
       kept = c.in_ok-text.ensures.shelf_kept ∙ so.kept;
-      called = rw (next, openings-more (named_files (take i names)) given.name) (made-more _ _ _ _ _ so.called (rw c.in_ok-text.ensures.name c.in_ok-text.ensures.called));
+      called = rw (next, calls_to_open-more (named_files (take i names)) given.name) (made-more _ _ _ _ _ so.called (rw c.in_ok-text.ensures.name c.in_ok-text.ensures.called));
     }
 
 pub returns-in_err-text-clause-unread : goal.returns-in_err-text-clause-unread

@@ -1,5 +1,5 @@
 use Rattle.std.proofs.Common.{◌≡◌, ◌+◌, length, take}
-use Rattle.auction_input.specs.FileCalls.{AreMade, openings}
+use Rattle.auction_input.specs.FileCalls.{AreAsked, calls_to_open}
 use Rattle.auction_input.specs.FileTexts.{AreRead, AreSound, bytes_in, named_files}
 use Rattle.auction_input.specs.declared.input.TheConstants.{INPUT_LIMIT}
 use Rattle.auction_input.proofs.input.read_each.Given as goal
@@ -14,5 +14,5 @@ invariant-loop-name g l = record {
   unfailed : l.input.failures ≡ l.fn.input.failures;
   at : l.place ≡ l.name-index;
   kept : g.D.Files.shelf l.files ≡ g.D.Files.shelf l.fn.files;
-  called : AreMade (openings (named_files (take l.name-index l.fn.names))) (g.D.Files.calls l.fn.files) (g.D.Files.calls l.files);
+  called : AreAsked (calls_to_open (named_files (take l.name-index l.fn.names))) (g.D.Files.calls l.fn.files) (g.D.Files.calls l.files);
 }
