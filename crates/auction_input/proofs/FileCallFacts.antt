@@ -58,7 +58,7 @@ look-next names i name seen before between after item is made more =
       first ++ look_at seen ∷ [],
       map look_at others,
       rw is (ap (map look_at) (names-at names i name item) ∙ map-append look_at (named_files (take i names)) (name.bytes.items ∷ others)
-      ∙ sym (append_assoc first (look_at name.bytes.items ∷ []) (map look_at others))),
+          ∙ sym (append_assoc first (look_at name.bytes.items ∷ []) (map look_at others))),
       made-more first (look_at seen ∷ []) before between after made more,
     )
 
@@ -73,6 +73,6 @@ opening-next names i name seen before between after item is made more =
       first ++ call_to_open seen,
       calls_to_open others,
       rw is (ap calls_to_open (names-at names i name item) ∙ flat_map-append call_to_open (named_files (take i names)) (name.bytes.items ∷ others)
-      ∙ sym (append_assoc first (call_to_open name.bytes.items) (calls_to_open others))),
+          ∙ sym (append_assoc first (call_to_open name.bytes.items) (calls_to_open others))),
       made-more first (call_to_open seen) before between after made more,
     )

@@ -83,7 +83,11 @@ fn look_at_input<D: Files>(files: &mut D, name: &str, seen: &mut Seen) -> Result
 }
 
 // Looks at all that is read, in order: without names that is standard input.
-fn look_at_inputs<D: Files>(files: &mut D, names: &[String], seen: &mut Seen) -> Result<(), FileRefusal>
+fn look_at_inputs<D: Files>(
+    files: &mut D,
+    names: &[String],
+    seen: &mut Seen,
+) -> Result<(), FileRefusal>
     requires { keys seen.old ≡ [] }
     ensures taken { OnOk result (AreTaken (D.shelf files.old) (names_read (named_files names.now))
         (keys seen.new)) }

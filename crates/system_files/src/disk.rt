@@ -68,6 +68,7 @@ impl Files for Disk<'_> {
       replaced = λ _. None;
       rights = λ _. None;
     } };
+
     ghost calls = { λ _. None };
 
     type File = File;

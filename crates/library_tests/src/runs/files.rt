@@ -36,6 +36,7 @@ impl Files for MemoryFiles {
       replaced = λ _. None;
       rights = λ _. None;
     } };
+
     ghost calls = { λ _. None };
 
     type File = LimitReader;

@@ -49,7 +49,7 @@ loop-name-preserved g c =
     let so = c.loop-name.invariant in
     let (file, found, fine, more) = rw so.kept at c.in-Ok.ensures.taken in record {
       taken = rw (next, more) (taken-more (g.D.Files.shelf c.args.files.now) (named_files (take i names)) (keys c.loop-name.seen)
-      c.as_str.result.now file so.taken found fine);
+          c.as_str.result.now file so.taken found fine);
       kept = c.in-Ok.ensures.shelf_kept ∙ so.kept;
       called = rw (next, map-append look_at (named_files (take i names)) (c.as_str.result.now ∷ [])) (made-more _ _ _ _ _ so.called c.in-Ok.ensures.called);
     }
