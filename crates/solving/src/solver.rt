@@ -11,7 +11,7 @@ use auction_input::{Input, NamedText, Refusal, Request, read_auction};
 use auction_terms::{Choice, Groups};
 use byte_sinks::Sink;
 use findings::{Found, add_part, add_ties, search};
-use group_compiler::{Compiler, GroupPrograms, OpenGate, make_all};
+use group_compiler::{Compiler, GroupPrograms, make_each};
 use outcome::Allocation;
 use std::alloc::{AllocError, Global};
 use std::sync::Wait;
@@ -154,7 +154,7 @@ fn joined(
 }
 
 /// What is found without each group, in order: the first one from nothing, and the others from what it came to.
-fn search_groups<R: Threads + Wait + Sync + AllocGlobal>(
+fn search_groups<R: Threads + Sync + AllocGlobal>(
     rt: &R,
     programs: &GroupPrograms<'_>,
     groups: &Groups,
@@ -173,7 +173,7 @@ fn search_groups<R: Threads + Wait + Sync + AllocGlobal>(
         known,
         most_steps: options.most_steps,
     };
-    let made = make_all(rt, alloc, options.workers, &OpenGate, &others)?;
+    let made = make_each(rt, alloc, options.workers, &others)?;
     joined(alloc, first, made)
 }
 
@@ -236,7 +236,7 @@ fn add_first_ties(
 }
 
 /// What is found of the programs of an auction.
-fn solve_programs<R: Threads + Wait + Sync + AllocGlobal>(
+fn solve_programs<R: Threads + Sync + AllocGlobal>(
     rt: &R,
     programs: &GroupPrograms<'_>,
     groups: &Groups,

@@ -21,7 +21,7 @@ use std::process::ExitCode;
 use std::sync::Wait;
 use std::thread::Threads;
 use std::{env, io};
-use system_files::{Disk, Out, StandardInput, print_lack, touch};
+use system_files::{Disk, Ending, Out, StandardInput, print_lack, touch};
 
 const HINT: &[u8] =
     b"wdp-solve: reads standard input; a line with Ctrl-D alone ends it, and wdp-solve FILE reads a file\n";
@@ -36,7 +36,7 @@ struct Given {
 /// Looks at the files that the words name, and opens the one that is to be written.
 fn prepare(
     alloc: Global,
-    disk: &Disk<'_>,
+    disk: &mut Disk<'_>,
     asked: &Asked,
     out: &mut Out<'_>,
 ) -> Result<(), FileRefusal> {
@@ -64,7 +64,7 @@ fn names_of(alloc: Global, name: &str) -> Result<Vec<String>, AllocError> {
 /// Reads the solutions to begin with.
 fn read_solutions(
     alloc: Global,
-    disk: &Disk<'_>,
+    disk: &mut Disk<'_>,
     name: &str,
     standard: &mut Source<StandardInput<'_>>,
 ) -> Result<NamedText, Unread> {
@@ -77,7 +77,7 @@ fn read_solutions(
 /// Reads what the words name. The line on a file that isn't read is printed.
 fn read_given<F: Sink>(
     alloc: Global,
-    disk: &Disk<'_>,
+    disk: &mut Disk<'_>,
     asked: &Asked,
     standard: &mut Source<StandardInput<'_>>,
     faults: &mut F,
@@ -119,13 +119,13 @@ fn solve_asked<R: Threads + Wait + Sync + AllocGlobal, F: Sink>(
     out: &mut Out<'_>,
     faults: &mut F,
 ) -> u8 {
-    let disk = Disk::new(system);
-    if let Err(refusal) = prepare(rt.alloc(), &disk, asked, out) {
+    let mut disk = Disk::new(system);
+    if let Err(refusal) = prepare(rt.alloc(), &mut disk, asked, out) {
         print_file_refusal(&asked.named, refusal, faults);
         return 1;
     }
     let mut standard = Source::new(StandardInput::new(system, HINT));
-    let Some(given) = read_given(rt.alloc(), &disk, asked, &mut standard, faults) else {
+    let Some(given) = read_given(rt.alloc(), &mut disk, asked, &mut standard, faults) else {
         return 1;
     };
     let options = asked.options;
@@ -168,7 +168,7 @@ fn show<F: Sink>(first: &[u8], second: &[u8], out: &mut Out<'_>, faults: &mut F)
 }
 
 /// Ends the output: a whole file takes its place.
-fn ended<F: Sink>(out: Out<'_>, is_whole: bool, status: u8, faults: &mut F) -> u8 {
+fn ended<F: Sink>(out: &mut Out<'_>, is_whole: bool, status: u8, faults: &mut F) -> u8 {
     match out.end(is_whole) {
         Ok(()) => status,
         Err(unkept) => {
@@ -203,11 +203,11 @@ fn work<R: Threads + Wait + Sync + AllocGlobal>(rt: &R, system: &HostRuntime) ->
             let status = solve_asked(rt, system, &asked, &mut out, &mut faults);
             // Solutions that aren't proved are a whole output, too.
             let is_whole = status == 0 || (status == 3 && asked.options.unproved);
-            return ExitCode::from(ended(out, is_whole, status, &mut faults));
+            return ExitCode::from(ended(&mut out, is_whole, status, &mut faults));
         }
         Err(error) => print_words(rt.alloc(), &error, &mut out, &mut faults),
     };
-    ExitCode::from(ended(out, status == 0, status, &mut faults))
+    ExitCode::from(ended(&mut out, status == 0, status, &mut faults))
 }
 
 fn main(rt: HostRuntime) -> ExitCode {
