@@ -1,10 +1,10 @@
 -- What is answered to a request, by the auction that its input describes.
-use Rattle.std.proofs.Common.{◌≡◌, ◌≢◌, ◌∙◌, Result, Ok, Err, ap, inl, inr, refl, subst, sym, IfErr, OnOk}
+use Rattle.std.proofs.Common.{◌≡◌, ◌≢◌, ◌∙◌, ℕ, Result, Ok, Err, ap, inl, inr, refl, subst, sym, IfErr, OnOk}
 use Rattle.auction_input.specs.Input.{Input}
 use Rattle.answers.specs.Answer.{answer, output_of}
 use Rattle.answers.specs.Exact.{Ends, IsUnwritten, MeetsLimit, Writes, by_refusal}
 use Rattle.byte_sinks.specs.Sinks.{Outlet}
-use Rattle.answers.specs.Sold.{HasSold}
+use Rattle.answers.specs.Sold.{HasSold, HasSoldTo}
 use Rattle.answers.specs.Output.{IsBeyondLimit, IsWithoutOutput}
 use Rattle.answers.proofs.FaithfulFacts.{faithful-without}
 use Rattle.auction_input.specs.Auction.{Auction, parsed_auction}
@@ -17,12 +17,13 @@ use Rattle.auction_terms.specs.Stages.{and_then}
 use Rattle.auction_input.specs.declared.request.Request.{Request}
 use Rattle.auction_input.specs.declared.request.Request.TheVariants as request
 
--- every command but `check` and `forms` answers by the auction
-by-auction : (asked : Request) (input : Input) → asked ≢ request.Check → asked ≢ request.Forms
+-- every command but `check`, `forms` and `verify --forms` answers by the auction alone
+by-auction : (asked : Request) (input : Input) → asked ≢ request.Check → asked ≢ request.Forms → ((workers : ℕ) → asked ≢ request.VerifyWithForms workers)
     → answer asked input ≡ and_then (parsed_auction asked input) (output_of asked)
-by-auction request.Check input some settled = absurd (some refl)
-by-auction request.Forms input some settled = absurd (settled refl)
-by-auction asked input some settled = refl
+by-auction request.Check input some settled bare = absurd (some refl)
+by-auction request.Forms input some settled bare = absurd (settled refl)
+by-auction (request.VerifyWithForms workers) input some settled bare = absurd (bare workers refl)
+by-auction asked input some settled bare = refl
 
 meets-limit : (asked : Request) (input : Input) (auction : Auction) (r : Refusal) → parsed_auction asked input ≡ Ok auction
     → IsBeyondLimit asked auction r → MeetsLimit asked input r
@@ -30,22 +31,28 @@ meets-limit (request.Verify workers) input auction r parsed beyond = (auction, p
 meets-limit asked input auction r parsed beyond = absurd beyond
 
 -- the auction that was read, with texts that are faithful to it
-pub has-sold : (asked : Request) (input : Input) (auction : Auction) → IsSold asked input auction → HasSold asked input
-has-sold request.Check input auction sold = tt
-has-sold request.Forms input auction sold = tt
-has-sold asked input auction sold = (auction, sold, faithful-without asked input auction ((described-auction asked input auction).1 sold.described))
+pub has-sold-to : (asked : Request) (input : Input) (auction : Auction) → IsSold asked input auction → HasSoldTo asked input
+has-sold-to asked input auction sold = (auction, sold, faithful-without asked input auction ((described-auction asked input auction).1 sold.described))
 
-module _ (asked : Request) (input : Input) (some : asked ≢ request.Check) (settled : asked ≢ request.Forms) where
+pub has-sold : (asked : Request) (input : Input) (auction : Auction) → ((workers : ℕ) → asked ≢ request.VerifyWithForms workers) → IsSold asked input auction
+    → HasSold asked input
+has-sold request.Check input auction bare sold = tt
+has-sold request.Forms input auction bare sold = tt
+has-sold (request.VerifyWithForms workers) input auction bare sold = absurd (bare workers refl)
+has-sold asked input auction bare sold = has-sold-to asked input auction sold
+
+module _ (asked : Request) (input : Input) (some : asked ≢ request.Check) (settled : asked ≢ request.Forms)
+    (bare : (workers : ℕ) → asked ≢ request.VerifyWithForms workers) where
   -- the auction isn't there
   pub no-auction : (before : Outlet) (r : Refusal) → RefusesAuction asked input r → IsUnwritten asked input before before r
   no-auction before r (inl refused) =
-      inl (by_refusal (refuses-as _ _ r (by-auction asked input some settled) (stop (parsed_auction asked input) (output_of asked) r refused)) refl)
+      inl (by_refusal (refuses-as _ _ r (by-auction asked input some settled bare) (stop (parsed_auction asked input) (output_of asked) r refused)) refl)
   no-auction before r (inr unsettled) = inr (inl unsettled, refl)
 
   -- it is, and what is reported of it is what the input describes
   module _ (auction : Auction) (parsed : parsed_auction asked input ≡ Ok auction) where
     is-parsed : answer asked input ≡ output_of asked auction
-    is-parsed = by-auction asked input some settled ∙ ap (λ (t : Result Auction Refusal). and_then t (output_of asked)) parsed
+    is-parsed = by-auction asked input some settled bare ∙ ap (λ (t : Result Auction Refusal). and_then t (output_of asked)) parsed
 
     pub written : {T E : Type 0} (result : Result T E) (before after : Outlet)
         → OnOk result (Writes (output_of asked auction) before after) → OnOk result (Writes (answer asked input) before after)

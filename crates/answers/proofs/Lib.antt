@@ -19,6 +19,7 @@ pub mod FaithfulFacts
 pub mod FeasibleFacts
 mod FileLineFacts
 mod FormsFacts
+pub mod FormsFirstFacts
 pub mod GroupTextFacts
 mod LineFacts
 pub mod OthersFacts

@@ -8,7 +8,7 @@ use Rattle.auction_input.specs.ParsedParts.{only_text}
 use Rattle.auction_input.specs.PartCounts.{wanted}
 use Rattle.auction_input.specs.declared.refusal.Refusal.TheVariants as refusal
 use Rattle.auction_input.specs.declared.refusal.Refusal.{Refusal}
-use Rattle.auction_input.specs.declared.request.Request.TheVariants.{Check, Compile, Explain, Forms, Map, Report, Verify}
+use Rattle.auction_input.specs.declared.request.Request.TheVariants.{Check, Compile, Explain, Forms, Map, Report, Verify, VerifyWithForms}
 use Rattle.auction_input.specs.declared.request.Request.{Request}
 use Rattle.auction_terms.specs.Stages.{and_then}
 use Rattle.mps_text.specs.Text.{text}
@@ -54,8 +54,11 @@ output_of (Explain options) auction =
 output_of asked auction = Ok (text (program_for auction.sale []))
 
 -- `check` writes the sizes of the program that its one text is, `forms` the digests of the rules and of each bidder's last form, whatever
--- else is there; the others answer by the auction that their input describes
+-- else is there, and `verify --forms` these and then what `verify` writes; the others answer by the auction that their input describes
 abbrev pub answer : Request → Input → Result (List ℕ) Refusal
 answer Check input = and_then (parsed_program (only_text (text_bytes input))) (λ program. Ok (sizes_text program))
 answer Forms input = and_then (parsed_forms input) (λ read. Ok (forms_text read))
+answer (VerifyWithForms workers) input =
+    and_then (and_then (parsed_auction (Verify workers) input) (output_of (Verify workers))) (λ report.
+    and_then (parsed_forms input) (λ read. Ok (forms_text read ++ report)))
 answer asked input = and_then (parsed_auction asked input) (output_of asked)

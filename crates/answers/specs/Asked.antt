@@ -40,6 +40,10 @@ workers = record (new_rule (codes "workers")) {
 abbrev pub group : Rule
 group = record (new_rule (codes "group")) { long = Some (codes "group"); value_names = 1; parser = Some (parser.Unsigned 1 MOST_GROUPS); required = true }
 
+-- whether the lines of `forms` come first: no, where nothing is said
+abbrev pub with_forms : Rule
+with_forms = record (new_rule (codes "forms")) { long = Some (codes "forms"); action = Some action.SetTrue }
+
 -- whether bids that are in no program are reported: no, where nothing is said
 abbrev pub bids : Rule
 bids = record (new_rule (codes "bids")) { long = Some (codes "bids"); action = Some action.SetTrue }
@@ -84,7 +88,7 @@ commands =
     for_text (new_app (codes "check")) ∷
     for_forms (with_rule (new_app (codes "map")) group) ∷
     for_forms (with_rule (new_app (codes "report")) workers) ∷
-    for_forms (with_rule (new_app (codes "verify")) workers) ∷
+    for_forms (with_rule (with_rule (new_app (codes "verify")) workers) with_forms) ∷
     for_forms (with_rule (with_rule (with_rule (new_app (codes "explain")) bids) explained_for) json) ∷
     for_forms (new_app (codes "forms")) ∷
     new_app (codes "help") ∷ []
@@ -122,6 +126,12 @@ explain_options rows = record {
 abbrev pub option_texts : Text → List Row → List Text
 option_texts id rows = unwrap_or (all_of id rows) []
 
+-- what `verify` is asked
+abbrev pub verify_named : List Row → Request
+verify_named rows =
+    if option_flag (codes "forms") rows then request.VerifyWithForms (option_number (codes "workers") MOST_WORKERS rows)
+    else request.Verify (option_number (codes "workers") MOST_WORKERS rows)
+
 -- the request of the command that is named, with its options
 abbrev pub request_named : Option (Text × List Row) → Request
 request_named None = request.Text
@@ -130,7 +140,7 @@ request_named (Some (name, rows)) =
     else if bytes_eq name (codes "check") then request.Check
     else if bytes_eq name (codes "map") then request.Map (option_number (codes "group") MOST_GROUPS rows)
     else if bytes_eq name (codes "report") then request.Report (option_number (codes "workers") MOST_WORKERS rows)
-    else if bytes_eq name (codes "verify") then request.Verify (option_number (codes "workers") MOST_WORKERS rows)
+    else if bytes_eq name (codes "verify") then verify_named rows
     else if bytes_eq name (codes "explain") then request.Explain (explain_options rows)
     else if bytes_eq name (codes "forms") then request.Forms
     else request.Text

@@ -40,6 +40,8 @@ IsBeyondSums auction r =
 -- `verify` alone adds up in 128 bits
 abbrev pub MeetsLimit : Request → Input → Refusal → Type 0
 MeetsLimit (request.Verify workers) input r = (auction : Auction) × (parsed_auction (request.Verify workers) input ≡ Ok auction) × IsBeyondSums auction r
+MeetsLimit (request.VerifyWithForms workers) input r =
+    (auction : Auction) × (parsed_auction (request.Verify workers) input ≡ Ok auction) × IsBeyondSums auction r
 MeetsLimit asked input r = ⊥
 
 -- why a request is refused, or its output cut short; what the input doesn't settle is a wrong answer of the desk, and the limit of sums

@@ -3,12 +3,17 @@ use Rattle.std.specs.Prelude.{⊤, ℕ, List}
 use Rattle.auction_input.specs.Input.{Input}
 use Rattle.auction_input.specs.Auction.{Auction}
 use Rattle.auction_input.specs.Sold.{IsSold}
-use Rattle.auction_input.specs.declared.request.Request.TheVariants.{Check, Forms}
+use Rattle.auction_input.specs.declared.request.Request.TheVariants.{Check, Forms, Verify, VerifyWithForms}
 use Rattle.auction_input.specs.declared.request.Request.{Request}
 use Rattle.answers.specs.FaithfulAnswers.{IsFaithfulToSale}
 
--- the auction that a request reads; the text of its program without any group is faithful to it
+-- an input describes an auction to a command; the text of its program without any group is faithful to it
+abbrev pub HasSoldTo : Request → Input → Type 0
+HasSoldTo asked input = (auction : Auction) × IsSold asked input auction × ((group : List ℕ) → IsFaithfulToSale auction.sale group)
+
+-- the auction that a request reads is so
 abbrev pub HasSold : Request → Input → Type 0
 HasSold Check input = ⊤
 HasSold Forms input = ⊤
-HasSold asked input = (auction : Auction) × IsSold asked input auction × ((group : List ℕ) → IsFaithfulToSale auction.sale group)
+HasSold (VerifyWithForms workers) input = HasSoldTo (Verify workers) input
+HasSold asked input = HasSoldTo asked input

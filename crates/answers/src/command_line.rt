@@ -128,11 +128,18 @@ fn output_of(alloc: Global, matches: &ArgMatches<'_>) -> Result<Option<String>, 
 }
 
 // The request of the command of this name, with what the options say.
-fn request_by(name: &str, workers: usize, group: usize, options: ExplainOptions) -> Request
+fn request_by(
+    name: &str,
+    workers: usize,
+    with_forms: bool,
+    group: usize,
+    options: ExplainOptions,
+) -> Request
     requires workers { (1 ≤ workers) × (workers ≤ MOST_WORKERS) }
     requires group { (1 ≤ group) × (group ≤ MOST_GROUPS) }
     ensures request { (rows : List Row)
         → workers ≡ option_number (codes "workers") MOST_WORKERS rows
+        → with_forms ≡ option_flag (codes "forms") rows
         → group ≡ option_number (codes "group") MOST_GROUPS rows
         → options ≡ explain_options rows
         → result ≡ request_named (Some (name.now, rows)) }
@@ -143,6 +150,7 @@ fn request_by(name: &str, workers: usize, group: usize, options: ExplainOptions)
         "check" => Request::Check,
         "map" => Request::Map { group },
         "report" => Request::Report { workers },
+        "verify" if with_forms => Request::VerifyWithForms { workers },
         "verify" => Request::Verify { workers },
         "explain" => Request::Explain(options),
         "forms" => Request::Forms,
@@ -157,7 +165,8 @@ fn request_of(name: &str, matches: &ArgMatches<'_>) -> Request
 {
     let workers = number_of(matches, "workers", MOST_WORKERS);
     let group = number_of(matches, "group", MOST_GROUPS as usize);
-    request_by(name, workers, group, options_of(matches))
+    let with_forms = has_flag(matches, "forms");
+    request_by(name, workers, with_forms, group, options_of(matches))
 }
 
 // What the words of a command say.

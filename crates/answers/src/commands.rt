@@ -10,6 +10,7 @@ ghost use Rattle.answers.specs.Runs.{AsksAnswer};
 ghost use Rattle.auction_input.specs.Requests.{IsRequestWithinLimits};
 ghost use Rattle.answers.specs.Sold.{HasSold};
 ghost use Rattle.answers.specs.Output.{IsWithoutOutput};
+ghost use Rattle.answers.specs.VerifiedForms.{WritesVerifiedWithForms};
 ghost use Rattle.answers.specs.VerifiedInputs.{WritesTrueReportOn};
 ghost use Rattle.auction_input.specs.Settled.{held};
 
@@ -29,7 +30,7 @@ use crate::commands::forms::write_forms;
 use crate::commands::map::write_winners;
 use crate::commands::report::write_costs;
 use crate::commands::text::write_program_of_all;
-use crate::commands::verify::write_verified;
+use crate::commands::verify::{verify_with_forms, write_verified};
 use auction_input::{Auction, Input, Refusal, Request, read_auction};
 use byte_sinks::Sink;
 pub use explain::explain_input;
@@ -37,8 +38,8 @@ use std::sync::Wait;
 use std::thread::Threads;
 
 /// Writes what a request asks for of an input. For `explain`, which may print faults in its place, see `explain_input`. It takes
-/// `check` and `forms` apart from the others, since the input of `check` describes a program, `forms` reads rules and forms alone, and
-/// the others an auction.
+/// `check`, `forms` and `verify --forms` apart from the others, since the input of `check` describes a program, `forms` reads rules and
+/// forms alone, `verify --forms` both them and an auction, and the others an auction.
 pub fn answer<R: Threads + Wait + Sync + AllocGlobal, S: Sink>(
     rt: &R,
     request: Request,
@@ -65,6 +66,9 @@ pub fn answer<R: Threads + Wait + Sync + AllocGlobal, S: Sink>(
     ensures verified { (workers : ℕ) → request ≡ Request.Verify workers
         → OnOk result (WritesTrueReportOn workers input.now (S.state out.old).taken
         (S.state out.new).taken) }
+    ensures verified_with_forms { (workers : ℕ) → request ≡ Request.VerifyWithForms workers
+        → OnOk result (WritesVerifiedWithForms workers input.now (S.state out.old).taken
+        (S.state out.new).taken) }
     ensures asks { AsksAnswer request input.now }
     ensures refused { IfErr result (IsUnwritten request input.now
         (S.state out.old) (S.state out.new)) }
@@ -72,6 +76,7 @@ pub fn answer<R: Threads + Wait + Sync + AllocGlobal, S: Sink>(
     match request {
         Request::Check => check(rt.alloc(), input, out),
         Request::Forms => write_forms(rt, input, out),
+        Request::VerifyWithForms { workers } => verify_with_forms(rt, input, workers, out),
         request => answer_auction(rt, &request, input, out),
     }
 }
@@ -87,6 +92,7 @@ fn answer_auction<R: Threads + Wait + Sync + AllocGlobal, S: Sink>(
     requires limits { IsRequestWithinLimits request.now }
     requires auction { request.now ≢ Request.Check }
     requires not_forms { request.now ≢ Request.Forms }
+    requires without_forms { (workers : ℕ) → request.now ≢ Request.VerifyWithForms workers }
     ensures written { OnOk result (Writes (answer request.now input.now) (S.state out.old)
         (S.state out.new)) }
     ensures sold { OnOk result (HasSold request.now input.now) }
@@ -108,6 +114,7 @@ fn write_output<R: Threads + Sync + AllocGlobal, S: Sink>(
     requires limits { IsRequestWithinLimits request.now }
     requires auction { request.now ≢ Request.Check }
     requires not_forms { request.now ≢ Request.Forms }
+    requires without_forms { (workers : ℕ) → request.now ≢ Request.VerifyWithForms workers }
     ensures written { OnOk result (Writes (output_of request.now (held auction.now))
         (S.state out.old) (S.state out.new)) }
     ensures refused { IfErr result (IsWithoutOutput request.now (held auction.now)
@@ -120,6 +127,6 @@ fn write_output<R: Threads + Sync + AllocGlobal, S: Sink>(
         Request::Report { workers } => write_costs(rt, auction, workers, out),
         Request::Verify { workers } => write_verified(rt, auction, workers, out),
         Request::Explain(options) => write_bids_of(rt, auction, options, out),
-        Request::Check | Request::Forms => unreachable!(),
+        Request::Check | Request::Forms | Request::VerifyWithForms { workers: _ } => unreachable!(),
     }
 }

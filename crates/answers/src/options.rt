@@ -48,6 +48,16 @@ pub(crate) fn workers<'a>(alloc: Global) -> Arg<'a>
     number_option(alloc, "workers", "N", "How many workers to run", numbers).default_value("1")
 }
 
+pub(crate) fn with_forms<'a>(alloc: Global) -> Arg<'a>
+    ensures rule { rule_of result ≡ asked.with_forms }
+    ensures local { result.global ≡ false }
+{
+    Arg::new(alloc, "forms")
+        .long("forms")
+        .help("Begin with the lines that wdp forms prints")
+        .action(ArgAction::SetTrue)
+}
+
 pub(crate) fn bids<'a>(alloc: Global) -> Arg<'a>
     ensures rule { rule_of result ≡ asked.bids }
     ensures local { result.global ≡ false }

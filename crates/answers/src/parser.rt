@@ -5,7 +5,9 @@ ghost use Rattle.clap.specs.Simple.{on_top};
 ghost use Rattle.clap.specs.Words.{app_of, new_app, rule_of, with_rule};
 ghost use Rattle.answers.specs.Asked as asked;
 
-use crate::options::{bids, explained_for, file, files, group, json, last_wins, output, workers};
+use crate::options::{
+    bids, explained_for, file, files, group, json, last_wins, output, with_forms, workers,
+};
 use clap::{Arg, Command};
 use std::alloc::{AllocError, Global};
 
@@ -59,7 +61,7 @@ const REPORT: Page = Page {
 const VERIFY: Page = Page {
     name: "verify",
     about: "Checks an audit, and prints its report and prices",
-    below: "Input: that of report, and a %certificate for each group; optionally %prices with %cover and %rule, up to 64 %tie, and %unique\nOutput: that of report, then the prices if given, then each other award after tie, and last unique, no other, or and more\nWrong number of parts: wdp explain --for verify prints how many were found and wanted\nExample: wdp verify examples/prices.txt",
+    below: "Input: that of report, and a %certificate for each group; optionally %prices with %cover and %rule, up to 64 %tie, and %unique\nOutput: with --forms first that of forms; that of report, then the prices if given, then each other award after tie, and last unique, no other, or and more\nWrong number of parts: wdp explain --for verify prints how many were found and wanted\nExample: wdp verify examples/prices.txt",
 };
 
 const EXPLAIN: Page = Page {
@@ -143,6 +145,18 @@ fn add_with<'a>(
     add(list, for_forms(alloc, command)?)
 }
 
+// Adds `verify`.
+fn add_verify<'a>(list: &mut Vec<Command<'a>>, alloc: Global) -> Result<(), AllocError>
+    ensures { OnOk result (map app_of list.new.items
+        ≡ map app_of list.old.items ++ asked.for_forms (with_rule (with_rule
+        (new_app (codes "verify")) asked.workers) asked.with_forms) ∷ []) }
+{
+    let command = described(alloc, VERIFY)
+        .arg(workers(alloc))?
+        .arg(with_forms(alloc))?;
+    add(list, for_forms(alloc, command)?)
+}
+
 // Adds `explain`.
 fn add_explain<'a>(list: &mut Vec<Command<'a>>, alloc: Global) -> Result<(), AllocError>
     ensures { OnOk result (map app_of list.new.items
@@ -166,7 +180,7 @@ fn add_all<'a>(list: &mut Vec<Command<'a>>, alloc: Global) -> Result<(), AllocEr
     add(list, for_text(alloc, described(alloc, CHECK))?)?;
     add_with(list, alloc, MAP, group(alloc))?;
     add_with(list, alloc, REPORT, workers(alloc))?;
-    add_with(list, alloc, VERIFY, workers(alloc))?;
+    add_verify(list, alloc)?;
     add_explain(list, alloc)?;
     add(list, for_forms(alloc, described(alloc, FORMS))?)?;
     add(list, help_command(alloc))?;

@@ -103,7 +103,7 @@ both-true : (taken : Bool × Bool) → taken.0 ≡ true → taken.1 ≡ true →
 both-true (a, b) groups solutions = rw (groups, solutions) refl
 
 -- parts that are read are those of an input that has such as the command takes
-read-parts : (asked : Request) (input : Input) (parts : List Part) → parsed_parts asked input ≡ Ok parts
+pub read-parts : (asked : Request) (input : Input) (parts : List Part) → parsed_parts asked input ≡ Ok parts
     → (input_parts input ≡ parts) × HasPartsFor asked input
 read-parts asked input parts read =
     let (all, first, second) = ok-after (refused_as refusal.Parts (unless (input_fault asked input) (Ok (input_parts input))))

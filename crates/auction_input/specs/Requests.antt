@@ -1,6 +1,6 @@
 -- The numbers that a request may have, and the command as which it takes parts.
 use Rattle.std.specs.Prelude.{◌≤◌, ⊤, ℕ, Bool, List, Option, None, Some, bytes_eq, codes, false, if◌then◌else◌, true}
-use Rattle.auction_input.specs.declared.request.Request.TheVariants.{Check, Compile, Explain, Forms, Map, Report, Text, Verify}
+use Rattle.auction_input.specs.declared.request.Request.TheVariants.{Check, Compile, Explain, Forms, Map, Report, Text, Verify, VerifyWithForms}
 use Rattle.auction_input.specs.declared.request.Request.{Request}
 use Rattle.auction_input.specs.declared.request.Target.TheVariants as target
 use Rattle.auction_input.specs.declared.request.Target.{Target}
@@ -15,6 +15,7 @@ IsRequestWithinLimits (Compile workers) = (1 ≤ workers) × (workers ≤ MOST_W
 IsRequestWithinLimits (Map group) = (1 ≤ group) × (group ≤ MOST_GROUPS)
 IsRequestWithinLimits (Report workers) = (1 ≤ workers) × (workers ≤ MOST_WORKERS)
 IsRequestWithinLimits (Verify workers) = (1 ≤ workers) × (workers ≤ MOST_WORKERS)
+IsRequestWithinLimits (VerifyWithForms workers) = (1 ≤ workers) × (workers ≤ MOST_WORKERS)
 IsRequestWithinLimits _ = ⊤
 
 -- the command as which a request takes the parts of an input: itself, or the one that `explain` names
@@ -26,6 +27,7 @@ target_of (Explain options) = options.target
 target_of (Map group) = Some target.Map
 target_of (Report workers) = Some target.Report
 target_of (Verify workers) = Some target.Verify
+target_of (VerifyWithForms workers) = Some target.Verify
 target_of Forms = None
 
 -- how what is found in the input of a request is printed
@@ -37,6 +39,7 @@ format_of (Explain options) = options.format
 format_of (Map group) = Words
 format_of (Report workers) = Words
 format_of (Verify workers) = Words
+format_of (VerifyWithForms workers) = Words
 format_of Forms = Words
 
 -- whether parts of groups and of solutions may be there in any number, as none of them is read

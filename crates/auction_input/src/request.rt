@@ -60,6 +60,8 @@ pub enum Request {
     /// What the solutions of all groups win, and the groups' opportunity costs, where certificates show that nobody wins more, by so
     /// many workers.
     Verify { workers: usize },
+    /// What `Forms` asks for, and after it what `Verify` does.
+    VerifyWithForms { workers: usize },
     /// The digests of the texts of the rules and of each bidder's last form.
     Forms,
 }
@@ -77,7 +79,9 @@ impl Request {
             Request::Explain(options) => options.target,
             Request::Map { group: _ } => Some(Target::Map),
             Request::Report { workers: _ } => Some(Target::Report),
-            Request::Verify { workers: _ } => Some(Target::Verify),
+            Request::Verify { workers: _ } | Request::VerifyWithForms { workers: _ } => {
+                Some(Target::Verify)
+            }
         }
     }
 
@@ -93,6 +97,7 @@ impl Request {
             | Request::Map { group: _ }
             | Request::Report { workers: _ }
             | Request::Verify { workers: _ }
+            | Request::VerifyWithForms { workers: _ }
             | Request::Forms => Format::Words,
         }
     }

@@ -25,4 +25,4 @@ pub use reading::read_solution;
 pub use report_lines::add_names_line;
 pub use sale::{amount_of, name_of};
 pub use solution_values::ValueFault;
-pub use writing::{report, report_with, write_allocation};
+pub use writing::{add_report_with, report, report_with, write_allocation};

@@ -66,7 +66,27 @@ pub fn report<S: Sink>(
     writer.flush()
 }
 
-/// Writes the same report, and after it what the winners pay and what is known of other awards of the same total. It takes no memory.
+/// Adds the same report, and after it what the winners pay and what is known of other awards of the same total.
+pub fn add_report_with<S: Sink>(
+    writer: &mut Writer<'_, S>,
+    book: &ClosedBook,
+    groups: &Groups,
+    allocations: &[Allocation],
+    pricing: &Option<Pricing>,
+    others: &OtherAwards,
+)
+    requires count { length groups.now ≡ length allocations.now }
+    requires first { starts_empty groups.now ≡ true }
+    ensures { Adds S.state writer.old writer.new (report_text (sale_of book.now) groups.now allocations.now
+        ++ (pricing_text (sale_of book.now) (slice_index_or allocations.now 0 []) pricing.now
+        ++ others_text (sale_of book.now) others.now)) }
+{
+    add_report(writer, book, groups, allocations);
+    add_pricing(writer, book, &allocations[0], pricing);
+    add_others(writer, book, others);
+}
+
+/// Writes what `add_report_with` adds. It takes no memory.
 pub fn report_with<S: Sink>(
     book: &ClosedBook,
     groups: &Groups,
@@ -82,8 +102,6 @@ pub fn report_with<S: Sink>(
         ++ others_text (sale_of book.now) others.now)) }
 {
     let mut writer = Writer::new(sink);
-    add_report(&mut writer, book, groups, allocations);
-    add_pricing(&mut writer, book, &allocations[0], pricing);
-    add_others(&mut writer, book, others);
+    add_report_with(&mut writer, book, groups, allocations, pricing, others);
     writer.flush()
 }

@@ -85,8 +85,8 @@ fn add_bidders<S: Sink>(writer: &mut Writer<'_, S>, bidders: &[Bidder], last: &L
     }
 }
 
-// Adds all lines.
-fn add_lines<S: Sink>(writer: &mut Writer<'_, S>, parts: &FormParts<'_>)
+/// Adds the lines of the rules and of all bidders.
+pub(crate) fn add_lines<S: Sink>(writer: &mut Writer<'_, S>, parts: &FormParts<'_>)
     ensures { Adds S.state writer.old writer.new (held_text parts.now) }
 {
     parts.rules.within_limits();

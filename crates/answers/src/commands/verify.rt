@@ -1,25 +1,31 @@
 //! The command `verify`: a report of solutions that certificates show to be optimal, prices that are shown to cover every group,
 //! and what is known of other awards.
 
-ghost use Rattle.std.specs.Prelude.{◌≤◌, IfErr, OnOk};
+ghost use Rattle.std.specs.Prelude.{◌≡◌, ◌++◌, ◌≤◌, IfErr, IfOk, Ok, OnOk, length, true};
 ghost use Rattle.auction_terms.specs.declared.limits.TheConstants.{MOST_WORKERS};
 ghost use Rattle.answers.specs.Answer.{answer, output_of};
 ghost use Rattle.auction_input.specs.Settled.{held};
 ghost use Rattle.answers.specs.Exact.{IsUnwritten, Writes};
 ghost use Rattle.answers.specs.Sold.{HasSold};
 ghost use Rattle.answers.specs.Verified.{WritesTrueReport};
+ghost use Rattle.answers.specs.VerifiedForms.{WritesVerifiedWithForms};
+ghost use Rattle.answers.specs.inside.Forms.{held_text};
+ghost use Rattle.answers.specs.inside.Proved.{IsUnproved, proved_text};
+ghost use Rattle.auction_terms.specs.Groups.{starts_empty};
+ghost use Rattle.byte_sinks.specs.Sinks.{Sends};
 ghost use Rattle.answers.specs.VerifiedInputs.{WritesTrueReportOn};
 ghost use Rattle.answers.specs.Output.{IsWithoutOutput};
 
 use crate::certified::check_certificates;
 use crate::claimed::claim_of;
 use crate::commands::answer_auction;
+use crate::commands::forms::add_lines;
 use crate::pricing::pricing_of;
 use crate::report_run::{check_counts, won_by_groups};
-use auction_input::{Auction, Input, Refusal, Request};
-use byte_sinks::Sink;
+use auction_input::{Auction, FormParts, Input, Refusal, Request, read_auction, read_last_forms};
+use byte_sinks::{Sink, WriteFault, Writer};
 use group_compiler::Compiler;
-use outcome::report_with;
+use outcome::{Allocation, OtherAwards, Pricing, add_report_with, report_with};
 use std::alloc::Global;
 use std::sync::Wait;
 use std::thread::Threads;
@@ -46,6 +52,44 @@ pub fn verify<R: Threads + Wait + Sync + AllocGlobal, S: Sink>(
     answer_auction(rt, &Request::Verify { workers }, input, out)
 }
 
+// What texts of solutions, certificates, claims and prices show of an auction.
+#[derive(Drop)]
+struct Proved {
+    won: Vec<Allocation>,
+    others: OtherAwards,
+    pricing: Option<Pricing>,
+}
+
+// What the texts of an auction show, if they do.
+fn proved_of<R: Threads + Sync + AllocGlobal>(
+    rt: &R,
+    auction: &Auction<'_>,
+    workers: usize,
+) -> Result<Proved, Refusal>
+    requires some { 1 ≤ workers }
+    requires few { workers ≤ MOST_WORKERS }
+    ensures shown { IfOk result (λ proved. output_of (Request.Verify workers) (held auction.now)
+        ≡ Ok (proved_text auction.now proved)) }
+    ensures count { IfOk result (λ proved. length auction.now.groups ≡ length proved.won.items) }
+    ensures first { IfOk result (λ _. starts_empty auction.now.groups ≡ true) }
+    ensures refused { IfErr result (IsUnproved workers (held auction.now)) }
+{
+    check_counts(auction)?;
+    let alloc: Global = rt.alloc();
+    let compiler = Compiler::new(rt, alloc, &auction.book, &auction.groups)?;
+    let won = won_by_groups(rt, auction, &compiler, workers)?;
+    let allocations = won.as_slice();
+    check_certificates(rt, alloc, auction, &compiler, allocations)?;
+    auction.book.within_limits();
+    let others = claim_of(alloc, auction, &compiler, allocations)?;
+    let pricing = pricing_of(alloc, auction, &compiler, allocations)?;
+    Ok(Proved {
+        won,
+        others,
+        pricing,
+    })
+}
+
 /// Writes what the solutions of an auction win, and the groups' opportunity costs, where certificates show that nobody wins more
 /// without its group; after it, if there are prices, what the winners pay; and what is known of other awards. What is written is
 /// true of the auction, whatever texts of solutions, certificates, ties and prices it came with. It waits for nothing but its own workers.
@@ -64,22 +108,65 @@ pub fn write_verified<R: Threads + Sync + AllocGlobal, S: Sink>(
     ensures refused { IfErr result (IsWithoutOutput (Request.Verify workers) (held auction.now)
         (S.state out.old) (S.state out.new)) }
 {
-    check_counts(auction)?;
-    let alloc: Global = rt.alloc();
-    let compiler = Compiler::new(rt, alloc, &auction.book, &auction.groups)?;
-    let won = won_by_groups(rt, auction, &compiler, workers)?;
-    let allocations = won.as_slice();
-    check_certificates(rt, alloc, auction, &compiler, allocations)?;
     auction.book.within_limits();
-    let others = claim_of(alloc, auction, &compiler, allocations)?;
-    let pricing = pricing_of(alloc, auction, &compiler, allocations)?;
+    let proved = proved_of(rt, auction, workers)?;
     report_with(
         &auction.book,
         &auction.groups,
-        allocations,
-        &pricing,
-        &others,
+        proved.won.as_slice(),
+        &proved.pricing,
+        &proved.others,
         out,
     )?;
+    Ok(())
+}
+
+// Writes the lines of forms, and after them what is proved of an auction.
+fn write_after_forms<S: Sink>(
+    parts: &FormParts<'_>,
+    auction: &Auction<'_>,
+    proved: &Proved,
+    out: &mut S,
+) -> Result<(), WriteFault>
+    requires count { length auction.now.groups ≡ length proved.now.won.items }
+    requires first { starts_empty auction.now.groups ≡ true }
+    ensures { Sends (S.state out.old) (S.state out.new) result
+        (held_text parts.now ++ proved_text auction.now proved.now) }
+{
+    let mut writer = Writer::new(out);
+    add_lines(&mut writer, parts);
+    add_report_with(
+        &mut writer,
+        &auction.book,
+        &auction.groups,
+        proved.won.as_slice(),
+        &proved.pricing,
+        &proved.others,
+    );
+    writer.flush()
+}
+
+/// Writes the lines that `forms` writes of an input, and after them what `verify` does: so one output says of which rules and
+/// forms an award is. Nothing is written of an input that `verify` refuses.
+pub fn verify_with_forms<R: Threads + Wait + Sync + AllocGlobal, S: Sink>(
+    rt: &R,
+    input: &Input,
+    workers: usize,
+    out: &mut S,
+) -> Result<(), Refusal>
+    requires some { 1 ≤ workers }
+    requires few { workers ≤ MOST_WORKERS }
+    ensures written { OnOk result (Writes (answer (Request.VerifyWithForms workers) input.now)
+        (S.state out.old) (S.state out.new)) }
+    ensures sold { OnOk result (HasSold (Request.VerifyWithForms workers) input.now) }
+    ensures verified { OnOk result (WritesVerifiedWithForms workers input.now (S.state out.old).taken
+        (S.state out.new).taken) }
+    ensures refused { IfErr result (IsUnwritten (Request.VerifyWithForms workers) input.now
+        (S.state out.old) (S.state out.new)) }
+{
+    let auction = read_auction(rt, &Request::Verify { workers }, input)?;
+    let proved = proved_of(rt, &auction, workers)?;
+    let parts = read_last_forms(rt, rt.alloc(), input)?;
+    write_after_forms(&parts, &auction, &proved, out)?;
     Ok(())
 }

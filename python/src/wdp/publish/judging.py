@@ -2,11 +2,12 @@
 or of the audit, and no figure may show that an answer isn't optimal.
 """
 from collections.abc import Sequence
-from dataclasses import dataclass
+from dataclasses import dataclass, replace
 
 from wdp import audits
 from wdp.awards import KnownAwards
 from wdp.office.findings import LeftOutBid
+from wdp.office.settled import format_digests
 from wdp.program import Limits, ask
 from wdp.results import Allocation, Report
 from wdp.texts import accepted
@@ -114,6 +115,25 @@ def _format_solutions(report: Report, auction: Accepted) -> bytes:
         if has_value:
             lines.append("K 1\n")
     return "".join(lines).encode()
+
+
+def cut_forms(program: str, sources: Sources) -> Sources:
+    """The sources, with a report of `wdp verify --forms` from after its lines of forms on.
+
+    Raises Refused if these lines aren't those of the input.
+    """
+    report = sources.report
+    if report is None or not report.text.startswith(b"%"):
+        return sources
+    lines = report.text.splitlines(keepends=True)
+    wanted = format_digests(program, sources.input.text).splitlines(keepends=True)
+    for number, line in enumerate(wanted, 1):
+        if lines[number - 1 : number] != [line]:
+            printed = line.decode().rstrip()
+            why = f"line {number}: of the input wdp forms prints '{printed}' here"
+            raise Refused(f"{report.name}: {why}")
+    rest = b"".join(lines[len(wanted) :])
+    return replace(sources, report=replace(report, text=rest))
 
 
 def judge_report(

@@ -12,6 +12,7 @@ from wdp.publish.judging import (
     PublishedAward,
     Source,
     Sources,
+    cut_forms,
     judge_audit,
     judge_report,
 )
@@ -70,6 +71,7 @@ def judge_sources(program: str, sources: Sources) -> Judged:
     prints of them, and WrongArgument if an award can't have been drawn.
     """
     left_out = _explain_input(program, sources.input)
+    sources = cut_forms(program, sources)
     auction = accepted.read(sources.input.text, sources.input.name)
     if not auction.groups or auction.groups[0]:
         raise Refused(f"{sources.input.name}: its first group isn't the empty one, -")

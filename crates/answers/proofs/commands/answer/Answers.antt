@@ -1,3 +1,5 @@
+use Rattle.std.proofs.Common.{◌≡◌, ℕ, OnOk, subst}
+use Rattle.answers.specs.VerifiedForms.{WritesVerifiedWithForms}
 use Rattle.answers.proofs.WrittenOnFacts.{compiled-on, mapped-on, reported-on, text-on, verified-on}
 use Rattle.answers.proofs.commands.answer.Goals as goal
 
@@ -16,6 +18,9 @@ returns-in-Check-clause-reported g c workers is = (let other = c.in-Check.is in 
 pub returns-in-Check-clause-verified : goal.returns-in-Check-clause-verified
 returns-in-Check-clause-verified g c workers is = (let other = c.in-Check.is in absurd (cc))
 
+pub returns-in-Check-clause-verified_with_forms : goal.returns-in-Check-clause-verified_with_forms
+returns-in-Check-clause-verified_with_forms g c workers is = (let other = c.in-Check.is in absurd (cc))
+
 pub returns-in-Forms-clause-text : goal.returns-in-Forms-clause-text
 returns-in-Forms-clause-text g c is = (let other = c.in-Forms.is in absurd (cc))
 
@@ -30,6 +35,31 @@ returns-in-Forms-clause-reported g c workers is = (let other = c.in-Forms.is in 
 
 pub returns-in-Forms-clause-verified : goal.returns-in-Forms-clause-verified
 returns-in-Forms-clause-verified g c workers is = (let other = c.in-Forms.is in absurd (cc))
+
+pub returns-in-Forms-clause-verified_with_forms : goal.returns-in-Forms-clause-verified_with_forms
+returns-in-Forms-clause-verified_with_forms g c workers is = (let other = c.in-Forms.is in absurd (cc))
+
+pub returns-in-VerifyWithForms-clause-text : goal.returns-in-VerifyWithForms-clause-text
+returns-in-VerifyWithForms-clause-text g c is = (let other = c.in-VerifyWithForms.is in absurd (cc))
+
+pub returns-in-VerifyWithForms-clause-compiled : goal.returns-in-VerifyWithForms-clause-compiled
+returns-in-VerifyWithForms-clause-compiled g c workers is = (let other = c.in-VerifyWithForms.is in absurd (cc))
+
+pub returns-in-VerifyWithForms-clause-mapped : goal.returns-in-VerifyWithForms-clause-mapped
+returns-in-VerifyWithForms-clause-mapped g c group is = (let other = c.in-VerifyWithForms.is in absurd (cc))
+
+pub returns-in-VerifyWithForms-clause-reported : goal.returns-in-VerifyWithForms-clause-reported
+returns-in-VerifyWithForms-clause-reported g c workers is = (let other = c.in-VerifyWithForms.is in absurd (cc))
+
+pub returns-in-VerifyWithForms-clause-verified : goal.returns-in-VerifyWithForms-clause-verified
+returns-in-VerifyWithForms-clause-verified g c workers is = (let other = c.in-VerifyWithForms.is in absurd (cc))
+
+pub returns-in-VerifyWithForms-clause-verified_with_forms : goal.returns-in-VerifyWithForms-clause-verified_with_forms
+returns-in-VerifyWithForms-clause-verified_with_forms g c workers is =
+    let matched = c.in-VerifyWithForms.is in
+    let same : c.in-VerifyWithForms.workers ≡ workers = cc in
+    subst (λ (n : ℕ). OnOk c.verify_with_forms.result (WritesVerifiedWithForms n c.args.input.now (g.S.Sink.state c.args.out.now).taken
+    (g.S.Sink.state c.verify_with_forms.new.out).taken)) same c.verify_with_forms.ensures.verified
 
 pub returns-in_default-clause-text : goal.returns-in_default-clause-text
 returns-in_default-clause-text g c =
@@ -55,3 +85,6 @@ pub returns-in_default-clause-verified : goal.returns-in_default-clause-verified
 returns-in_default-clause-verified g c =
     verified-on c.args.request c.args.input.now c.answer_auction.result (g.S.Sink.state c.args.out.now) (g.S.Sink.state c.answer_auction.new.out)
     c.answer_auction.ensures.written
+
+pub returns-in_default-clause-verified_with_forms : goal.returns-in_default-clause-verified_with_forms
+returns-in_default-clause-verified_with_forms g c workers is = absurd (c.in_default.not-VerifyWithForms workers is)

@@ -1,0 +1,74 @@
+use Rattle.std.proofs.Common.{◌++◌, ◌≡◌, Ok, inl}
+use Rattle.answers.specs.Answer.{answer}
+use Rattle.answers.specs.Exact.{IsUnwritten}
+use Rattle.answers.specs.inside.Forms.{held_text}
+use Rattle.answers.specs.inside.Proved.{proved_text}
+use Rattle.auction_input.specs.Settled.{held}
+use Rattle.auction_input.specs.declared.refusal.Refusal.TheVariants as refusal
+use Rattle.auction_input.specs.declared.request.Request.TheVariants as request
+use Rattle.auction_input.proofs.StepFacts.{if-err-of}
+use Rattle.answers.proofs.AnswerFacts.{has-sold-to}
+use Rattle.answers.proofs.CommandFacts.{cut-short}
+use Rattle.answers.proofs.FormsFacts.{text-held}
+use Rattle.answers.proofs.FormsFirstFacts.{no-auction-first, unproved-first, unread-first, with-lines, writes-with-forms}
+use Rattle.answers.proofs.commands.verify.verify_with_forms.Goals as goal
+
+pub returns-in_err-auction-clause-refused : goal.returns-in_err-auction-clause-refused
+returns-in_err-auction-clause-refused g c =
+    let input = c.args.input.now in
+    let before = g.S.Sink.state c.args.out.now in
+    let r = c.in_err-auction.field-0.0 in
+    if-err-of (IsUnwritten (request.VerifyWithForms c.args.workers) input before before) c.from_residual.result r c.from_residual.ensures.1
+    (no-auction-first c.args.workers input before r c.in_err-auction.ensures.refuses)
+
+pub returns-in_err-proved-clause-refused : goal.returns-in_err-proved-clause-refused
+returns-in_err-proved-clause-refused g c =
+    let input = c.args.input.now in
+    let before = g.S.Sink.state c.args.out.now in
+    let r = c.in_err-proved.field-0.0 in
+    if-err-of (IsUnwritten (request.VerifyWithForms c.args.workers) input before before) c.from_residual-in_err-proved.result r
+    c.from_residual-in_err-proved.ensures.1
+    (unproved-first c.args.workers input (held c.in_ok-auction.auction) c.in_ok-auction.ensures.parsed before r c.in_err-proved.ensures.refused)
+
+pub returns-in_err-parts-clause-refused : goal.returns-in_err-parts-clause-refused
+returns-in_err-parts-clause-refused g c =
+    let input = c.args.input.now in
+    let before = g.S.Sink.state c.args.out.now in
+    let r = c.in_err-parts.field-0.0 in
+    if-err-of (IsUnwritten (request.VerifyWithForms c.args.workers) input before before) c.from_residual-in_err-parts.result r
+    c.from_residual-in_err-parts.ensures.1
+    (unread-first c.args.workers input (held c.in_ok-auction.auction) c.in_ok-auction.ensures.parsed (proved_text c.in_ok-auction.auction c.in_ok-proved.proved)
+    c.in_ok-proved.ensures.shown before r c.in_err-parts.ensures.refuses)
+
+module _ (g : goal.Generics) (c : goal.After-write_after_forms g) where
+  is_answer : answer (request.VerifyWithForms c.args.workers) c.args.input.now
+      ≡ Ok (held_text c.in_ok-parts.parts ++ proved_text c.in_ok-auction.auction c.in_ok-proved.proved)
+  is_answer = with-lines c.args.workers c.args.input.now (held c.in_ok-auction.auction) c.in_ok-auction.ensures.parsed
+      (proved_text c.in_ok-auction.auction c.in_ok-proved.proved) c.in_ok-proved.ensures.shown (held_text c.in_ok-parts.parts)
+      (text-held c.args.input.now c.in_ok-parts.parts c.in_ok-parts.ensures.parsed)
+
+pub returns-in_err-write_after_forms-clause-refused : goal.returns-in_err-write_after_forms-clause-refused
+returns-in_err-write_after_forms-clause-refused g c =
+    let before = g.S.Sink.state c.args.out.now in
+    let after = g.S.Sink.state c.write_after_forms.new.out in
+    let f = c.in_err-write_after_forms.field-0.0 in
+    if-err-of (IsUnwritten (request.VerifyWithForms c.args.workers) c.args.input.now before after) c.from_residual-in_err-write_after_forms.result
+    (refusal.Write f) c.from_residual-in_err-write_after_forms.ensures.1
+    (inl (cut-short _ (held_text c.in_ok-parts.parts ++ proved_text c.in_ok-auction.auction c.in_ok-proved.proved) before after f (is_answer g c)
+    c.in_err-write_after_forms.ensures))
+
+pub returns-clause-written : goal.returns-clause-written
+returns-clause-written g c = (
+  held_text c.in_ok-parts.parts ++ proved_text c.in_ok-auction.auction c.in_ok-proved.proved,
+  is_answer g c,
+  c.in_ok-write_after_forms.ensures,
+)
+
+pub returns-clause-verified : goal.returns-clause-verified
+returns-clause-verified g c =
+    writes-with-forms c.args.workers c.args.input.now (g.S.Sink.state c.args.out.now) (g.S.Sink.state c.write_after_forms.new.out)
+    (returns-clause-written g c)
+
+pub returns-clause-sold : goal.returns-clause-sold
+returns-clause-sold g c =
+    has-sold-to (request.Verify c.args.workers) c.args.input.now (held c.in_ok-auction.auction) c.in_ok-auction.ensures.sold
