@@ -8,6 +8,7 @@ name and the cause. The texts of solvers were written back from ours (commands.t
 
 import json
 import re
+from hashlib import sha256
 
 import pytest
 from commands import ROOT
@@ -28,6 +29,31 @@ ANSWERS = dict(line.split(": ", 1) for line in (TEXTS / "answers.txt").read_text
 def test_case(wdp, name):
     case = read_case(name)
     assert seen(wdp, case.words(), case.stdin) == case.wanted()
+
+
+def list_audits() -> list[str]:
+    """The cases in which `verify` reads an input."""
+    words = {name: read_case(name).words() for name in list_cases()}
+    return [name for name, it in words.items() if it[:1] == [b"verify"] and b"--help" not in it]
+
+
+@pytest.mark.parametrize("name", list_audits())
+def test_forms_come_before_what_verify_prints(wdp, name):
+    """What `verify` refuses is refused with the same line, and nothing is printed of it."""
+    case = read_case(name)
+    status, output, errors = case.wanted()
+    forms = b"" if status else seen(wdp, ["forms"], case.stdin)[1]
+    assert seen(wdp, [*case.words(), b"--forms"], case.stdin) == (status, forms + output, errors)
+
+
+def test_the_lines_of_forms_have_the_digests_of_the_parts(wdp):
+    """By another SHA-256, of the bytes between two heads of an audit."""
+    audit = (ROOT / "examples/prices.txt").read_bytes()
+    heads = re.compile(rb"^%(\w+)\n(.*?)(?=^%|\Z)", re.DOTALL | re.MULTILINE)
+    texts = [text for head, text in heads.findall(audit) if head in (b"rules", b"form")]
+    output = seen(wdp, ["verify", "--forms"], audit)[1].decode()
+    lines = output.splitlines()[: len(texts)]
+    assert [line.split()[-1] for line in lines] == [sha256(text).hexdigest() for text in texts]
 
 
 # the parts of a case, which have what a head looks like, a CR, bytes that are no text, and no last LF
