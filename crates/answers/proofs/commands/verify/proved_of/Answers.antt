@@ -1,6 +1,10 @@
-use Rattle.std.proofs.Common.{◌∙◌, List, Ok, ap, inl, inr, refl, sym}
+use Rattle.std.proofs.Common.{◌++◌, ◌∙◌, [], List, Ok, ap, inl, inr, refl, slice_index_or, sym}
 use Rattle.auction_terms.specs.declared.bids.Choice.{Choice}
 use Rattle.auction_input.specs.Settled.{held}
+use Rattle.bid_desk.specs.Sale.{sale_of}
+use Rattle.outcome.specs.Others.{others_text}
+use Rattle.outcome.specs.Pricing.{pricing_text}
+use Rattle.outcome.specs.Report.{report_text}
 use Rattle.auction_input.specs.declared.refusal.Refusal.TheVariants as refusal
 use Rattle.answers.specs.inside.Proved.{IsUnproved}
 use Rattle.auction_input.proofs.StepFacts.{if-err-of}
@@ -13,8 +17,12 @@ pub returns-clause-shown : goal.returns-clause-shown
 returns-clause-shown g c =
     let all = c.as_slice-allocations.result.now in
     let won = c.in_ok-won.ensures.won ∙ ap (λ (xs : List (List Choice)). Ok xs) (sym c.as_slice-allocations.ensures.value) in
+    let auction = c.args.auction.now in
     next _ all _ _ (next _ all _ _ won c.in_ok-check_certificates.ensures.shown)
     (next _ c.in_ok-others.others _ _ c.in_ok-others.ensures.parsed (next _ c.in_ok-pricing.pricing _ _ c.in_ok-pricing.ensures.parsed refl))
+    ∙ ap (λ (xs : List (List Choice)). Ok (report_text (sale_of auction.book) auction.groups xs ++
+    (pricing_text (sale_of auction.book) (slice_index_or xs 0 []) c.in_ok-pricing.pricing ++ others_text (sale_of auction.book) c.in_ok-others.others)))
+    c.as_slice-allocations.ensures.value
 
 pub returns-in_err-check_counts-clause-refused : goal.returns-in_err-check_counts-clause-refused
 returns-in_err-check_counts-clause-refused g c =

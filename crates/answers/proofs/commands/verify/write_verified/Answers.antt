@@ -14,7 +14,7 @@ pub returns-clause-written : goal.returns-clause-written
 returns-clause-written g c = (
   proved_text c.args.auction.now c.in_ok-proved.proved,
   c.in_ok-proved.ensures.shown,
-  c.in_ok-report_with.ensures,
+  rw c.as_slice.ensures.value at c.in_ok-report_with.ensures,
 )
 
 pub returns-clause-true_report : goal.returns-clause-true_report
@@ -25,7 +25,7 @@ returns-clause-true_report g c =
     record {
       out = out;
       is_true = true-report auction out limits.book limits.bidders (verdicts c.args.workers auction out c.in_ok-proved.ensures.shown);
-      sent = c.in_ok-report_with.ensures.taken;
+      sent = (rw c.as_slice.ensures.value at c.in_ok-report_with.ensures).taken;
     }
 
 pub returns-in_err-proved-clause-refused : goal.returns-in_err-proved-clause-refused
@@ -43,4 +43,5 @@ returns-in_err-report_with-clause-refused g c =
     let f = c.in_err-report_with.field-0.0 in
     if-err-of (IsWithoutOutput (request.Verify c.args.workers) (held c.args.auction.now) before after) c.from_residual-in_err-report_with.result
     (refusal.Write f) c.from_residual-in_err-report_with.ensures.1
-    (inl (cut-short _ (proved_text c.args.auction.now c.in_ok-proved.proved) before after f c.in_ok-proved.ensures.shown c.in_err-report_with.ensures))
+    (inl (cut-short _ (proved_text c.args.auction.now c.in_ok-proved.proved) before after f c.in_ok-proved.ensures.shown
+    (rw c.as_slice.ensures.value at c.in_err-report_with.ensures)))
