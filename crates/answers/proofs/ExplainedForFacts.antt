@@ -9,7 +9,12 @@ use Rattle.answers.specs.Answer.{answer, output_of}
 use Rattle.answers.specs.Exact.{Writes}
 use Rattle.answers.specs.ExplainedFor.{ExplainsFor, IsOfParts, IsRefusedBy, IsTakenBy, RefusesSo}
 use Rattle.answers.specs.Runs.{IsTakenFor}
+use Rattle.answers.specs.Forms.{forms_text}
+use Rattle.auction_input.specs.LastForms.{FormParts, parsed_forms}
+use Rattle.auction_input.proofs.AnswerFacts.{ok-after}
+use Rattle.auction_input.proofs.DescribedFacts.{described-auction}
 use Rattle.auction_input.proofs.PartCountFacts.{failed-after}
+use Rattle.auction_input.proofs.SealedTextFacts.{forms-of-verified}
 use Rattle.auction_input.specs.Auction.{Auction, parsed_auction}
 use Rattle.auction_input.specs.Input.{Input}
 use Rattle.auction_input.specs.PartCounts.{claim_wants, has_certificates, numbers_of, pricing_wants, proof_wants}
@@ -59,7 +64,7 @@ use Rattle.program_rows.specs.declared.solution_fault.SolutionFault.{SolutionFau
 use Rattle.program_rows.specs.Program.{Table}
 use Rattle.auction_input.specs.Requests.{target_of}
 use Rattle.auction_input.specs.declared.request.ExplainOptions.{ExplainOptions}
-use Rattle.auction_input.specs.declared.request.Request.TheVariants.{Check, Compile, Explain, Forms, Map, Report, Text, Verify}
+use Rattle.auction_input.specs.declared.request.Request.TheVariants.{Check, Compile, Explain, Forms, Map, Report, Text, Verify, VerifyWithForms}
 use Rattle.auction_input.specs.declared.request.Request.{Request}
 use Rattle.auction_input.specs.declared.request.Target.TheVariants as target
 use Rattle.auction_input.specs.declared.request.Target.{Target}
@@ -373,6 +378,12 @@ refuses-so (Map group) command input r is parsed =
     stopped (output_of (Map group)) (parsed_auction (Map group) input) r (sym (onto-all (parsed_auction (Map group) input)) ∙ parsed)
 refuses-so (Report workers) command input r is parsed = report-so workers (parsed_auction (Report workers) input) r parsed
 refuses-so (Verify workers) command input r is parsed = verify-so workers (parsed_auction (Verify workers) input) r parsed
+refuses-so (VerifyWithForms workers) command input r is parsed =
+    let (first, answered, other) = verify-so workers (parsed_auction (Verify workers) input) r parsed in (
+      first,
+      ap (λ (t : Result (List ℕ) Refusal). and_then t (λ report. and_then (parsed_forms input) (λ read. Ok (forms_text read ++ report)))) answered,
+      other,
+    )
 refuses-so (Explain options) command input r is parsed = explain-so options options.target (parsed_auction (Explain options) input) r parsed
 
 -- ---- what is taken
@@ -434,6 +445,7 @@ taken-so asked (Err r) auction is = absurd (by (target_of asked) is)
     by (Some command) e = cc
 taken-so Check (Ok found) auction is = tt
 taken-so Forms (Ok found) auction is = tt
+taken-so (VerifyWithForms workers) (Ok found) auction is = tt
 taken-so Text (Ok found) auction is = tt
 taken-so (Compile workers) (Ok found) auction is = tt
 taken-so (Map group) (Ok found) auction is =
@@ -463,12 +475,23 @@ parsed-for options (Compile workers) command input for is = ap (taken_as options
 parsed-for options (Map group) command input for is = ap (taken_as options input) (is ∙ sym for)
 parsed-for options (Report workers) command input for is = ap (taken_as options input) (is ∙ sym for)
 parsed-for options (Verify workers) command input for is = ap (taken_as options input) (is ∙ sym for)
+parsed-for options (VerifyWithForms workers) command input for is = ap (taken_as options input) (is ∙ sym for)
 parsed-for options (Explain others) command input for is = ap (taken_as options input) (is ∙ sym for)
+
+-- the forms of an input that is verified are read
+free-forms : (workers : ℕ) (input : Input) (report : List ℕ) → answer (Verify workers) input ≡ Ok report → IsFree (parsed_forms input)
+free-forms workers input report answered =
+    let (auction, auction_is, written) = ok-after (parsed_auction (Verify workers) input) (output_of (Verify workers)) report answered in
+    let (read, read_as) = forms-of-verified workers input auction ((described-auction (Verify workers) input auction).0 auction_is) in
+    subst (λ (t : Result FormParts Refusal). IsFree t) (sym read_as) tt
 
 free-answer : (asked : Request) (command : Target) (input : Input) (auction : Auction) → target_of asked ≡ Some command
     → parsed_taken asked input ≡ Ok auction → IsFree (answer asked input)
 free-answer Check command input auction is parsed = cc
 free-answer Forms command input auction is parsed = cc
+free-answer (VerifyWithForms workers) command input auction is parsed =
+    free-then (answer (Verify workers) input) _ (taken-so (Verify workers) (parsed_auction (Verify workers) input) auction parsed)
+    (λ report answered. free-then (parsed_forms input) _ (free-forms workers input report answered) (λ read read_as. tt))
 free-answer asked command input auction is parsed = taken-so asked (parsed_auction asked input) auction parsed
 
 if-err-at : {A : Type 0} (parsed : Result A Refusal) (r : Refusal) → IsFree parsed → parsed ≡ Err r → IsOther r
@@ -488,6 +511,7 @@ is-err parsed r is = subst (λ (t : Result _ Refusal). IsErr t) (sym is) refl
 
 refused-so : (asked : Request) (input : Input) (r : Refusal) → RefusesSo asked input r → IsErr (answer asked input)
 refused-so (Verify workers) input r (first, is, other) = is-err _ first is
+refused-so (VerifyWithForms workers) input r (first, is, other) = is-err _ first is
 refused-so Check input r is = is-err _ r is
 refused-so Forms input r is = is-err _ r is
 refused-so Text input r is = is-err _ r is
@@ -539,3 +563,4 @@ taken-for (Compile workers) input before after writes = tt
 taken-for (Map group) input before after writes = tt
 taken-for (Report workers) input before after writes = tt
 taken-for (Verify workers) input before after writes = tt
+taken-for (VerifyWithForms workers) input before after writes = tt

@@ -1,6 +1,7 @@
 -- What a run asks of files, by the looks and then by the calls_to_open.
-use Rattle.std.proofs.Common.{◌≡◌, ◌≢◌, ◌⊎◌, ◌++◌, ◌∷◌, ◌<◌, [], ℕ, Bool, List, None, Option, Some, arith, false, inl, inr, length, refl, suc, subst, sym, zero}
+use Rattle.std.proofs.Common.{◌≡◌, ◌≢◌, ◌⊎◌, ◌++◌, ◌∷◌, ◌∙◌, ◌<◌, [], ℕ, Bool, List, None, Option, Some, Result, Ok, Err, OnErr, ap, arith, false, inl, inr, length, map, refl, suc, subst, sym, zero}
 use Rattle.std.specs.Prelude.{String}
+use Rattle.std.specs.Option.{option_map}
 use Rattle.std.proofs.lemmas.List.{append-nil}
 use Rattle.auction_input.specs.FileCalls.{AreBegun, AreAsked, FileCall, looks, calls_to_open}
 use Rattle.auction_input.specs.FileTexts.{named_files}
@@ -8,7 +9,7 @@ use Rattle.auction_input.proofs.FileCallFacts.{begun-before, begun-more, made-mo
 use Rattle.byte_sinks.specs.Sinks.{Outlet}
 use Rattle.clap.specs.declared.error.kind.ErrorKind.TheVariants as kind
 use Rattle.clap.specs.declared.error.kind.ErrorKind.{ErrorKind}
-use Rattle.answers.specs.Asked.{Asked, CommandLine, by_fault, for_answer, for_help, for_nothing, for_version}
+use Rattle.answers.specs.Asked.{Asked, CommandLine, by_fault, for_answer, for_help, for_nothing, for_version, text_of}
 use Rattle.answers.specs.Runs.{IsShown}
 use Rattle.answers.specs.inside.Runs.{HasShown}
 use Rattle.answers.specs.RunCalls.{AreCalled, calls_for, looks_named}
@@ -28,6 +29,32 @@ looks-some (name ∷ names) output with_rights some = refl
 pub looks-output : (names : List (List ℕ)) (name : List ℕ) (with_rights : Bool) → looks_named names (Some name) with_rights ≡ looks names (Some name) with_rights
 looks-output [] name with_rights = refl
 looks-output (first ∷ names) name with_rights = refl
+
+-- so the looks at what a command line names are those: where no file is written
+pub looks-read : {Z : Type 0} (names items : List (String Z)) (output : Option (String Z)) (with_rights : Bool) → names ≡ items → output ≡ None
+    → 0 < length names → looks (named_files names) None with_rights ≡ looks_named (map text_of items) (option_map text_of output) with_rights
+looks-read {Z} names items output with_rights are none some =
+    sym (looks-some names None with_rights some)
+    ∙ ap (λ (xs : List (String Z)). looks_named (map text_of xs) None with_rights) are
+    ∙ ap (λ (o : Option (String Z)). looks_named (map text_of items) (option_map text_of o) with_rights) (sym none)
+
+-- and where one is
+pub looks-with : {Z : Type 0} (names items : List (String Z)) (output : Option (String Z)) (name : String Z) (bytes : List ℕ) (with_rights : Bool)
+    → names ≡ items → output ≡ Some name → bytes ≡ text_of name
+    → looks (named_files names) (Some bytes) with_rights ≡ looks_named (map text_of items) (option_map text_of output) with_rights
+looks-with {Z} names items output name bytes with_rights are is same =
+    sym (looks-output (named_files names) bytes with_rights)
+    ∙ ap (λ (xs : List (String Z)). looks_named (map text_of xs) (Some bytes) with_rights) are
+    ∙ ap (λ (b : List ℕ). looks_named (map text_of items) (Some b) with_rights) same
+    ∙ ap (λ (o : Option (String Z)). looks_named (map text_of items) (option_map text_of o) with_rights) (sym is)
+
+-- looks that are begun, by what they are
+pub begun-as : {T E : Type 0} (due due' : Bool → List FileCall) → ((with_rights : Bool) → due with_rights ≡ due' with_rights)
+    → (before after : Option (List FileCall)) (result : Result T E) → OnErr result ((with_rights : Bool) × AreBegun (due with_rights) before after)
+    → OnErr result ((with_rights : Bool) × AreBegun (due' with_rights) before after)
+begun-as due due' same before after (Ok x) begun = tt
+begun-as due due' same before after (Err e) (with_rights, begun) =
+    (with_rights, subst (λ (calls : List FileCall). AreBegun calls before after) (same with_rights) begun)
 
 -- all that is due was asked
 pub called-whole : (line : CommandLine) (status : ℕ) (before between after : Option (List FileCall))
@@ -69,7 +96,7 @@ called-reading line before between after (with_rights, looked) opened =
 pub called-none : (line : CommandLine) (status : ℕ) (calls : Option (List FileCall)) → 0 < status → AreCalled (for_answer line) status calls calls
 called-none line status calls some = called-refused line status calls calls some (false, ([], calls_for line false, refl, made-none calls))
 
-positive : (n : ℕ) → n ≢ 0 → 0 < n
+pub positive : (n : ℕ) → n ≢ 0 → 0 < n
 positive zero other = absurd (other refl)
 positive (suc n) other = omega arith
 
@@ -82,7 +109,7 @@ called-faulty for_nothing k for status output output' shown calls = refl
 called-faulty (for_answer line) k for status output output' shown calls = called-none line status calls (positive status other)
   where
     other : status ≢ 0
-    other zero = (let (text, is, sent) = shown zero in elim for [
+    other none = (let (text, is, sent) = shown none in elim for [
       | inl memory ↦ subst (λ (x : ErrorKind). IsShown (by_fault x) text) memory is
       | inr by ↦ subst (λ (a : Asked). IsShown a text) (sym by) is
     ])

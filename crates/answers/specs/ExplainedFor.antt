@@ -8,7 +8,7 @@ use Rattle.auction_input.specs.declared.refusal.Refusal.TheVariants as refusal
 use Rattle.auction_input.specs.declared.refusal.Refusal.{Refusal}
 use Rattle.auction_input.specs.Requests.{target_of}
 use Rattle.auction_input.specs.declared.request.ExplainOptions.{ExplainOptions}
-use Rattle.auction_input.specs.declared.request.Request.TheVariants.{Explain, Verify}
+use Rattle.auction_input.specs.declared.request.Request.TheVariants.{Explain, Verify, VerifyWithForms}
 use Rattle.auction_input.specs.declared.request.Request.{Request}
 use Rattle.auction_input.specs.declared.request.Target.{Target}
 
@@ -35,6 +35,8 @@ IsTakenBy command input = (asked : Request) → IsNamed command asked → (r : R
 -- the first refusal is that of the command; `verify` may meet another before, but not for parts
 abbrev pub RefusesSo : Request → Input → Refusal → Type 0
 RefusesSo (Verify workers) input r = (first : Refusal) × (answer (Verify workers) input ≡ Err first) × ((first ≡ r) ⊎ (IsOfParts first → ⊥))
+RefusesSo (VerifyWithForms workers) input r =
+    (first : Refusal) × (answer (VerifyWithForms workers) input ≡ Err first) × ((first ≡ r) ⊎ (IsOfParts first → ⊥))
 RefusesSo asked input r = answer asked input ≡ Err r
 
 -- what `explain` prints for a command is what the command does

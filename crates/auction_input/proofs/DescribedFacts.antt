@@ -127,7 +127,7 @@ read-parts asked input parts read =
       },
     )
 
-parts-read : (asked : Request) (input : Input) → HasPartsFor asked input → parsed_parts asked input ≡ Ok (input_parts input)
+pub parts-read : (asked : Request) (input : Input) → HasPartsFor asked input → parsed_parts asked input ≡ Ok (input_parts input)
 parts-read asked input has =
     let whole = texts-whole input.texts has.whole in
     let known = parts-known asked [] (input_parts input) has.known in
@@ -295,7 +295,7 @@ module _ (t : Terms) where
       let each : last_wins ≡ false → first_fault (another_form t) [] (zip read numbers) ≡ None = λ one. rw one at none in
       (same, λ one. subst (λ (fs : List Offers). AreInOneText (zip fs numbers)) same (all-together [] (zip read numbers) (each one)))
 
-  together-read : (last_wins : Bool) (numbers : List ℕ) (forms : List Offers) → (last_wins ≡ false → AreInOneText (zip forms numbers))
+  pub together-read : (last_wins : Bool) (numbers : List ℕ) (forms : List Offers) → (last_wins ≡ false → AreInOneText (zip forms numbers))
       → form_elsewhere last_wins t numbers forms ≡ None
   together-read true numbers forms together = refl
   together-read false numbers forms together =
@@ -309,7 +309,7 @@ count-append b xs ys = ap length (filter-append (λ (f : Offers). f.bidder == b)
 count-own : (form : Offers) (forms : List Offers) → length (forms_of form.bidder (form ∷ forms)) ≡ suc (length (forms_of form.bidder forms))
 count-own form forms = (let same : (form.bidder == form.bidder) ≡ true = eq-eqb _ _ refl in rw same refl)
 
-few-none : (before forms : List Offers) → ((b : ℕ) → length (forms_of b (before ++ forms)) ≤ call_limit) → first_fault one_too_many before forms ≡ None
+pub few-none : (before forms : List Offers) → ((b : ℕ) → length (forms_of b (before ++ forms)) ≤ call_limit) → first_fault one_too_many before forms ≡ None
 unfolding first_fault
 few-none before [] few = refl
 few-none before (form ∷ forms) few =

@@ -5,7 +5,7 @@ use Rattle.std.specs.List.{last_or, zip}
 use Rattle.std.specs.Option.{option_map_or}
 use Rattle.auction_input.specs.Auction.{Auction}
 use Rattle.auction_input.specs.CallLimit.{one_too_many}
-use Rattle.auction_input.specs.Described.{Describes, texts_named}
+use Rattle.auction_input.specs.Described.{Describes, HasPartsFor, texts_named}
 use Rattle.auction_input.specs.FormTexts.{form_elsewhere, in_one_text}
 use Rattle.auction_input.specs.Input.{Input}
 use Rattle.auction_input.specs.LastForms.{DescribesBids, FormParts, IsOfAuction, last_form, parsed_forms}
@@ -17,10 +17,11 @@ use Rattle.auction_input.specs.Submissions.{forms_of}
 use Rattle.auction_input.specs.declared.refusal.Refusal.{Refusal}
 use Rattle.auction_input.specs.declared.refusal.Refusal.TheVariants as refusal
 use Rattle.auction_input.specs.declared.request.Request.{Request}
-use Rattle.auction_input.specs.declared.request.Request.TheVariants.{Forms}
+use Rattle.auction_input.specs.declared.request.Request.TheVariants.{Forms, Verify}
 use Rattle.auction_input.proofs.AnswerFacts.{ok-after, ok-refused_as, unless-ok}
+use Rattle.auction_input.proofs.StageFacts.{next}
 use Rattle.auction_input.proofs.BookFacts.{describes, last-is}
-use Rattle.auction_input.proofs.DescribedFacts.{forms-read, read-parts, rules-read}
+use Rattle.auction_input.proofs.DescribedFacts.{few-none, forms-read, parts-read, read-parts, rules-read, together-read}
 use Rattle.auction_input.proofs.SameFormFacts.{ok-same, one-sale, rules-same}
 use Rattle.auction_terms.specs.FirstFault.{first_fault}
 use Rattle.auction_terms.specs.Stages.{and_then, each_in_turn, refused_as, unless}
@@ -79,6 +80,31 @@ read-is asked input auction d read parsed =
     let described : each ≡ d.forms = ok-same (each_in_turn (parsed_form auction.rules) 1 texts) each d.forms
     (subst (λ (u : Terms). each_in_turn (parsed_form u) 1 texts ≡ Ok each) rules each_is) (forms-read auction.rules 1 texts d.forms d.forms_are.each) in
     sym is ∙ ap₂ (λ (u : Terms) (fs : List Offers). read_of input u fs) rules (sym kept ∙ described)
+
+-- the rules and the forms of an input that describes an auction to `verify` are read
+pub forms-of-verified : (workers : ℕ) (input : Input) (auction : Auction) → Describes (Verify workers) input auction
+    → (read : FormParts) × (parsed_forms input ≡ Ok read)
+forms-of-verified workers input auction d =
+    let t = auction.rules in
+    let forms = d.forms in
+    let parts = input_parts input in
+    let numbers = text_numbers (codes "%form") parts in
+    let has : HasPartsFor Forms input = record {
+      whole = d.parts.whole;
+      known = d.parts.known;
+      one_of_rules = d.parts.one_of_rules;
+      others_taken = refl;
+    } in
+    let alone : form_elsewhere input.last_wins t numbers forms ≡ None = together-read t input.last_wins numbers forms d.forms_are.together in
+    let few : first_fault one_too_many [] forms ≡ None = few-none [] forms d.forms_are.few in
+    let read = read_of input t forms in (
+      read,
+      next (parsed_parts Forms input) parts (read_from input) (Ok read) (parts-read Forms input has)
+          (next (parsed_terms (rules_in input)) t _ (Ok read) (rules-read (rules_in input) t d.rules)
+          (next (each_in_turn (parsed_form t) 1 (texts_named (codes "%form") input)) forms _ (Ok read)
+          (forms-read t 1 (texts_named (codes "%form") input) forms d.forms_are.each)
+          (next (in_one_text input.last_wins t numbers forms) forms _ (Ok read) (rw alone refl) (rw few refl)))),
+    )
 
 -- the same text of rules, the same rules
 pub rules-follow : (asked asked' : Request) (input input' : Input) (auction auction' : Auction) → Describes asked input auction

@@ -1,5 +1,11 @@
-use Rattle.std.proofs.Common.{◌++◌, ◌≡◌, Ok, inl}
-use Rattle.answers.specs.Answer.{answer}
+use Rattle.std.proofs.Common.{◌++◌, ◌≡◌, ℕ, Ok, inl}
+use Rattle.answers.specs.Answer.{answer, output_of}
+use Rattle.answers.specs.declared.commands.verify.Proved.{Proved}
+use Rattle.auction_input.specs.Auction.{parsed_auction}
+use Rattle.auction_input.specs.Input.{Input}
+use Rattle.auction_input.specs.LastForms.{HoldsParts}
+use Rattle.auction_input.specs.declared.auction.Auction.{Auction}
+use Rattle.auction_input.specs.declared.last_forms.FormParts.{FormParts}
 use Rattle.answers.specs.Exact.{IsUnwritten}
 use Rattle.answers.specs.inside.Forms.{held_text}
 use Rattle.answers.specs.inside.Proved.{proved_text}
@@ -40,12 +46,12 @@ returns-in_err-parts-clause-refused g c =
     (unread-first c.args.workers input (held c.in_ok-auction.auction) c.in_ok-auction.ensures.parsed (proved_text c.in_ok-auction.auction c.in_ok-proved.proved)
     c.in_ok-proved.ensures.shown before r c.in_err-parts.ensures.refuses)
 
-module _ (g : goal.Generics) (c : goal.After-write_after_forms g) where
-  is_answer : answer (request.VerifyWithForms c.args.workers) c.args.input.now
-      ≡ Ok (held_text c.in_ok-parts.parts ++ proved_text c.in_ok-auction.auction c.in_ok-proved.proved)
-  is_answer = with-lines c.args.workers c.args.input.now (held c.in_ok-auction.auction) c.in_ok-auction.ensures.parsed
-      (proved_text c.in_ok-auction.auction c.in_ok-proved.proved) c.in_ok-proved.ensures.shown (held_text c.in_ok-parts.parts)
-      (text-held c.args.input.now c.in_ok-parts.parts c.in_ok-parts.ensures.parsed)
+-- the lines of what is held, and what is proved
+is-answer : (workers : ℕ) (input : Input) (auction : Auction) (proved : Proved) (parts : FormParts)
+    → parsed_auction (request.Verify workers) input ≡ Ok (held auction) → output_of (request.Verify workers) (held auction) ≡ Ok (proved_text auction proved)
+    → HoldsParts input parts → answer (request.VerifyWithForms workers) input ≡ Ok (held_text parts ++ proved_text auction proved)
+is-answer workers input auction proved parts parsed shown holds =
+    with-lines workers input (held auction) parsed (proved_text auction proved) shown (held_text parts) (text-held input parts holds)
 
 pub returns-in_err-write_after_forms-clause-refused : goal.returns-in_err-write_after_forms-clause-refused
 returns-in_err-write_after_forms-clause-refused g c =
@@ -54,13 +60,15 @@ returns-in_err-write_after_forms-clause-refused g c =
     let f = c.in_err-write_after_forms.field-0.0 in
     if-err-of (IsUnwritten (request.VerifyWithForms c.args.workers) c.args.input.now before after) c.from_residual-in_err-write_after_forms.result
     (refusal.Write f) c.from_residual-in_err-write_after_forms.ensures.1
-    (inl (cut-short _ (held_text c.in_ok-parts.parts ++ proved_text c.in_ok-auction.auction c.in_ok-proved.proved) before after f (is_answer g c)
-    c.in_err-write_after_forms.ensures))
+    (inl (cut-short _ (held_text c.in_ok-parts.parts ++ proved_text c.in_ok-auction.auction c.in_ok-proved.proved) before after f
+    (is-answer c.args.workers c.args.input.now c.in_ok-auction.auction c.in_ok-proved.proved c.in_ok-parts.parts c.in_ok-auction.ensures.parsed
+    c.in_ok-proved.ensures.shown c.in_ok-parts.ensures.parsed) c.in_err-write_after_forms.ensures))
 
 pub returns-clause-written : goal.returns-clause-written
 returns-clause-written g c = (
   held_text c.in_ok-parts.parts ++ proved_text c.in_ok-auction.auction c.in_ok-proved.proved,
-  is_answer g c,
+  is-answer c.args.workers c.args.input.now c.in_ok-auction.auction c.in_ok-proved.proved c.in_ok-parts.parts c.in_ok-auction.ensures.parsed
+      c.in_ok-proved.ensures.shown c.in_ok-parts.ensures.parsed,
   c.in_ok-write_after_forms.ensures,
 )
 
