@@ -1,6 +1,6 @@
 -- What the functions over books and programs rest on.
 use Rattle.std.proofs.Common.{◌≡◌, ℕ, zero, suc, ◌+◌, ◌*◌, ◌<◌, ◌≤◌, Bool, true, false, not, ◌==◌, ◌&&◌, cond, List, [], ◌∷◌, ◌++◌, Option}
-use Rattle.std.proofs.Common.{Some, None, ⊎_elim, length, map, drop, slice_get, slice_index_or, refl, sym, ap, ap₂, ◌∙◌, subst}
+use Rattle.std.proofs.Common.{Some, None, ⊎_elim, length, map, drop, slice_get, slice_index_or, refl, sym, ap, ◌∙◌, subst}
 use Rattle.std.proofs.Common.{arith, append_assoc, drop-cons, eq-eqb, ℤ, pos, negsuc, neg_ℤ, ◌-ℤ◌, ◌≤ℤ◌, w64}
 use Rattle.std.specs.Result.{IsErrAnd}
 use Rattle.std.specs.Prelude.{IfErr, Result, Ok, Err, codes, count_by, filter, int_le, sum_by}

@@ -1,5 +1,4 @@
-use Rattle.std.proofs.Common.{◌≡◌, ◌∙◌, ap, ℤ, ℕ, List}
-use Rattle.auction_terms.specs.Terms.{lots_in}
+use Rattle.std.proofs.Common.{◌∙◌, ap, ℤ, ℕ, List}
 use Rattle.bid_desk.specs.Closing.{book_of}
 use Rattle.outcome.specs.Pricing.{price_in}
 use Rattle.program_rows.specs.Costed.{costed_program}
