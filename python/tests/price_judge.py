@@ -20,7 +20,6 @@ NUMBER = re.compile("[0-9]{1,18}")
 PRICE = re.compile("([0-9]{1,18})(?:/([0-9]{1,18}))?")
 MOST_PARTS = 10**6
 MOST_DENOMINATOR = 10**6
-MOST_COST = 10**18
 
 Prices = dict[str, Fraction]
 Weights = tuple[int, ...]  # of the least sum, and of the nearest prices
@@ -133,23 +132,28 @@ class Audit:
         return {name: prices[name] for name in self.amounts}, parts
 
     def check_cover(self, prices: Prices, parts: int) -> None:
-        """No point of the program in parts, raised by the surplus, has an objective below minus the
-        revenue.
+        """No point of the program in parts, raised by the surplus, has an objective below what all
+        lots are worth, less the revenue. What they are worth is the column of no bid, which is
+        always 1: it is left out of the costs.
         """
         bidders = self.auction.rules.bidders
         columns = []
+        worth = 0
         for column in self.program.columns:
             number = re.fullmatch("X([0-9]+)_[0-9]+", column.name)
-            name = bidders[int(number[1]) - 1] if number else ""
+            if number is None:
+                worth -= parts * column.cost
+                columns.append(replace(column, cost=0))
+                continue
+            name = bidders[int(number[1]) - 1]
             surplus = Fraction(0)
             if name in prices:
                 surplus = parts * (self.amounts[name] - prices[name])
-            require(parts * abs(column.cost) <= MOST_COST, "a cost")
             columns.append(replace(column, cost=parts * column.cost + int(surplus)))
         raised = ZeroOne(self.program.rows, columns)
         revenue = parts * (sum(prices.values()) + self.unsold)
-        assert raised.compute_objective(self.ones) == -revenue
-        verdict = Checker(raised).verdict(-int(revenue), self.parts["cover"])
+        assert raised.compute_objective(self.ones) == worth - revenue
+        verdict = Checker(raised).verdict(worth - int(revenue), self.parts["cover"])
         self.is_large = bool(verdict.large_lines)
         require(verdict.fault is None, f"cover: {verdict.fault}")
 

@@ -27,10 +27,12 @@ from commands import (
     AuctionFolder,
     CommandResult,
     check_stopped,
+    finish,
     parse_rows,
     read_text,
     run,
     run_program,
+    start,
     write_solver,
 )
 from price_judge import format_prices
@@ -281,12 +283,76 @@ def test_a_group_may_be_listed_twice(wdp: str, groups: Groups) -> None:
     assert list(paid.paid.values()) == [10, 13, 8]
 
 
+WORTH = 10_000 * 10**12  # of the lots of a category that has a value, if they aren't sold
+
+
+def format_dear(amounts: Sequence[int], valued: int) -> str:
+    """An auction in which each of these bidders but the last wants a lot of `Wanted`, and the last
+    one all of them; and nobody wants the lots of so many other categories, whose lots are worth as
+    much as any may be.
+    """
+    names = BIDDERS[: len(amounts)]
+    quantities = [1] * (len(amounts) - 1) + [max(1, len(amounts) - 1)]
+    others = [f"Valued{number}" for number in range(valued)]
+    lines = ["%rules", "rules,2,1,,,"]
+    lines += [f"category,{name},10000,1,0,1000000000000" for name in others]
+    lines += [f"category,Wanted,{len(amounts) - 1},1,1,0"]
+    lines += [f"bidder,{name},10000,1,," for name in names]
+    for name, amount, quantity in zip(names, amounts, quantities, strict=True):
+        lines += ["%form", ",".join([name, *others, "Wanted"])]
+        lines += [",".join([str(amount), *("0" for _ in others), str(quantity)])]
+    return "".join(f"{line}\n" for line in [*lines, "%groups", "-"])
+
+
+def price_text(wdp: str, text: str) -> package.Outcome:
+    asked = package.Auction.from_text(text, program=wdp)
+    return asked.prices(asked.certify(), "highs")
+
+
+def test_prices_of_the_rule_if_all_lots_are_worth_much(wdp: str) -> None:
+    """Five winners share what the sixth bidder offers, so each pays a fifth. In fifths of a pound
+    the lots of the other categories are worth more than 10^18.
+    """
+    outcome = price_text(wdp, format_dear([20, 20, 20, 20, 20, 21], valued=31))
+    assert 31 * WORTH * 5 > 10**18
+    assert outcome.limit is None
+    assert list_exact(outcome) == [Fraction(21, 5)] * 5
+    exact = dict.fromkeys(BIDDERS[:5], Fraction(21, 5))
+    assert print_prices(wdp, outcome) == format_prices(exact) + "by the rule\n"
+
+
+def test_a_cover_if_all_lots_are_worth_much_in_many_parts(wdp: str) -> None:
+    """Beta's bid makes Alpha pay 20. A price that is a thousandth higher covers all groups, though
+    it isn't that of the rule; one that is a thousandth lower doesn't.
+    """
+    assert WORTH * 1000 > 10**18
+    audit = price_text(wdp, format_dear([30, 20], valued=1)).audit
+    without_rule, lines = re.subn(rb"%rule\n(?:[^%].*\n)+", b"", audit)
+    assert lines == 1
+    cover = re.compile(rb"%cover\n(?:[^%].*\n)+")
+
+    def verify(text: bytes, thousandths: int) -> CommandResult:
+        """Of an audit in which Alpha pays so much, with a certificate that the judge took."""
+        line = f"Alpha {thousandths}/1000\n".encode()
+        text, count = re.subn(rb"(?<=%prices\n)Alpha 20\n", line, text)
+        assert count == 1
+        text, count = cover.subn(b"%%cover\nbound 1 C2 %d\n" % max(thousandths, 20_000), text)
+        assert count == 1
+        words = {"stdin": subprocess.PIPE, "stdout": subprocess.PIPE, "stderr": subprocess.PIPE}
+        return finish(start([wdp, "verify"], **words), text)
+
+    higher = verify(without_rule, 20_001)
+    assert (higher.status, higher.err) == (0, "")
+    assert higher.out.endswith("prices\nAlpha 21 20001/1000\nsum 21 20001/1000\n")
+    assert verify(audit, 20_001).err == "wdp: rule: 14 NotLeast\n"
+    assert verify(without_rule, 19_999).err == "wdp: cover: 9 NotShown at line 1\n"
+
+
 # The exact prices of the worked example are beyond a limit in turn: two parts of a pound, a weight
-# or a price in parts of two digits, a cost of 100 parts, four groups.
+# or a price in parts of two digits, four groups.
 LIMITS = [
     ("MOST_PARTS", 1, "they have 2 parts of a pound, which is above 1"),
     ("MOST_DIGITS", 1, "the number 25 has more than 1 digits"),
-    ("MOST_COST", 99, "a column costs 100 parts of a pound, which is above 99"),
     ("MOST_GROUPS", 3, "with each winner alone there are more than 3 groups"),
     ("MOST_GROUPS", 4, "with what binds them there are more than 4 groups"),
 ]

@@ -118,6 +118,18 @@ def test_a_surplus_raises_the_costs_of_its_bidder(worked: Problem) -> None:
     assert costs == {"X1_1": -23, "X1_2": -43, "X2_1": -20, "X3_1": -10}
 
 
+def test_costs_are_in_parts_and_what_all_lots_are_worth_is_in_none() -> None:
+    """It is the cost of `K`, which is the same at every point."""
+    columns = [
+        Column("X1_1", -30, [(0, 1)]),
+        Column("X2_1", -20, [(0, 1)]),
+        Column("K", -40, lower=1),
+    ]
+    problem = Problem(Layout(ZeroOne([Row("C1", AT_MOST, 1)], columns)))
+    raised = problem.raise_costs({1: 9}, parts=2)
+    assert [column.cost for column in raised.program.columns] == [-51, -40, 0]
+
+
 def test_other_costs_leave_the_problem_as_it_is(worked: Problem) -> None:
     worked.raise_costs({1: 7, 3: 2})
     assert [column.cost for column in worked.program.columns] == [-30, -50, -20, -12]

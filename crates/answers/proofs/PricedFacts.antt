@@ -1,6 +1,6 @@
 -- Prices that are printed are true.
 use Rattle.std.proofs.Common.{◌≡◌, ◌∷◌, ◌∙◌, [], ℕ, Bool, true, false, List, Option, None, Some, Ok, length, refl, slice_index_or, subst}
-use Rattle.std.specs.Prelude.{All, IfSome, ◌≤◌, codes, if◌then◌else◌, ℤ}
+use Rattle.std.specs.Prelude.{All, IfSome, ◌≤◌, codes, ℤ}
 use Rattle.std.specs.List.{AllZip}
 use Rattle.std.specs.Option.{option_map}
 use Rattle.std.proofs.lemmas.List.Elements.{All-from_recursion}
@@ -22,7 +22,6 @@ use Rattle.auction_input.proofs.AnswerFacts.{ok-after, ok-is, ok-refused_as, unl
 use Rattle.answers.specs.Pricing.{InParts, alone_refused, covered, fault_of_cover, fault_of_rule, known_alone, known_by, parsed_by_rule, parsed_prices, parsed_rule, priced}
 use Rattle.answers.specs.Pricing.{priced_by, pricing_counts, parsed_pricing, rule_of, unshown_refused, weights_for}
 use Rattle.answers.proofs.PricingFacts.{parsed-hold, parsed-some}
-use Rattle.optimality.specs.Verdict.{certificate_fault}
 use Rattle.optimality.proofs.VerdictFacts.{verdict}
 use Rattle.outcome.specs.Pricing.{Priced, price_in}
 use Rattle.prices.proofs.AloneFacts.{listed_are_costs_alone}
@@ -32,7 +31,7 @@ use Rattle.prices.proofs.RaisedFacts.{shown_suffice}
 use Rattle.prices.specs.Alone.{costs_alone}
 use Rattle.prices.specs.Blocking.{ArePrices}
 use Rattle.prices.specs.Parts.{AreAtLeastReserves, Suffice}
-use Rattle.prices.specs.Raised.{has_small_costs, raised_bound, raised_program}
+use Rattle.prices.specs.Raised.{raised_bound, raised_program}
 use Rattle.prices.specs.Prices.{reserves_in}
 use Rattle.prices.specs.Rule.{Rule, rule_fault}
 use Rattle.prices.specs.Weights.{Weighted, weighted}
@@ -44,7 +43,6 @@ use Rattle.auction_input.specs.declared.rule_weights.RuleLine.{RuleLine}
 use Rattle.auction_input.specs.declared.rule_weights.RuleLine.TheVariants as line
 use Rattle.auction_terms.specs.Stages.{refused_as}
 use Rattle.program_rows.specs.Program.{Table}
-use Rattle.program_rows.specs.declared.certificate_fault.CertificateFaultKind.TheVariants.{TooLarge}
 use Rattle.program_rows.specs.declared.certificate_fault.CertificateFaultKind.{CertificateFaultKind}
 use Rattle.program_rows.specs.Faithful.{IsGreatest}
 use Rattle.answers.specs.Verified.{AreTruePrices, ArePricesOfRule, IsGreatestWithout}
@@ -72,23 +70,15 @@ module _ (auction : Auction) (within : IsBook auction.sale.lots auction.sale.boo
   abbrev bound : InParts → ℤ
   bound p = raised_bound auction.sale.lots auction.sale.book first p.parts (price_in p.prices)
 
-  covers : (p : InParts) (text : List ℕ) → 1 ≤ p.parts → ArePrices auction.sale.book first p.parts (price_in p.prices)
-      → AreAtLeastReserves (reserves_in auction.rules) auction.sale.book first p.parts (price_in p.prices)
-      → (small : Bool) → (if small then certificate_fault (raised p) (bound p) text else Some (0, TooLarge)) ≡ None
-      → Suffice (reserves_in auction.rules) auction.sale.lots auction.sale.book first p.parts (price_in p.prices)
-  covers p text some fine least true faultless =
-      let (certificate, tells, shows) = (verdict (raised p) (bound p) text).0 faultless in
-      shown_suffice (reserves_in auction.rules) auction.sale.lots auction.sale.book first p.parts (price_in p.prices) certificate within best.feasible
-      some fine least shows
-  covers p text some fine least false faultless = cc
-
   cover-holds : (p : InParts) (text : List ℕ) (u : Unit {0}) → 1 ≤ p.parts → ArePrices auction.sale.book first p.parts (price_in p.prices)
       → AreAtLeastReserves (reserves_in auction.rules) auction.sale.book first p.parts (price_in p.prices) → covered auction first p text ≡ Ok u
       → Suffice (reserves_in auction.rules) auction.sale.lots auction.sale.book first p.parts (price_in p.prices)
   cover-holds p text u some fine least parsed =
       let refuse = λ (f : ℕ × CertificateFaultKind). refusal.Cover (record { line = f.0; kind = f.1 }) in
       let none = (unless-ok (option_map refuse (fault_of_cover auction first p text)) tt u parsed).0 in
-      covers p text some fine least (has_small_costs (raised p)) (no-fault refuse (fault_of_cover auction first p text) none)
+      let (certificate, tells, shows) = (verdict (raised p) (bound p) text).0 (no-fault refuse (fault_of_cover auction first p text) none) in
+      shown_suffice (reserves_in auction.rules) auction.sale.lots auction.sale.book first p.parts (price_in p.prices) certificate within best.feasible
+      some fine least shows
 
   -- weights of groups with allocations of greatest total
   weights-greatest : (given : List RuleLine) (a : Aim) (scale : ℕ)

@@ -164,24 +164,18 @@ module _ (auction : Auction) (first : List Choice) (p : InParts) (text : List �
   pub cover-parsed : found ≡ None → covered auction first p text ≡ Ok tt
   cover-parsed none = ap judged none
 
-  too-wide : (line : ℕ) → (found ≡ Some (line, kind.TooLarge)) ⊎ IsLarge line
-      → Refuses (covered auction first p text) (refusal.Cover (record { line = line; kind = kind.TooLarge }))
-      ⊎ IsTooWideCover auction first p text (refusal.Cover (record { line = line; kind = kind.TooLarge }))
-  too-wide line (inl is) = inl (inl (ap judged is))
-  too-wide line (inr large) = inr (line, large, refl)
-
   by-kind : (line : ℕ) (k : CertificateFaultKind) → IsLimit k ⊎ (found ≡ Some (line, k))
-      → (k ≡ kind.TooLarge → (found ≡ Some (line, kind.TooLarge)) ⊎ IsLarge line)
+      → (k ≡ kind.TooLarge → IsLarge line)
       → Refuses (covered auction first p text) (refusal.Cover (record { line = line; kind = k }))
       ⊎ IsTooWideCover auction first p text (refusal.Cover (record { line = line; kind = k }))
   by-kind line k (inl (inl memory)) large = inl (inr (rw memory refl))
   by-kind line k (inl (inr wide)) large =
       subst (λ (x : CertificateFaultKind). Refuses (covered auction first p text) (refusal.Cover (record { line = line; kind = x }))
-      ⊎ IsTooWideCover auction first p text (refusal.Cover (record { line = line; kind = x }))) (sym wide) (too-wide line (large wide))
+      ⊎ IsTooWideCover auction first p text (refusal.Cover (record { line = line; kind = x }))) (sym wide) (inr (line, large wide, refl))
   by-kind line k (inr is) large = inl (inl (ap judged is))
 
   pub cover-refused : (f : CertificateFault) → IsLimit f.kind ⊎ (found ≡ Some (f.line, f.kind))
-      → (f.kind ≡ kind.TooLarge → (found ≡ Some (f.line, kind.TooLarge)) ⊎ IsLarge f.line)
+      → (f.kind ≡ kind.TooLarge → IsLarge f.line)
       → Refuses (covered auction first p text) (refusal.Cover f) ⊎ IsTooWideCover auction first p text (refusal.Cover f)
   cover-refused f verdict large = by-kind f.line f.kind verdict large
 

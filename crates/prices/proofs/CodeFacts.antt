@@ -1,29 +1,37 @@
 -- What the functions over books and programs rest on.
-use Rattle.std.proofs.Common.{◌≡◌, ℕ, zero, suc, ◌+◌, ◌*◌, ◌<◌, ◌≤◌, Bool, true, false, ◌==◌, cond, List, [], ◌∷◌, ◌++◌, Option}
+use Rattle.std.proofs.Common.{◌≡◌, ℕ, zero, suc, ◌+◌, ◌*◌, ◌<◌, ◌≤◌, Bool, true, false, not, ◌==◌, ◌&&◌, cond, List, [], ◌∷◌, ◌++◌, Option}
 use Rattle.std.proofs.Common.{Some, None, ⊎_elim, length, map, drop, slice_get, slice_index_or, refl, sym, ap, ◌∙◌, subst}
-use Rattle.std.proofs.Common.{arith, append_assoc, drop-cons, eq-eqb, ℤ, pos, neg_ℤ, ◌-ℤ◌, ◌-◌, ◌^◌}
+use Rattle.std.proofs.Common.{arith, append_assoc, drop-cons, eq-eqb, ℤ, pos, negsuc, neg_ℤ, ◌-ℤ◌, ◌≤ℤ◌, w64}
 use Rattle.std.specs.Result.{IsErrAnd}
-use Rattle.std.specs.Prelude.{IfErr, Result, Ok, Err, count_by, filter, nat_le, sum_by, unsigned_abs, ◌&&◌}
-use Rattle.std.specs.List.{AllByRecursion, list_all}
+use Rattle.std.specs.Prelude.{IfErr, Result, Ok, Err, codes, count_by, filter, int_le, sum_by}
+use Rattle.std.specs.List.{AllByRecursion, list_any}
 use Rattle.std.specs.Option.{option_map, option_map_or}
-use Rattle.std.proofs.lemmas.Bool.{cases_Bool, cond-true, cond-false}
-use Rattle.std.proofs.lemmas.Int.{ints}
-use mir.Syntax.{w128}
-use mir.Val.{to_z, of_z}
+use Rattle.std.proofs.lemmas.Bool.{and_parts, cases_Bool, cond-true, cond-false, cond_both}
+use Rattle.std.proofs.lemmas.Int.{ints, to_z-of_z}
+use mir.Val.{SFits, to_z, of_z}
 use Rattle.std.proofs.lemmas.List.Sums.{sum_by-cons}
 use Rattle.std.proofs.lemmas.List.Elements.{recursion_from_All}
 use Rattle.auction_terms.specs.declared.limits.TheConstants.{GREATEST_AMOUNT}
 use Rattle.auction_terms.specs.declared.bids.Bid.{Bid}
 use Rattle.auction_terms.specs.declared.bids.Choice.{Choice}
-use Rattle.auction_terms.specs.Packages.{Lots, left, worth}
+use Rattle.auction_terms.specs.Packages.{Lots, fits, left, worth, worth_of_all}
+use Rattle.auction_terms.specs.Domination.{dominates, is_kept, net}
 use Rattle.auction_terms.specs.Allocations.{Book, amount_of, bid_at, bid_of, form_of, loads, total}
-use Rattle.auction_terms.specs.Limits.{IsBid, IsBook}
-use Rattle.auction_terms.proofs.OfferFacts.{sum_filter}
+use Rattle.auction_terms.specs.Keeping.{Offer, kept_of, offers_from}
+use Rattle.auction_terms.specs.inside.Keeping.{is_kept_offer}
+use Rattle.auction_terms.specs.Limits.{AreOffers, IsBid, IsBook}
+use Rattle.auction_terms.proofs.LimitFacts.{kept_are_offers}
+use Rattle.auction_terms.proofs.OfferFacts.{all_filter, sum_filter}
+use Rattle.auction_terms.proofs.WeighedFacts.{le_from}
+use Rattle.program_rows.specs.declared.column.Bounds.TheVariants.{One}
+use Rattle.program_rows.specs.declared.subject.Subject.{Subject}
 use Rattle.program_rows.specs.Costed.{costed}
-use Rattle.program_rows.specs.Program.{TableColumn}
-use Rattle.program_rows.proofs.EachFacts.{item_at}
+use Rattle.program_rows.specs.Program.{Table, TableColumn}
+use Rattle.program_rows.specs.Rows.{column_of, program_of, subjects, worth_column}
+use Rattle.program_rows.specs.Spelling.{column_bid}
+use Rattle.program_rows.proofs.EachFacts.{each, item_at}
 use Rattle.prices.specs.Blocking.{ArePrices, gain, revenue}
-use Rattle.prices.specs.Raised.{column_in_parts, raised_column, raised_cost}
+use Rattle.prices.specs.Raised.{raised_column, raised_cost}
 use Rattle.prices.proofs.BlockingFacts.{amounts_are}
 use Rattle.prices.proofs.WeightFacts.{spread}
 
@@ -175,10 +183,6 @@ pub if-err-of : {V E : Type 0} (P : E → Type 0) (r : Result V E) (e : E) → I
 if-err-of P (Ok x) e is holds = tt
 if-err-of P (Err y) e is holds = subst P (sym is) holds
 
-pub if-err-weaker : {V E : Type 0} (P Q : E → Type 0) (r : Result V E) → ((e : E) → P e → Q e) → IfErr r P → IfErr r Q
-if-err-weaker P Q (Ok x) weaker holds = tt
-if-err-weaker P Q (Err y) weaker holds = weaker y holds
-
 -- ---------- costs ----------
 
 -- the cost of one more column
@@ -195,42 +199,69 @@ cost_pushed f cs i costs new z parsed l e h =
     ∙ h
 
 -- other costs, made of the columns themselves, are those of the raised program
-pub costed_is_raised : (raise : ℕ → ℕ) (parts : ℕ) (cs : List TableColumn)
-    → costed cs (map (λ c. raised_cost raise (column_in_parts parts c)) cs) ≡ map (raised_column raise) (map (column_in_parts parts) cs)
-costed_is_raised raise parts [] = refl
-costed_is_raised raise parts (c ∷ cs) =
-    ap (λ (xs : List TableColumn). raised_column raise (column_in_parts parts c) ∷ xs) (costed_is_raised raise parts cs)
+pub costed_is_raised : (parts : ℕ) (raise : ℕ → ℕ) (cs : List TableColumn)
+    → costed cs (map (raised_cost parts raise) cs) ≡ map (raised_column parts raise) cs
+costed_is_raised parts raise [] = refl
+costed_is_raised parts raise (c ∷ cs) = ap (λ (xs : List TableColumn). raised_column parts raise c ∷ xs) (costed_is_raised parts raise cs)
 
-abbrev is_small_cost : (ℕ → ℕ) → ℕ → TableColumn → Bool
-is_small_cost raise parts c = nat_le (unsigned_abs (raised_cost raise (column_in_parts parts c))) (10 ^ 18)
+-- minus what a kept bid brings more than its package is worth where it is left
+abbrev pub IsCostOfBid : ℤ → Type 0
+IsCostOfBid cost = (neg_ℤ (pos GREATEST_AMOUNT) ≤ℤ cost) × (cost ≤ℤ pos 0)
 
-pub small_is : (raise : ℕ → ℕ) (parts : ℕ) (cs : List TableColumn)
-    → list_all (is_small_cost raise parts) cs ≡ list_all (λ c. nat_le (unsigned_abs c.cost) (10 ^ 18)) (map (raised_column raise) (map (column_in_parts parts) cs))
-small_is raise parts [] = refl
-small_is raise parts (c ∷ cs) = ap (λ (b : Bool). is_small_cost raise parts c && b) (small_is raise parts cs)
+kept_cost : (amount worth_left : ℕ) → amount ≤ GREATEST_AMOUNT → int_le (pos 0) (pos amount -ℤ pos worth_left) ≡ true
+    → IsCostOfBid (neg_ℤ (pos amount -ℤ pos worth_left))
+kept_cost amount worth_left most h =
+    let low : pos 0 ≤ℤ (pos amount -ℤ pos worth_left) = le_from (pos 0) (pos amount -ℤ pos worth_left) h in
+    (omega (arith, ints), omega (arith, ints))
 
--- those from a place on decide
-small_step : (p : TableColumn → Bool) (f : TableColumn → ℤ) (cs : List TableColumn) (i : ℕ) (z : ℤ) → i < length cs
-    → option_map f (slice_get cs i) ≡ Some z → ((c : TableColumn) → f c ≡ z → p c ≡ nat_le (unsigned_abs z) (10 ^ 18))
-    → list_all p (drop i cs) ≡ (nat_le (unsigned_abs z) (10 ^ 18) && list_all p (drop (i + 1) cs))
-small_step p f cs i z l parsed same =
-    let (x, at, next) = item_at cs i l in
-    let is : f x ≡ z = some_same (f x) z (sym (ap (option_map f) at) ∙ parsed) in
-    ap (list_all p) next ∙ ap (λ (b : Bool). b && list_all p (drop (i + 1) cs)) (same x is)
+abbrev IsCosted : TableColumn → Type 0
+IsCosted c = (bid : Choice) → column_bid c.name ≡ Some bid → IsCostOfBid c.cost
 
-module _ (raise : ℕ → ℕ) (parts : ℕ) (cs : List TableColumn) (i : ℕ) (z : ℤ) (all : Bool) (l : i < length cs)
-    (parsed : option_map (λ c. raised_cost raise (column_in_parts parts c)) (slice_get cs i) ≡ Some z)
-    (so_far : list_all (is_small_cost raise parts) (drop i cs) ≡ all) where
-  step : list_all (is_small_cost raise parts) (drop i cs) ≡ (nat_le (unsigned_abs z) (10 ^ 18) && list_all (is_small_cost raise parts) (drop (i + 1) cs))
-  step = small_step (is_small_cost raise parts) (λ c. raised_cost raise (column_in_parts parts c)) cs i z l parsed
-      (λ c e. ap (λ (y : ℤ). nat_le (unsigned_abs y) (10 ^ 18)) e)
+none_named : (bid : Choice) → column_bid (codes "K") ≡ Some bid → ⊥
+unfolding column_bid
+none_named bid e = cc
 
-  pub small_passes : nat_le (unsigned_abs z) (10 ^ 18) ≡ true → list_all (is_small_cost raise parts) (drop (i + 1) cs) ≡ all
-  small_passes e = sym (step ∙ ap (λ (b : Bool). b && list_all (is_small_cost raise parts) (drop (i + 1) cs)) e) ∙ so_far
+module _ (lots : Lots) (book : Book) where
+  all_costed : (rows : List Subject) (offers : List Offer) → AreOffers lots offers
+      → AllByRecursion (λ (o : Offer). Unit {0} × (is_kept_offer lots book (λ b. false) o ≡ true)) offers
+      → AllByRecursion IsCosted (map (column_of lots rows) offers ++ worth_column lots)
+  all_costed rows [] h k = cond_both (worth_of_all lots == 0) [] (record {
+    name = codes "K";
+    bounds = One;
+    cost = neg_ℤ (pos (worth_of_all lots));
+    entries = [];
+  } ∷ []) (AllByRecursion IsCosted) (λ e. tt) (λ e. ((λ bid named. absurd (none_named bid named)), tt))
+  all_costed rows (o ∷ offers) h k =
+      let outside = and_parts true (is_kept lots (form_of book o.bidder) o.bid) k.0.1 in
+      let kept = and_parts (fits lots o.bid.package && int_le (pos 0) (net lots o.bid)) (not (list_any (λ y. dominates lots y o.bid) (form_of book o.bidder)))
+      outside.1 in
+      let brings = and_parts (fits lots o.bid.package) (int_le (pos 0) (net lots o.bid)) kept.0 in
+      ((λ bid named. kept_cost o.bid.amount (worth lots o.bid.package) h.0.bid.amount brings.1), all_costed rows offers h.2 k.1)
 
-  pub small_fails : nat_le (unsigned_abs z) (10 ^ 18) ≡ false → all ≡ false
-  small_fails e = sym so_far ∙ step ∙ ap (λ (b : Bool). b && list_all (is_small_cost raise parts) (drop (i + 1) cs)) e
+  at_costed : (cs : List TableColumn) (i : ℕ) (bid : Choice) (cost : ℤ) → AllByRecursion IsCosted cs
+      → option_map (λ (c : TableColumn). column_bid c.name) (slice_get cs i) ≡ Some (Some bid)
+      → option_map (λ (c : TableColumn). c.cost) (slice_get cs i) ≡ Some cost → IsCostOfBid cost
+  at_costed [] i bid cost all named costs = cc
+  at_costed (c ∷ cs) zero bid cost all named costs =
+      let name : column_bid c.name ≡ Some bid = cc in
+      let same : c.cost ≡ cost = cc in
+      subst IsCostOfBid same (all.0 bid name)
+  at_costed (c ∷ cs) (suc i) bid cost all named costs = at_costed cs i bid cost all.1 named costs
 
--- minus a number of at most 127 bits
-pub negated : (n m : ℕ) → n ≡ m → n ≤ 2 ^ 127 - 1 → to_z w128 (of_z w128 (pos 0 -ℤ to_z w128 n)) ≡ neg_ℤ (pos m)
-negated n m e h = omega (arith, ints)
+  -- what a column of a kept bid costs
+  pub cost_of_bid : IsBook lots book → (i : ℕ) (bid : Choice) (cost : ℤ) (p : Table) → p ≡ program_of lots (kept_of lots book (λ b. false))
+      → option_map (λ (c : TableColumn). column_bid c.name) (slice_get p.columns i) ≡ Some (Some bid)
+      → option_map (λ (c : TableColumn). c.cost) (slice_get p.columns i) ≡ Some cost → IsCostOfBid cost
+  cost_of_bid within i bid cost p is named costs =
+      let kept = kept_of lots book (λ b. false) in
+      let all = all_costed (subjects lots kept) kept (kept_are_offers lots book (λ b. false) within)
+      (all_filter (λ (o : Offer). Unit {0}) (is_kept_offer lots book (λ b. false)) (offers_from 1 book) (each _ (offers_from 1 book) (λ o. tt))) in
+      at_costed p.columns i bid cost (subst (λ (q : Table). AllByRecursion IsCosted q.columns) (sym is) all) named costs
+
+-- such a cost fits 64 bits
+cost_fits : (z : ℤ) → IsCostOfBid z → SFits w64 z
+cost_fits (pos n) h = record { sfits = (let high = h.1 in omega (arith, ints)) }
+cost_fits (negsuc n) h = record { sfits = (let low = h.0 in omega (arith, ints)) }
+
+pub cost_as_it_is : (z : ℤ) → IsCostOfBid z → to_z w64 (of_z w64 z) ≡ z
+cost_as_it_is z h = to_z-of_z w64 z (cost_fits z h)

@@ -132,9 +132,6 @@ fits_between (negsuc n) low high = record { sfits = omega (arith, ints) }
 pub exact : (z : ℤ) → neg_ℤ (pos (2 ^ 124)) ≤ℤ z → z ≤ℤ pos (2 ^ 124) → to_z w128 (of_z w128 z) ≡ z
 exact z low high = to_z-of_z w128 z (fits_between z low high)
 
-pub wide : (z : ℤ) → neg_ℤ (pos (2 ^ 100)) ≤ℤ z → z ≤ℤ pos (2 ^ 100) → to_z w128 (of_z w128 z) ≡ z
-wide z low high = exact z (omega (arith, ints)) (omega (arith, ints))
-
 -- a product of a weight and a cost
 pub product_few : (w : ℕ) (cost : ℤ) → w ≤ 2 ^ 64 → pos 0 ≤ℤ cost → cost ≤ℤ pos (2 ^ 48) → (pos 0 ≤ℤ (pos w *ℤ cost)) × ((pos w *ℤ cost) ≤ℤ pos (2 ^ 112))
 product_few w (pos k) small low high =

@@ -10,14 +10,15 @@ use Rattle.optimality.specs.Verdict.{certificate_fault}
 use Rattle.auction_terms.specs.LineFields.{fields}
 use Rattle.auction_terms.specs.Decimals.{number}
 use Rattle.outcome.specs.Report.{cost}
-use Rattle.program_rows.specs.declared.certificate_fault.CertificateFaultKind.TheVariants.{NotShown, TooLarge}
+use Rattle.program_rows.specs.declared.certificate_fault.CertificateFaultKind.{CertificateFaultKind}
+use Rattle.program_rows.specs.declared.certificate_fault.CertificateFaultKind.TheVariants.{NotShown}
 use Rattle.program_rows.specs.Points.{objective}
 use Rattle.program_rows.specs.Spelling.{column_bid}
 use Rattle.outcome.specs.Pricing.{paid, price_in}
 use Rattle.prices.specs.inside.Weighing.{weight_by}
 use Rattle.prices.specs.Blocking.{revenue, surplus, surplus_of}
 use Rattle.prices.specs.Prices.{paid_by_group}
-use Rattle.prices.specs.Raised.{cover_fault, has_small_costs, raised_program}
+use Rattle.prices.specs.Raised.{cover_fault, raised_bound, raised_program}
 use Rattle.prices.specs.declared.alone.AloneFault.TheVariants.{NotListed}
 use Rattle.prices.specs.declared.rule.RuleFault.{RuleFault}
 use Rattle.prices.specs.declared.rule.RuleFault.TheVariants.{NotLeast, NotNearest}
@@ -83,10 +84,13 @@ one = (record { «package» = 1 ∷ []; amount = 10 } ∷ []) ∷ []
 record Valued : Type 0 where
   costs : cost valued one (choice 1 1 ∷ []) (1 ∷ []) [] ≡ pos 4
   has : revenue valued one (choice 1 1 ∷ []) 1 (price_in (4 ∷ [])) ≡ 8
-  raised_costs : map (λ c. c.cost) (raised_program valued one (choice 1 1 ∷ []) 1 (price_in (4 ∷ []))).columns ≡ pos 0 ∷ negsuc 7 ∷ []
-  covers : certificate_fault (raised_program valued one (choice 1 1 ∷ []) 1 (price_in (4 ∷ []))) (negsuc 7) (codes "bound 1") ≡ None
+  raised_costs : map (λ c. c.cost) (raised_program valued one (choice 1 1 ∷ []) 1 (price_in (4 ∷ []))).columns ≡ pos 0 ∷ pos 0 ∷ []
+  -- all lots are worth 8
+  bound : raised_bound valued one (choice 1 1 ∷ []) 1 (price_in (4 ∷ [])) ≡ pos 0
+  covers : cover_fault valued one (choice 1 1 ∷ []) 1 (price_in (4 ∷ [])) (codes "bound 1") ≡ None
   -- by 3 the column would cost -6 and 7 more
-  too_low : certificate_fault (raised_program valued one (choice 1 1 ∷ []) 1 (price_in (3 ∷ []))) (negsuc 6) (codes "bound 1") ≡ Some (1, NotShown)
+  bound_low : raised_bound valued one (choice 1 1 ∷ []) 1 (price_in (3 ∷ [])) ≡ pos 1
+  too_low : cover_fault valued one (choice 1 1 ∷ []) 1 (price_in (3 ∷ [])) (codes "bound 1") ≡ Some (1, NotShown)
   -- a scale of 1, and a weight of 1 on the group of bidder 1
   weighs : weight_on (weighted ([] ∷ (1 ∷ []) ∷ []) ((choice 1 1 ∷ []) ∷ [] ∷ []) (0 ∷ 1 ∷ [])) 1 ≡ 1
   weighs_listed : weight_by ([] ∷ (1 ∷ []) ∷ []) (0 ∷ 1 ∷ []) 1 ≡ 1
@@ -205,14 +209,25 @@ no_winner : NoWinner
 unfolding column_bid digits number fields
 no_winner = grind arith
 
--- two lots that are worth a million millions each where they are left: 10^18 in parts of which 500,000 make a pound, and more in more
+-- 10,000 lots that are worth a million millions each where they are left, and one of another category, for which two bid; in parts of
+-- which 1,000 make a pound, all lots are worth 10^19
 abbrev dear : Lots
-dear = record { supply = 2 ∷ []; values = 1000000000000 ∷ []; pools = [] }
+dear = record { supply = 10000 ∷ 1 ∷ []; values = 1000000000000 ∷ 0 ∷ []; pools = [] }
+
+abbrev two : Book
+two = (bid 0 1 30 ∷ []) ∷ (bid 0 1 20 ∷ []) ∷ []
+
+abbrev dear_fault : ℕ → List ℕ → Option (ℕ × CertificateFaultKind)
+dear_fault price text = cover_fault dear two (choice 1 1 ∷ []) 1000 (price_in (price ∷ [])) text
 
 record Dear : Type 0 where
-  small : has_small_costs (raised_program dear [] [] 500000 (λ b. 0)) ≡ true
-  large : has_small_costs (raised_program dear [] [] 500001 (λ b. 0)) ≡ false
-  refused : cover_fault dear [] [] 500001 (λ b. 0) (codes "bound 1") ≡ Some (0, TooLarge)
+  raised_costs : map (λ c. c.cost) (raised_program dear two (choice 1 1 ∷ []) 1000 (price_in (20001 ∷ []))).columns
+      ≡ negsuc 20000 ∷ negsuc 19999 ∷ pos 0 ∷ []
+  bound : raised_bound dear two (choice 1 1 ∷ []) 1000 (price_in (20001 ∷ [])) ≡ negsuc 20000
+  covers : dear_fault 20001 (codes "bound 1 C2 20001") ≡ None
+  covers_least : dear_fault 20000 (codes "bound 1 C2 20000") ≡ None
+  -- by a part less the other one would be worth more
+  too_low : dear_fault 19999 (codes "bound 1 C2 20000") ≡ Some (1, NotShown)
 
 dear_is : Dear
 unfolding column_bid digits number fields

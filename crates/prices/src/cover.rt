@@ -1,6 +1,6 @@
 //! Whether prices suffice.
 
-ghost use Rattle.std.specs.Prelude.{◌≡◌, ◌⊎◌, ◌≤◌, ◌^◌, IfErr, OnOk, Some, false};
+ghost use Rattle.std.specs.Prelude.{◌≡◌, ◌≤◌, IfErr, OnOk, false};
 ghost use Rattle.auction_terms.specs.declared.limits.TheConstants.{MOST_PARTS};
 ghost use Rattle.auction_terms.specs.Allocations.{IsFeasible};
 ghost use Rattle.auction_terms.specs.Keeping.{kept_of};
@@ -12,32 +12,18 @@ ghost use Rattle.prices.specs.Blocking.{ArePrices};
 ghost use Rattle.prices.specs.Parts.{AreAtLeastReserves, Suffice};
 ghost use Rattle.prices.specs.Prices.{reserves_in};
 ghost use Rattle.prices.specs.Raised.{IsLargeCoverAt, cover_fault};
-ghost use Rattle.prices.specs.declared.raised.RaiseFault.TheVariants as raise;
-ghost use Rattle.program_rows.specs.declared.certificate_fault.CertificateFaultKind.TheVariants.{OutOfMemory, TooLarge};
+ghost use Rattle.program_rows.specs.declared.certificate_fault.CertificateFaultKind.TheVariants.{TooLarge};
 ghost use Rattle.program_rows.specs.Rows.{program_of};
 
-use crate::payments::{Payments, revenue_of};
-use crate::raised::{RaiseFault, raised};
+use crate::payments::Payments;
+use crate::raised::{raised, raised_bound};
 use optimality::check_certificate;
 use program_rows::{CertificateFault, CertificateFaultKind, Program};
 use std::alloc::Global;
 
-// The fault of no line.
-fn of_no_line(fault: RaiseFault) -> CertificateFault
-    ensures line { result.line ≡ 0 }
-    ensures memory { fault ≡ raise.OutOfMemory → result.kind ≡ OutOfMemory }
-    ensures large { fault ≡ raise.CostTooLarge → result.kind ≡ TooLarge }
-{
-    let kind = match fault {
-        RaiseFault::CostTooLarge => CertificateFaultKind::TooLarge,
-        RaiseFault::OutOfMemory => CertificateFaultKind::OutOfMemory,
-    };
-    CertificateFault { line: 0, kind }
-}
-
 /// Checks that a text is a certificate that prices that are at least the reserves suffice: that no point of the program of the kept
-/// bids, with each column's cost in parts of a pound and raised by its bidder's surplus, has an objective below minus the revenue. No
-/// such cost may be above 10^18, apart from its sign.
+/// bids, with each bid's cost in parts of a pound and raised by its bidder's surplus, has an objective below what all lots are worth, less
+/// the revenue.
 pub fn check_cover(
     alloc: Global,
     text: &[u8],
@@ -62,20 +48,17 @@ pub fn check_cover(
     ensures first { IsVerdict result (cover_fault (lots_in payments.now.book.now.rules)
         (book_of payments.now.book.now) payments.now.first.now payments.now.parts
         (price_in payments.now.prices.now) text.now) }
-    ensures too_large { IfErr result (λ fault. fault.kind ≡ TooLarge →
-        (cover_fault (lots_in payments.now.book.now.rules) (book_of payments.now.book.now)
-        payments.now.first.now payments.now.parts (price_in payments.now.prices.now) text.now
-        ≡ Some (fault.line, TooLarge))
-        ⊎ IsLargeCoverAt (lots_in payments.now.book.now.rules) (book_of payments.now.book.now)
+    ensures too_large { IfErr result (λ fault. fault.kind ≡ TooLarge → IsLargeCoverAt
+        (lots_in payments.now.book.now.rules) (book_of payments.now.book.now)
         payments.now.first.now payments.now.parts (price_in payments.now.prices.now) text.now
         fault.line) }
 {
     payments.book.within_limits();
     match raised(alloc, program, payments) {
-        Ok(program) => {
-            let least = -(revenue_of(payments) as i128);
-            check_certificate(alloc, text, &program, least)
-        }
-        Err(fault) => Err(of_no_line(fault)),
+        Ok(program) => check_certificate(alloc, text, &program, raised_bound(payments)),
+        Err(_) => Err(CertificateFault {
+            line: 0,
+            kind: CertificateFaultKind::OutOfMemory,
+        }),
     }
 }

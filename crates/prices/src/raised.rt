@@ -1,102 +1,57 @@
-//! A program with the cost of each column in parts of a pound, raised by the surplus of its bidder.
+//! The program of the kept bids with costs in parts of a pound, each raised by the surplus of its bidder.
 
-ghost use Rattle.std.specs.Prelude.{◌≡◌, ◌⊎◌, ◌<◌, ◌≤◌, ◌^◌, ◌≤ℤ◌, IfErr, IfOk, Some, false, length, map, nat_le, neg_ℤ, pos, slice_get, true, unsigned_abs};
-ghost use Rattle.std.specs.List.{list_all};
+ghost use Rattle.std.specs.Prelude.{◌≡◌, ◌+ℤ◌, ◌*ℤ◌, ◌≤◌, ◌≤ℤ◌, ◌<◌, ◌^◌, IfOk, Some, false, length, map, neg_ℤ, pos, slice_get};
 ghost use Rattle.std.specs.Option.{option_map};
-ghost use Rattle.auction_terms.specs.declared.limits.TheConstants.{MOST_PARTS};
+ghost use Rattle.auction_terms.specs.declared.limits.TheConstants.{GREATEST_AMOUNT, MOST_PARTS};
+ghost use Rattle.auction_terms.specs.Allocations.{IsFeasible};
+ghost use Rattle.auction_terms.specs.Keeping.{kept_of};
+ghost use Rattle.auction_terms.specs.Terms.{lots_in};
 ghost use Rattle.bid_desk.specs.Closing.{book_of};
 ghost use Rattle.outcome.specs.PointAllocation.{IsMap};
 ghost use Rattle.outcome.specs.Pricing.{price_in};
 ghost use Rattle.prices.specs.Blocking.{ArePrices, surplus};
-ghost use Rattle.prices.specs.Raised as of_program;
-ghost use Rattle.prices.specs.Raised.{column_in_parts, has_small_costs, program_in_parts, raised_cost};
-ghost use Rattle.prices.specs.declared.raised.RaiseFault.TheVariants.{CostTooLarge, OutOfMemory};
+ghost use Rattle.prices.specs.Raised.{raised_bound, raised_cost, raised_program};
+ghost use Rattle.program_rows.specs.Rows.{program_of};
 
-use crate::payments::{Payments, surplus_of};
-use auction_terms::Choice;
+use crate::payments::{Payments, revenue_of, surplus_of};
 use program_rows::Program;
-use std::alloc::{AllocError, AllocFailed, Global};
+use std::alloc::{AllocError, Global};
 
-// The greatest cost of a column in parts of a pound, apart from its sign.
-const GREATEST_COST: i128 = 1_000_000_000_000_000_000;
-
-/// Why there is no raised program.
-#[derive(Clone, Copy, Debug, PartialEq, Eq)]
-pub enum RaiseFault {
-    /// A cost is above 10^18, apart from its sign.
-    CostTooLarge,
-    OutOfMemory,
-}
-
-impl From<AllocError> for RaiseFault {
-    ghost use Rattle.std.specs.Prelude.{◌≡◌};
-    ghost use Rattle.prices.specs.declared.raised.RaiseFault.TheVariants.{OutOfMemory};
-
-    ghost from_gives = { λ _ e. e ≡ OutOfMemory };
-
-    fn from(_e: AllocError) -> RaiseFault {
-        RaiseFault::OutOfMemory
-    }
-}
-
-impl<T: Drop> From<AllocFailed<T>> for RaiseFault {
-    ghost use Rattle.std.specs.Prelude.{◌≡◌};
-    ghost use Rattle.prices.specs.declared.raised.RaiseFault.TheVariants.{OutOfMemory};
-
-    ghost from_gives = { λ _ e. e ≡ OutOfMemory };
-
-    fn from(_e: AllocFailed<T>) -> RaiseFault {
-        RaiseFault::OutOfMemory
-    }
-}
-
-/// By how much the cost of the column of a bid is raised; 0 if the column is of no bid.
-fn raise_of(payments: &Payments<'_>, bid: Option<Choice>) -> u64
-    requires parts { payments.now.parts ≤ MOST_PARTS }
-    requires prices { ArePrices (book_of payments.now.book.now) payments.now.first.now
-        payments.now.parts (price_in payments.now.prices.now) }
-    requires map { IsMap payments.now.first.now }
-    ensures raise { result ≡ of_program.raise_by (surplus (book_of payments.now.book.now)
-        payments.now.first.now payments.now.parts (price_in payments.now.prices.now)) bid }
-    ensures small { result ≤ 10 ^ 18 }
+/// The cost of a kept bid in parts of a pound, raised.
+fn raised_by(parts: u64, cost: i64, raise: u64) -> i64
+    requires parts { parts ≤ MOST_PARTS }
+    requires low { neg_ℤ (pos GREATEST_AMOUNT) ≤ℤ cost }
+    requires high { cost ≤ℤ pos 0 }
+    requires raise { raise ≤ 10 ^ 18 }
+    ensures { result ≡ (pos parts *ℤ cost) +ℤ pos raise }
 {
-    match bid {
-        Some(bid) => surplus_of(payments, bid.bidder),
-        None => 0,
-    }
+    parts as i64 * cost + raise as i64
 }
 
-/// A cost, if it isn't too large.
-fn small(cost: i128) -> Result<i64, RaiseFault>
-    requires low { neg_ℤ (pos (2 ^ 100)) ≤ℤ cost }
-    requires high { cost ≤ℤ pos (2 ^ 100) }
-    ensures same { IfOk result (λ small. small ≡ cost) }
-    ensures small { IfOk result (λ small. nat_le (unsigned_abs cost) (10 ^ 18) ≡ true) }
-    ensures refused { IfErr result (λ fault. (fault ≡ CostTooLarge)
-        × (nat_le (unsigned_abs cost) (10 ^ 18) ≡ false)) }
-{
-    if cost > GREATEST_COST || cost < -GREATEST_COST {
-        return Err(RaiseFault::CostTooLarge);
-    }
-    Ok(cost as i64)
-}
-
-/// The raised cost of a column.
-fn raised_cost(program: &Program, payments: &Payments<'_>, column: usize) -> i128
+/// The raised cost of a column; 0 if the column is of no bid.
+fn raised_cost(program: &Program, payments: &Payments<'_>, column: usize) -> i64
+    requires program { program.now ≡ program_of (lots_in payments.now.book.now.rules)
+        (kept_of (lots_in payments.now.book.now.rules) (book_of payments.now.book.now)
+        (λ b. false)) }
     requires parts { payments.now.parts ≤ MOST_PARTS }
     requires prices { ArePrices (book_of payments.now.book.now) payments.now.first.now
         payments.now.parts (price_in payments.now.prices.now) }
     requires map { IsMap payments.now.first.now }
     requires within { column < length program.now.columns }
-    ensures cost { option_map (λ c. raised_cost (surplus (book_of payments.now.book.now)
-        payments.now.first.now payments.now.parts (price_in payments.now.prices.now))
-        (column_in_parts payments.now.parts c)) (slice_get program.now.columns column)
+    ensures cost { option_map (raised_cost payments.now.parts (surplus
+        (book_of payments.now.book.now) payments.now.first.now payments.now.parts
+        (price_in payments.now.prices.now))) (slice_get program.now.columns column)
         ≡ Some result }
-    ensures low { neg_ℤ (pos (2 ^ 100)) ≤ℤ result }
-    ensures high { result ≤ℤ pos (2 ^ 100) }
 {
-    let raise = raise_of(payments, program.column_bid(column));
-    i128::from(payments.parts) * i128::from(program.cost(column)) + i128::from(raise)
+    payments.book.within_limits();
+    match program.column_bid(column) {
+        Some(bid) => raised_by(
+            payments.parts,
+            program.cost(column),
+            surplus_of(payments, bid.bidder),
+        ),
+        None => 0,
+    }
 }
 
 /// The raised costs of all columns.
@@ -104,51 +59,58 @@ fn raised_costs(
     alloc: Global,
     program: &Program,
     payments: &Payments<'_>,
-) -> Result<Vec<i64>, RaiseFault>
+) -> Result<Vec<i64>, AllocError>
+    requires program { program.now ≡ program_of (lots_in payments.now.book.now.rules)
+        (kept_of (lots_in payments.now.book.now.rules) (book_of payments.now.book.now)
+        (λ b. false)) }
     requires parts { payments.now.parts ≤ MOST_PARTS }
     requires prices { ArePrices (book_of payments.now.book.now) payments.now.first.now
         payments.now.parts (price_in payments.now.prices.now) }
     requires map { IsMap payments.now.first.now }
-    ensures costs { IfOk result (λ costs. costs.items
-        ≡ map (λ c. raised_cost (surplus (book_of payments.now.book.now)
-        payments.now.first.now payments.now.parts (price_in payments.now.prices.now))
-        (column_in_parts payments.now.parts c)) program.now.columns) }
-    ensures small { IfOk result (λ costs. list_all (λ c. nat_le (unsigned_abs (raised_cost
+    ensures costs { IfOk result (λ costs. costs.items ≡ map (raised_cost payments.now.parts
         (surplus (book_of payments.now.book.now) payments.now.first.now payments.now.parts
-        (price_in payments.now.prices.now)) (column_in_parts payments.now.parts c))) (10 ^ 18))
-        program.now.columns ≡ true) }
-    ensures refused { IfErr result (λ fault. (fault ≡ OutOfMemory) ⊎ ((fault ≡ CostTooLarge)
-        × (list_all (λ c. nat_le (unsigned_abs (raised_cost (surplus
-        (book_of payments.now.book.now) payments.now.first.now payments.now.parts
-        (price_in payments.now.prices.now)) (column_in_parts payments.now.parts c))) (10 ^ 18))
-        program.now.columns ≡ false))) }
+        (price_in payments.now.prices.now))) program.now.columns) }
 {
     let mut costs = Vec::new(alloc);
     for column in 0..program.column_count() {
-        costs.push(small(raised_cost(program, payments, column))?)?;
+        costs.push(raised_cost(program, payments, column))?;
     }
     Ok(costs)
 }
 
-/// The program with the cost of each column in parts of a pound, raised by the surplus of its bidder, if no cost gets too large.
+/// The program of the kept bids with the cost of each bid in parts of a pound, raised by the surplus of its bidder. The column of what
+/// all lots are worth costs nothing in it.
 pub fn raised(
     alloc: Global,
     program: Program,
     payments: &Payments<'_>,
-) -> Result<Program, RaiseFault>
+) -> Result<Program, AllocError>
+    requires program { program ≡ program_of (lots_in payments.now.book.now.rules)
+        (kept_of (lots_in payments.now.book.now.rules) (book_of payments.now.book.now)
+        (λ b. false)) }
     requires parts { payments.now.parts ≤ MOST_PARTS }
     requires prices { ArePrices (book_of payments.now.book.now) payments.now.first.now
         payments.now.parts (price_in payments.now.prices.now) }
     requires map { IsMap payments.now.first.now }
-    ensures raised { IfOk result (λ all. all ≡ of_program.raised (surplus
-        (book_of payments.now.book.now) payments.now.first.now payments.now.parts
-        (price_in payments.now.prices.now)) (program_in_parts payments.now.parts program)) }
-    ensures small { IfOk result (λ all. has_small_costs all ≡ true) }
-    ensures refused { IfErr result (λ fault. (fault ≡ OutOfMemory) ⊎ ((fault ≡ CostTooLarge)
-        × (has_small_costs (of_program.raised (surplus (book_of payments.now.book.now)
-        payments.now.first.now payments.now.parts (price_in payments.now.prices.now))
-        (program_in_parts payments.now.parts program)) ≡ false))) }
+    ensures raised { IfOk result (λ all. all ≡ raised_program
+        (lots_in payments.now.book.now.rules) (book_of payments.now.book.now)
+        payments.now.first.now payments.now.parts (price_in payments.now.prices.now)) }
 {
     let costs = raised_costs(alloc, &program, payments)?;
     Ok(program.with_costs(costs))
+}
+
+/// What no objective of it is to be below: what all lots are worth, less the seller's revenue.
+pub fn raised_bound(payments: &Payments<'_>) -> i128
+    requires feasible { IsFeasible (lots_in payments.now.book.now.rules)
+        (book_of payments.now.book.now) (λ b. false) payments.now.first.now }
+    requires parts { payments.now.parts ≤ MOST_PARTS }
+    requires prices { ArePrices (book_of payments.now.book.now) payments.now.first.now
+        payments.now.parts (price_in payments.now.prices.now) }
+    ensures bound { result ≡ raised_bound (lots_in payments.now.book.now.rules)
+        (book_of payments.now.book.now) payments.now.first.now payments.now.parts
+        (price_in payments.now.prices.now) }
+{
+    let worth = u128::from(payments.parts) * u128::from(payments.book.rules().worth_of_all());
+    worth as i128 - revenue_of(payments) as i128
 }

@@ -35,7 +35,6 @@ _BID = re.compile(r"X([0-9]+)_([0-9]+)")
 _BIDDER_IN_SOLUTION = re.compile(rb"(?m)^X([0-9]+)_")
 MOST_GROUPS = 1024
 MOST_PARTS = 10**6  # of a pound
-MOST_COST = 10**18  # of a column, in parts
 MOST_DIGITS = 18
 
 
@@ -260,10 +259,6 @@ class Award:
         largest = max([0, *payment.prices, *shown.list_numbers()])
         if len(str(largest)) > MOST_DIGITS:
             raise _BeyondLimit(f"the number {largest:,} has more than {MOST_DIGITS} digits")
-        cost = parts * max([self.problem.layout.largest_cost, *self.winners.amounts])
-        if cost > MOST_COST:
-            why = f"a column costs {cost:,} parts of a pound, which is above {MOST_COST:,}"
-            raise _BeyondLimit(why)
 
     def _format_rule(self, shown: WholeRule) -> tuple[list[str], str]:
         """The groups that show prices beside the listed ones, and the part that does. Raises

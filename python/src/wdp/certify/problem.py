@@ -71,11 +71,11 @@ class Problem:
         return Problem(self.layout.restrict(others), self.known_rows)
 
     def raise_costs(self, surplus: Mapping[int, int], parts: int = 1) -> "Problem":
-        """The problem in which each column costs so many times as much, and a column of a bidder
-        its surplus more, by the bidder's number in the rules.
+        """The problem in which a column of a bidder costs so many times as much, and its surplus
+        more, by the bidder's number in the rules. Others, which are always 1, cost nothing.
         """
         columns = [
-            replace(column, cost=parts * column.cost + surplus.get(holder, 0))
+            replace(column, cost=parts * column.cost + surplus.get(holder, 0) if holder else 0)
             for column, holder in zip(self.program.columns, self.holders.tolist(), strict=True)
         ]
         program = ZeroOne(self.program.rows, columns)
