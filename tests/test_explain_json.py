@@ -9,6 +9,7 @@ from __future__ import annotations
 
 import itertools
 import json
+import os
 import random
 import re
 import shutil
@@ -206,6 +207,20 @@ def test_planted_in_several_files(wdp, tmp_path, size):
 @pytest.mark.parametrize("text", [pytest.param(text, id=name) for name, text, _ in limits()])
 def test_limits(wdp, text):
     expect_same(wdp, [], text.encode("latin-1"))
+
+
+@pytest.mark.parametrize("byte", range(256), ids="{:02x}".format)
+def test_byte(wdp, tmp_path, byte):
+    """A byte before the first part, in a field and in a file's name is shown before it gets into a string: all that is there prints."""
+    odd = b"x" + bytes([byte])
+    text = read_case("explain_all_faults").stdin.replace(b"31,1,x", b"31,1," + odd)
+    objects = expect_same(wdp, [], odd) + expect_same(wdp, [], text)
+    if byte not in b"\0/":
+        name = os.fsdecode(odd)
+        Path(tmp_path, name).write_bytes(text)
+        objects += expect_same(wdp, [name], b"", cwd=tmp_path)
+    texts = [value for said in objects for value in said.values() if isinstance(value, str)]
+    assert texts and all(text.isascii() and text.isprintable() for text in texts)
 
 
 @pytest.mark.parametrize("version", range(len(ACCEPTED)))

@@ -1,2 +1,3 @@
 pub mod KnownByteFacts
 pub mod AddingFacts
+pub mod JsonFacts

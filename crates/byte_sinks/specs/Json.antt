@@ -1,11 +1,19 @@
 -- Members of JSON objects.
-use Rattle.std.specs.Prelude.{◌++◌, ◌∷◌, ◌==◌, ◌||◌, ℕ, List, [], codes, decimal, flat_map, if◌then◌else◌}
+use Rattle.std.specs.Prelude.{◌++◌, ◌∷◌, ◌==◌, ◌||◌, ◌&&◌, ◌/◌, ◌%◌, ℕ, Bool, List, [], codes, decimal, flat_map, if◌then◌else◌, nat_le}
+use Rattle.std.specs.Char.{digit_char}
 
--- a printable byte of ASCII as it stands in a string: a quotation mark and a backslash come after a backslash
+-- a printable byte of ASCII
+abbrev pub is_printable : ℕ → Bool
+is_printable b = nat_le 32 b && nat_le b 126
+
+-- a byte as it stands in a string: a quotation mark and a backslash come after a backslash, another printable byte stands for itself,
+-- and any other byte is the character with its number, in hexadecimal digits
 abbrev pub json_byte : ℕ → List ℕ
-json_byte b = if b == 34 || b == 92 then 92 ∷ b ∷ [] else b ∷ []
+json_byte b =
+    if b == 34 || b == 92 then 92 ∷ b ∷ []
+    else (if is_printable b then b ∷ [] else 92 ∷ 117 ∷ 48 ∷ 48 ∷ digit_char (b / 16) ∷ digit_char (b % 16) ∷ [])
 
--- printable bytes of ASCII as they stand in a string
+-- bytes as they stand in a string
 abbrev pub json_text : List ℕ → List ℕ
 json_text bytes = flat_map json_byte bytes
 

@@ -8,3 +8,4 @@ pub mod PlaceFacts
 pub mod TextFacts
 pub mod UnmetFacts
 mod ShownFacts
+mod StringFacts
