@@ -391,8 +391,34 @@ def test_an_audit_alone_has_the_award_that_was_drawn(folder: ResultsFolder) -> N
     folder.publish_tie(TIED_AUDIT, "--drawn", "2", "--list-is-complete")
     alone = folder.folder / "alone"
     audit = folder.write("audit.txt", TIED_AUDIT)
-    assert run("results", audit, "--drawn", "2", "--list-is-complete", "--output", alone).status == 0
+    assert (
+        run("results", audit, "--drawn", "2", "--list-is-complete", "--output", alone).status == 0
+    )
     assert (alone / "results.json").read_bytes() == (folder.out / "results.json").read_bytes()
+
+
+@pytest.mark.parametrize("audit", [None, TIE_AUDIT])
+def test_a_report_may_have_lines_of_forms_first(
+    folder: ResultsFolder, wdp: str, audit: str | None
+) -> None:
+    folder.publish(TIE, TIE_REPORT, audit=audit)
+    files = {path.name: path.read_bytes() for path in folder.out.iterdir()}
+    lines = run_program(wdp, "forms", TIE.encode()).decode()
+    folder.publish(TIE, lines + TIE_REPORT, "--replace", audit=audit)
+    assert {path.name: path.read_bytes() for path in folder.out.iterdir()} == files
+
+
+@pytest.mark.parametrize("number", [1, 2, 3])
+@pytest.mark.parametrize("changed", [[], ["%form Gamma -\n"]], ids=["left out", "another"])
+def test_a_report_with_another_line_of_forms(
+    folder: ResultsFolder, wdp: str, number: int, changed: list[str]
+) -> None:
+    lines = run_program(wdp, "forms", TIE.encode()).decode().splitlines(keepends=True)
+    lines[number - 1 : number] = changed
+    result = folder.run(TIE, "".join(lines) + TIE_REPORT)
+    assert result.status == 1
+    assert f"report.txt: line {number}: of the input wdp forms prints " in result.err
+    assert not folder.out.exists()
 
 
 # Alpha offers 11 and Beta 10: if Beta's part is no smaller than Alpha's, halves of both are the
