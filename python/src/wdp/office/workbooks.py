@@ -511,16 +511,27 @@ def _format_date(number: float, *, is_of_1904: bool) -> str:
     return str(date.date() if date.time() == datetime.time() else date)
 
 
-def _begins_as_form(book: _Workbook, sheet: _Sheet, heads: Collection[str]) -> bool:
+@contextmanager
+def _name_sheet(path: str, sheet: _Sheet) -> Iterator[None]:
+    """Within this a fault is one of this sheet, or of a cell of it."""
+    try:
+        yield
+    except BadWorkbook as bad:
+        cell = f"!{bad.cell}" if bad.cell else ""
+        raise Unreadable(f"{path}:{sheet.name}{cell}", bad.why) from None
+
+
+def _begins_as_form(book: _Workbook, sheet: _Sheet, path: str, heads: Collection[str]) -> bool:
     """Whether one of the first rows of a sheet begins with one of these words."""
     reader = _SheetReader(book, sheet, File("", b""), rows_alone=True)
-    rows = islice(reader.rows(), _MOST_OF_A_TITLE)
-    first_values = (next(filter(None, row.values), "") for row in rows)
-    return any(value.strip().lower() in heads for value in first_values)
+    with _name_sheet(path, sheet):
+        rows = islice(reader.rows(), _MOST_OF_A_TITLE)
+        first_values = (next(filter(None, row.values), "") for row in rows)
+        return any(value.strip().lower() in heads for value in first_values)
 
 
-def _choose_sheet(book: _Workbook, name: str | None, heads: Collection[str]) -> _Sheet:
-    """The sheet of this name, or the first one.
+def _choose_sheet(book: _Workbook, name: str | None, path: str, heads: Collection[str]) -> _Sheet:
+    """The sheet of this name, or the first one of the workbook at a path.
 
     No other may then be hidden, or begin with one of these heads, in any case.
     """
@@ -534,7 +545,7 @@ def _choose_sheet(book: _Workbook, name: str | None, heads: Collection[str]) -> 
             raise BadWorkbook(f"its sheet {quote(sheet.name)} is hidden; delete it, or {hint}")
     known = {head.lower() for head in heads}
     for sheet in book.sheets[1:]:
-        if _begins_as_form(book, sheet, known):
+        if _begins_as_form(book, sheet, path, known):
             raise BadWorkbook(f"its sheet {quote(sheet.name)} begins as a form does, too; {hint}")
     return book.sheets[0]
 
@@ -567,15 +578,12 @@ def _pause_collector() -> Iterator[None]:
 def _fill_from_sheet(file: File, most: int, name: str | None, heads: Collection[str]) -> None:
     """Fills a file with the rows of a sheet, at most so many."""
     book = _Workbook(file.data)
-    sheet = _choose_sheet(book, name, heads)
+    sheet = _choose_sheet(book, name, file.path, heads)
     reader = _SheetReader(book, sheet, file)
     others = f", of {len(book.sheets)} sheets" if len(book.sheets) > 1 else ""
     file.changes.append(f"read from sheet {sheet.name}{others}")
-    try:
+    with _name_sheet(file.path, sheet):
         file.fill(reader.rows(), most)
-    except BadWorkbook as bad:
-        place = f"{file.path}:{sheet.name}!{bad.cell}" if bad.cell else file.path
-        raise Unreadable(place, bad.why) from None
     reader.add_faults()
 
 
