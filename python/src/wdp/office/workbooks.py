@@ -226,7 +226,8 @@ class _SheetReader:
         for row in self.part.iterate("sheetData", "row"):
             if not self.row:
                 self.layout.take_sheet(self.part)
-                self.cell, self.value, self.formula = map(self.part.tag, ("c", "v", "f"))
+                tags = map(self.part.tag, ("c", "v", "f"))
+                self.cell_tag, self.value_tag, self.formula_tag = tags
             self._begin_row(row)
             values = self._read_row(row)
             if values:
@@ -312,7 +313,7 @@ class _SheetReader:
         place = format_column(column) + row
         attributes = element.attrib
         style = attributes.get("s")
-        if element.tag != self.cell or not _are_usual(attributes, style, place):
+        if element.tag != self.cell_tag or not _are_usual(attributes, style, place):
             return None
         if column > MOST_CELLS:
             return None
@@ -320,11 +321,12 @@ class _SheetReader:
         if count != 1 and not self._has_plain_formula(element, place):
             return None
         value = element[-1]
-        if value.tag != self.value or len(value) or value.keys():
+        if value.tag != self.value_tag or len(value) or value.keys():
             return None
-        known = usual.get(style or column)
+        key: _Style = column if style is None else style
+        known = usual.get(key)
         if known is None:
-            known = usual[style or column] = self._judge_usual(column, style)
+            known = usual[key] = self._judge_usual(column, style)
         room = self.layout.rooms[column]
         number, text = _parse_whole(value.text)
         if not known.least <= number < known.beyond or number >= room:
@@ -341,7 +343,7 @@ class _SheetReader:
             return False
         formula = element[0]
         spills = formula.get("t") in _SPILLED and formula.get("ref") != place
-        is_plain = formula.tag == self.formula and not len(formula)
+        is_plain = formula.tag == self.formula_tag and not len(formula)
         return is_plain and not spills and self.part.knows(formula)
 
     def _judge_usual(self, column: int, style: str | None) -> _Usual:
