@@ -323,19 +323,22 @@ class _SheetReader:
         value = element[-1]
         if value.tag != self.value_tag or len(value) or value.keys():
             return None
+        text = value.text
+        if not text or len(text) > _LONGEST_USUAL:
+            return None
         key: _Style = column if style is None else style
         known = usual.get(key)
         if known is None:
             known = usual[key] = self._judge_usual(column, style)
-        room = self.layout.rooms[column]
-        number, text = _parse_whole(value.text)
-        if not known.least <= number < known.beyond or number >= room:
+        number, digits = _parse_whole(text)
+        is_shown = known.least <= number < known.beyond
+        if not is_shown or number >= self.layout.rooms[column]:
             return None
         if count == 2:
             self.remarks.formulas.append(place)
         self.column = column
         self.values.columns[column].add(self.row, known.look)
-        return text
+        return digits
 
     def _has_plain_formula(self, element: Element, place: str) -> bool:
         """Whether a cell has a formula that has no values in other cells, and one element more."""
@@ -491,14 +494,14 @@ def _are_usual(attributes: Mapping[str, str], style: str | None, place: str) -> 
 
 
 @lru_cache(maxsize=4_096)
-def _parse_whole(text: str | None) -> tuple[int, str]:
-    """A whole number, which isn't below 0, as a cell has it, and as a field has it; -1 if it isn't
-    one.
+def _parse_whole(text: str) -> tuple[int, str]:
+    """A whole number, which isn't below 0, by the few characters that a cell has, and its digits; -1
+    if it isn't one.
     """
     number: float = -1
-    if text and text.isdigit() and text.isascii() and len(text) <= _LONGEST_USUAL:
+    if text.isdigit() and text.isascii():
         number = int(text)
-    elif text and NUMBER.fullmatch(text):
+    elif NUMBER.fullmatch(text):
         number = float(text)
     is_whole = 0 <= number < MOST_SHOWN and number == int(number)
     return (int(number), str(int(number))) if is_whole else (-1, "")
