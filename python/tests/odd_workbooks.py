@@ -195,6 +195,18 @@ ODD: dict[str, tuple[Odd, str]] = {
     "fractions": (styled(code="# ?/?"), TAKEN),
     "fractions of eight": (styled(code="# ?/8"), FORMAT.format("'# ?/8'")),
     "accounting": (styled(code="_-* #,##0_-;-* #,##0_-;_-* &quot;-&quot;_-;_-@_-"), TAKEN),
+    "a style without a number, below a cell without a style": (
+        Odd(changes=[(SHEET, '<c r="A3" ', '<c r="A3" s="" ')]),
+        "A3: its style '' isn't there",
+    ),
+    "a kind of value, below a cell without one": (
+        Odd(changes=[(SHEET, '<c r="A3" ', '<c r="A3" t="" ')]),
+        "A3: its value '9900' isn't understood",
+    ),
+    "an unknown attribute, below a cell without one": (
+        Odd(changes=[(SHEET, '<c r="A3" ', '<c r="A3" u="1" ')]),
+        "A3: its 'c' has the attribute 'u', which isn't understood",
+    ),
     "alignment fill": (
         styled(xf="<alignment horizontal='fill'/>"),
         "A2: its alignment 'fill' may repeat it",

@@ -72,6 +72,7 @@ MEASURING = {
     "filter": ["random", "100"],
     "hostile_workbooks": ["lying"],
     "solve": ["--solver", "@solve", "--wdp", "@", "--ties", "--cbc", EXAMPLES / "worked.txt"],
+    "many_workbooks": ["2", "--bids", "3", "--before", ROOT],
     "mutated_workbooks": ["20"],
     "bare_machine": ["--list"],
 }
@@ -86,6 +87,7 @@ SHOWN = {
     "hostile": r"(?s).*\| submitted .*\n\n[01] within bounds, [01] beyond\n$",
     "hostile_workbooks": r"(?s).*\| lying .*\n\n[01] within bounds, [01] beyond\n$",
     "solve": r"\| worked\.txt \| \d+ \| 4 \| [\d.]+ \| \d+ \| 0 \| [\d.]+ \|\n$",
+    "many_workbooks": r"(?s).*\n\| 2 (\| [\d.]+ \| [\d.]+ \| \d+ ){2}\|\n$",
     "mutated_workbooks": r"\d+ read, \d+ refused, 0 in tracebacks\n$",
     "bare_machine": r"(?s)README.md:\n  \./wdp text examples/one_form\.txt\n.*docs/OFFICE.md:\n  apt-get .*docs/PYTHON.md:\n  apt-get .*"
     r"installs:\n  make install && wdp --version\n",

@@ -222,7 +222,7 @@ HARM = [
     (b'r="C4"', b'r="XFD4"', ":Bids!XFD4: it is beyond the first 256 cells of its row"),
     (b"<v>5000</v>", b"<v>x</v>", f":Bids!A2: 'x' {NO_DIGITS}"),
     (b"<v>5000</v>", b"<v>1_0</v>", f":Bids!A2: '1_0' {NO_DIGITS}"),
-    (b"<sheetData>", b"<sheetData", ": its XML is broken: not well-formed"),
+    (b"<sheetData>", b"<sheetData", ":Bids: its XML is broken: not well-formed"),
 ]
 
 
@@ -232,7 +232,7 @@ def test_a_workbook_made_to_harm(
 ) -> None:
     workbook(SHEET, old, new)
     (line,) = office.list_faults()
-    place, words = why.rsplit(": ", 1)
+    place, words = why.split(": ", 1)
     assert line.startswith(f"forms/Fox.xlsx{place}: ")
     assert words in line
 

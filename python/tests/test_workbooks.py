@@ -46,17 +46,17 @@ NESTED = "<mc:AlternateContent><mc:Choice>" * 40 + "</mc:Choice></mc:AlternateCo
 TOO_MUCH: dict[str, tuple[Callable[[], bytes], str]] = {
     "conditions": (
         lambda: make_odd(Odd(after=condition(RULE * 501))),
-        "it has more than 500 conditions",
+        "Bids: it has more than 500 conditions",
     ),
     "what a sheet is linked to": (
         lambda: make_odd(Odd(**linked_often(9))),
-        "what is read of it has more than 67,108,864 bytes, unpacked",
+        "Bids: what is read of it has more than 67,108,864 bytes, unpacked",
     ),
     "names that may be ignored": (
         lambda: make_odd(
             Odd(row=OTHER_NAMES, root=f"xmlns:mc='{COMPATIBLE}' xmlns:y='{AC}' mc:Ignorable='y'")
         ),
-        "its XML has more than 100 names that may be ignored",
+        "Bids: its XML has more than 100 names that may be ignored",
     ),
     "formulas of several cells": (
         lambda: workbooks.make_one(f"<sheetData>{SPILLS}</sheetData>"),
@@ -64,7 +64,7 @@ TOO_MUCH: dict[str, tuple[Callable[[], bytes], str]] = {
     ),
     "levels": (
         lambda: make_odd(Odd(root=f"xmlns:mc='{COMPATIBLE}'", after=NESTED)),
-        "its XML has more than 64 levels",
+        "Bids: its XML has more than 64 levels",
     ),
     "fonts": (
         lambda: make_odd(Odd(styles=make_styles(font="<font><sz val='11'/></font>" * 1_024))),
@@ -76,7 +76,7 @@ TOO_MUCH: dict[str, tuple[Callable[[], bytes], str]] = {
     ),
     "comments": (
         lambda: make_odd(Odd(**comment("B3", 10_001))),
-        "it has more than 10,000 comments",
+        "Bids: it has more than 10,000 comments",
     ),
     "sheets": (
         lambda: workbooks.RawWorkbook(*((f"s{number}", "") for number in range(1_001))).bytes(),
@@ -86,7 +86,7 @@ TOO_MUCH: dict[str, tuple[Callable[[], bytes], str]] = {
         lambda: workbooks.make_one(
             f"<sheetData>{('<row>' + '<c><v>1</v></c>' * 200 + '</row>') * 751}</sheetData>"
         ),
-        "it has more than 150,000 cells with a value",
+        "Bids: it has more than 150,000 cells with a value",
     ),
 }
 MUTATED = int(os.environ.get("MUTATED", "200"))
@@ -117,6 +117,35 @@ def linked_often(count: int) -> dict[str, Any]:
 def test_a_workbook_of_more_than_a_form_has_is_refused(name: str) -> None:
     make, said = TOO_MUCH[name]
     assert workbooks.read_outcome(make()) == said
+
+
+FILTER = "<autoFilter ref='A1:C9'><filterColumn colId='0'/></autoFilter>"
+# what is wrong with a sheet, and with none of its cells
+OF_SHEETS = {
+    "<mergeCells><mergeCell ref='C3:A2'/></mergeCells>": "its merged cells 'C3:A2' aren't understood",
+    FILTER: "a filter may hide its rows; remove the filter",
+    condition(RULE * 501): "it has more than 500 conditions",
+    "<sheetViews/>": "in 'worksheet' there is 'sheetViews' out of its order",
+    "</x>": "its XML is broken: mismatched tag",
+}
+
+
+@pytest.mark.parametrize("after", OF_SHEETS)
+def test_a_fault_of_a_sheet_names_the_sheet(office: OfficeFolder, after: str) -> None:
+    (office.forms / "Fox.csv").unlink()
+    body = workbooks.make_body(workbooks.FORM) + after
+    (office.forms / "Fox.xlsx").write_bytes(workbooks.RawWorkbook(("Bids", body)).bytes())
+    (line,) = office.list_faults()
+    assert line.startswith(f"forms/Fox.xlsx:Bids: {OF_SHEETS[after]}")
+
+
+def test_a_fault_of_another_sheet_names_that_one(office: OfficeFolder) -> None:
+    (office.forms / "Fox.csv").unlink()
+    first = "Bids", workbooks.make_body(workbooks.FORM)
+    other = "Notes", "<sheetData><row r='2'/><row r='1'/></sheetData>"
+    (office.forms / "Fox.xlsx").write_bytes(workbooks.RawWorkbook(first, other).bytes())
+    why = "its row comes after row 2, and rows have to be in order"
+    assert office.list_faults() == [f"forms/Fox.xlsx:Notes!A1: {why}"]
 
 
 def test_a_form_of_texts_isnt_read_to_its_end(office: OfficeFolder) -> None:
@@ -156,7 +185,7 @@ def test_an_encoding_that_no_spreadsheet_writes(office: OfficeFolder, encoding: 
     (office.forms / "Fox.csv").unlink()
     (office.forms / "Fox.xlsx").write_bytes(book.bytes())
     why = "its XML isn't in UTF-8, as spreadsheets write it"
-    assert office.list_faults() == [f"forms/Fox.xlsx: {why}"]
+    assert office.list_faults() == [f"forms/Fox.xlsx:Bids: {why}"]
 
 
 def write_by_xlsxwriter(rows: workbooks.Rows) -> bytes:

@@ -8,12 +8,11 @@ import re
 import struct
 import zipfile
 from collections import defaultdict
-from collections.abc import Iterable, Iterator, Mapping, Sequence
+from collections.abc import Iterator, Mapping
 from contextlib import contextmanager
 from dataclasses import dataclass
 from io import BytesIO
-from typing import Any
-from xml.etree.ElementTree import Element, ParseError, XMLPullParser
+from xml.etree.ElementTree import Element, ParseError, TreeBuilder, XMLParser, XMLPullParser
 
 from wdp.office.faults import quote
 from wdp.office.known import HINT, KNOWN, find_unknown, find_unknown_attributes
@@ -50,6 +49,7 @@ _MOST_IGNORED = 100  # names of a part that mean nothing to a reader that doesn'
 _MOST_KEPT = 150_000  # elements and attributes of a part, beside those of rows that are read
 _LONGEST_PIECE = 64 * 1024  # bytes from one tag to the next: of a text, a comment, or a tag
 _CHUNK = 64 * 1024  # bytes that the parser gets at once
+_BEGINNING = 1024  # bytes that it gets at once until the root begins
 _DIRECTORY_ENTRY = b"PK\x01\x02"
 _DIRECTORY_END = b"PK\x05\x06"
 _END = struct.Struct("<12xIIH")  # size and place of an archive's directory, and size of a comment
@@ -119,9 +119,46 @@ def _check_text(data: bytes) -> None:
         last = following
 
 
-def _count(elements: Sequence[Element]) -> int:
-    """How many elements and attributes these are."""
+def _read_root(data: bytes) -> tuple[Element, Mapping[str, str]]:
+    """The root of an XML text as it begins, and the namespaces that it names, by their prefixes."""
+    parser = XMLPullParser(("start-ns", "start"))
+    namespaces: dict[str, str] = {}
+    for begin in range(0, len(data), _BEGINNING):
+        parser.feed(data[begin : begin + _BEGINNING])
+        for kind, found in parser.read_events():
+            if kind == "start":
+                return found, namespaces
+            namespaces[found[0]] = found[1]
+    parser.close()
+    raise BadWorkbook(f"{NO_WORKBOOK}: its XML has no element")
+
+
+def _count_elements(text: bytes) -> int:
+    """How many elements begin in a piece of an XML text, or more, if one of its comments has some."""
+    return text.count(b"<") - text.count(b"</") - text.count(b"<!") - text.count(b"<?")
+
+
+def _count_kept(root: Element) -> int:
+    """How many elements and attributes a tree has."""
+    elements = list(root.iter())
     return len(elements) + sum(map(len, map(Element.keys, elements)))
+
+
+def _find_namespace(root: Element) -> str:
+    """The namespace of a root, which is one that a part of a workbook has."""
+    namespace = root.tag.partition("}")[0][1:] if root.tag.startswith("{") else ""
+    if namespace not in (*MAIN, _RELATIONS, *_OTHERS):
+        raise BadWorkbook(f"{NO_WORKBOOK}: its XML begins with {quote(root.tag)}")
+    return namespace
+
+
+def _list_ignorable(root: Element, namespaces: Mapping[str, str]) -> Iterator[str]:
+    """The namespaces that a reader ignores if it doesn't know them."""
+    for prefix in root.get(f"{{{_COMPATIBILITY}}}Ignorable", "").split():
+        namespace = namespaces.get(prefix, "")
+        if not namespace or namespace in (*MAIN, *_LINKS, _COMPATIBILITY, _XML):
+            raise BadWorkbook(f"its XML ignores {quote(prefix)}, which isn't understood")
+        yield namespace
 
 
 class XmlPart:
@@ -134,13 +171,14 @@ class XmlPart:
 
     def __init__(self, data: bytes, budget: Budget) -> None:
         _check_text(data)
+        with _map_library_errors():
+            root, namespaces = _read_root(data)
         self.data = data
         self.budget = budget
-        self.root = Element("")
-        self._own: str | None = None
+        self.root = root
+        self._own = _find_namespace(root)
+        self._ignorable = set(_list_ignorable(root, namespaces))
         self._added = 0
-        self._namespaces: dict[str, str] = {}
-        self._ignorable: set[str] = set()
         self._ignored: set[str] = set()
         self._names: dict[str, str] = {}
         # the attributes that are known of elements, by the elements' names, and what elements are
@@ -162,58 +200,45 @@ class XmlPart:
 
     def _parse(self) -> Iterator[bool]:
         """Parses the text piece by piece, each of which adds to the tree; whether it is the last."""
-        parser = XMLPullParser(("start-ns", "start"))
+        builder = TreeBuilder()
+        # (what the root is put into, so that it is there as soon as it begins)
+        holder = builder.start("", {})
+        parser = XMLParser(target=builder)
         for begin in range(0, len(self.data) + 1, _CHUNK):
             is_ended = begin + _CHUNK > len(self.data)
+            piece = self.data[begin : begin + _CHUNK]
             with _map_library_errors():
-                parser.feed(self.data[begin : begin + _CHUNK])
+                parser.feed(piece)
                 if is_ended:
+                    builder.end("")
                     parser.close()
-                events = list(parser.read_events())
-            if self._own is None:
-                self._take_root(events)
-            self._take([found for kind, found in events if kind == "start"])
+            if len(holder):
+                self.root = holder[0]
+            self._count(piece)
             yield is_ended
 
-    def _take_root(self, events: Iterable[tuple[str, Any]]) -> None:
-        """Takes the root, if it is begun, and the namespaces that it names."""
-        for kind, found in events:
-            if kind == "start":
-                self._begin(found)
-                return
-            self._namespaces[found[0]] = found[1]
-
-    def _take(self, elements: Sequence[Element]) -> None:
-        """Takes elements that were begun. Each time as much is added as may be kept, what is kept
-        is counted.
+    def _count(self, piece: bytes) -> None:
+        """Counts the elements of a piece. Each time as many of them and of attributes may have been
+        added as may be kept, what is kept is counted.
         """
-        self.budget.take(len(elements))
-        self._added += _count(elements)
+        count = _count_elements(piece)
+        self.budget.take(count)
+        self._added += count + piece.count(b"=")
         if self._added > _MOST_KEPT:
             self._added = 0
-            if _count(list(self.root.iter())) > _MOST_KEPT:
+            if _count_kept(self.root) > _MOST_KEPT:
                 most = f"{_MOST_KEPT:,} elements and attributes"
                 raise BadWorkbook(f"its XML has more than {most} beside its rows, or in one row")
 
-    def _begin(self, root: Element) -> None:
-        """Takes the root: its namespace is that of the part, and it names others that a reader
-        ignores if it doesn't know them.
-        """
-        self.root = root
-        self._own = root.tag.partition("}")[0][1:] if root.tag.startswith("{") else ""
-        if self._own not in (*MAIN, _RELATIONS, *_OTHERS):
-            raise BadWorkbook(f"{NO_WORKBOOK}: its XML begins with {quote(root.tag)}")
-        for prefix in root.get(f"{{{_COMPATIBILITY}}}Ignorable", "").split():
-            namespace = self._namespaces.get(prefix, "")
-            if not namespace or namespace in (*MAIN, *_LINKS, _COMPATIBILITY, _XML):
-                raise BadWorkbook(f"its XML ignores {quote(prefix)}, which isn't understood")
-            self._ignorable.add(namespace)
+    def tag(self, name: str) -> str:
+        """The tag of an element that has the part's own namespace."""
+        return f"{{{self._own}}}{name}"
 
     def name(self, tag: str) -> str:
         """The name of an element; one without any namespace is none that a part has."""
         if tag not in self._names:
             namespace, _, local = tag.rpartition("}")
-            prefix = {**_PREFIXES, self._own or "": ""}.get(namespace[1:]) if namespace else None
+            prefix = {**_PREFIXES, self._own: ""}.get(namespace[1:]) if namespace else None
             self._names[tag] = f"{{}}{tag}" if not namespace else tag
             if prefix is not None:
                 self._names[tag] = f"{prefix}{local}"

@@ -5,10 +5,13 @@ and its colours, conditions, hidden and merged cells are looked at, and all that
 fault with its cell. What differs among the bids and hides nothing is named in the receipt.
 """
 import datetime
+import gc
 import re
 from collections import defaultdict
 from collections.abc import Collection, Iterator, Mapping, Sequence
+from contextlib import contextmanager
 from dataclasses import dataclass, field
+from functools import lru_cache
 from itertools import islice
 from xml.etree.ElementTree import Element
 
@@ -49,7 +52,7 @@ _MOST_VALUES = 150_000  # cells, more than a form has
 _MOST_ODD = 10_000  # cells that no form may have, after which the rest isn't read
 _MOST_SPILLED = 4_100  # formulas with values in other cells, more than a form has rows
 _SPILLED = ("array", "dataTable")
-_Style = tuple[str | None, str | None]
+_Style = str | int  # which a cell names, or else the column that it is in
 _EPOCHS = {False: datetime.datetime(1899, 12, 30), True: datetime.datetime(1904, 1, 1)}
 
 
@@ -148,7 +151,8 @@ class _Usual:
     """How cells look that are alike, and the numbers that they are known to show as they are."""
 
     look: Look
-    shown: range
+    least: int = 0
+    beyond: int = 0
 
 
 @dataclass(slots=True)
@@ -210,7 +214,7 @@ class _SheetReader:
     # how many cells have a value, and how many of them no form may have
     count: int = 0
     odd: int = 0
-    # what is known of cells by how their row is, the style that they name, and that of their column
+    # what is known of cells by how their row is, their column and the style that they name
     usual: defaultdict[RowLook, dict[_Style, _Usual]] = field(
         default_factory=lambda: defaultdict(dict)
     )
@@ -222,6 +226,8 @@ class _SheetReader:
         for row in self.part.iterate("sheetData", "row"):
             if not self.row:
                 self.layout.take_sheet(self.part)
+                tags = map(self.part.tag, ("c", "v", "f"))
+                self.cell_tag, self.value_tag, self.formula_tag = tags
             self._begin_row(row)
             values = self._read_row(row)
             if values:
@@ -281,16 +287,19 @@ class _SheetReader:
         """The values of a row up to its last one."""
         values: list[str] = []
         usual = self.usual[self.layout.row]
+        number = str(self.row)
         for element in row:
-            value = self._read_usual(element, usual)
+            value = self._read_usual(element, usual, number)
             if value is None:
                 value = self._read_cell(element)
-            if value is not None:
-                gap = self.column - 1 - len(values)
+            if value is None:
+                continue
+            gap = self.column - 1 - len(values)
+            if gap:
                 # (a bid has no empty field, though a row may have none after its last one)
                 self.odd += gap
                 values += [""] * gap
-                values.append(value)
+            values.append(value)
         if values:
             self.values.first_row = self.values.first_row or self.row
             self.count += len(values) - values.count("")
@@ -298,55 +307,57 @@ class _SheetReader:
                 raise BadWorkbook(f"it has more than {_MOST_VALUES:,} cells with a value")
         return values
 
-    def _read_usual(self, element: Element, usual: dict[_Style, _Usual]) -> str | None:
+    def _read_usual(self, element: Element, usual: dict[_Style, _Usual], row: str) -> str | None:
         """The number of the next cell of the row, if it has nothing else that is to be looked at."""
-        following = self.column + 1
-        place = f"{format_column(following)}{self.row}"
-        number = self._find_usual(element, place)
-        if number is None or following > MOST_CELLS:
+        column = self.column + 1
+        place = format_column(column) + row
+        attributes = element.attrib
+        style = attributes.get("s")
+        if element.tag != self.cell_tag or not _are_usual(attributes, style, place):
             return None
-        style = element.get("s")
-        key = style, None if style is not None else self.layout.styles.get(following)
-        known = usual.get(key)
-        if known is None:
-            known = usual[key] = self._judge_usual(following, style)
-        room = self.layout.rooms[following]
-        if number not in known.shown or not room:
+        if column > MOST_CELLS:
             return None
-        if number >= room:
-            self.remarks.narrow.append(place)
-        if len(element) == 2:
-            self.remarks.formulas.append(place)
-        self.column = following
-        self.values.columns[following].add(self.row, known.look)
-        return str(number)
-
-    def _find_usual(self, element: Element, place: str) -> int | None:
-        """The number of a cell that has nothing else than that, and perhaps a formula that has no
-        values in other cells.
-        """
-        name = self.part.name
-        if not 0 < len(element) < 3 or element.get("r", place) != place or name(element.tag) != "c":
+        count = len(element)
+        if count != 1 and not self._has_plain_formula(element, place):
             return None
         value = element[-1]
-        if element.get("t", "n") != "n" or name(value.tag) != "v" or len(value) or value.keys():
+        if value.tag != self.value_tag or len(value) or value.keys():
             return None
-        if len(element) == 2:
-            formula = element[0]
-            spills = formula.get("t") in _SPILLED and formula.get("ref") != place
-            if spills or name(formula.tag) != "f" or len(formula) or not self.part.knows(formula):
-                return None
-        return _parse_whole(value.text or "") if self.part.knows(element) else None
+        text = value.text
+        if not text or len(text) > _LONGEST_USUAL:
+            return None
+        key: _Style = column if style is None else style
+        known = usual.get(key)
+        if known is None:
+            known = usual[key] = self._judge_usual(column, style)
+        number, digits = _parse_whole(text)
+        is_shown = known.least <= number < known.beyond
+        if not is_shown or number >= self.layout.rooms[column]:
+            return None
+        if count == 2:
+            self.remarks.formulas.append(place)
+        self.column = column
+        self.values.columns[column].add(self.row, known.look)
+        return digits
+
+    def _has_plain_formula(self, element: Element, place: str) -> bool:
+        """Whether a cell has a formula that has no values in other cells, and one element more."""
+        if len(element) != 2:
+            return False
+        formula = element[0]
+        spills = formula.get("t") in _SPILLED and formula.get("ref") != place
+        is_plain = formula.tag == self.formula_tag and not len(formula)
+        return is_plain and not spills and self.part.knows(formula)
 
     def _judge_usual(self, column: int, style: str | None) -> _Usual:
         """What is known of the cells of a column that name this style."""
         styles = [style] if style is not None else self.layout.list_styles(column)
         looks = [look for look in map(self.book.styles.find, styles) if look]
         if len(looks) < len(styles) or self.layout.find_reason_of_row(looks[0]):
-            return _Usual(Look(NumberFormat(GENERAL)), range(0))
+            return _Usual(Look(NumberFormat(GENERAL)))
         ranges = [look.shown for look in looks]
         least = max(each.start for each in ranges)
-        return _Usual(looks[0], range(least, min(each.stop for each in ranges)))
+        return _Usual(looks[0], least, min(each.stop for each in ranges))
 
     def _read_cell(self, element: Element) -> str | None:
         """The value of a cell of the row, or None if it has nothing."""
@@ -474,12 +485,26 @@ class _SheetReader:
         return next((look for look in looks if look.find_reason(number)), looks[0])
 
 
-def _parse_whole(text: str) -> int | None:
-    """A whole number, which isn't below 0, as a cell has it; None if it isn't one."""
-    if text.isdigit() and text.isascii() and len(text) <= _LONGEST_USUAL:
-        return int(text)
-    number = float(text) if NUMBER.fullmatch(text) else -1.0
-    return int(number) if number.is_integer() and 0 <= number < MOST_SHOWN else None
+def _are_usual(attributes: Mapping[str, str], style: str | None, place: str) -> bool:
+    """Whether these are a style, the place and the kind of a number, or fewer of them."""
+    count = len(attributes) - (style is not None)
+    if attributes.get("r") == place:
+        count -= 1
+    return not count or count == 1 and attributes.get("t") == "n"
+
+
+@lru_cache(maxsize=4_096)
+def _parse_whole(text: str) -> tuple[int, str]:
+    """A whole number, which isn't below 0, by the few characters that a cell has, and its digits; -1
+    if it isn't one.
+    """
+    number: float = -1
+    if text.isdigit() and text.isascii():
+        number = int(text)
+    elif NUMBER.fullmatch(text):
+        number = float(text)
+    is_whole = 0 <= number < MOST_SHOWN and number == int(number)
+    return (int(number), str(int(number))) if is_whole else (-1, "")
 
 
 def _format_date(number: float, *, is_of_1904: bool) -> str:
@@ -491,16 +516,27 @@ def _format_date(number: float, *, is_of_1904: bool) -> str:
     return str(date.date() if date.time() == datetime.time() else date)
 
 
-def _begins_as_form(book: _Workbook, sheet: _Sheet, heads: Collection[str]) -> bool:
+@contextmanager
+def _name_sheet(path: str, sheet: _Sheet) -> Iterator[None]:
+    """Within this a fault is one of this sheet, or of a cell of it."""
+    try:
+        yield
+    except BadWorkbook as bad:
+        cell = f"!{bad.cell}" if bad.cell else ""
+        raise Unreadable(f"{path}:{sheet.name}{cell}", bad.why) from None
+
+
+def _begins_as_form(book: _Workbook, sheet: _Sheet, path: str, heads: Collection[str]) -> bool:
     """Whether one of the first rows of a sheet begins with one of these words."""
     reader = _SheetReader(book, sheet, File("", b""), rows_alone=True)
-    rows = islice(reader.rows(), _MOST_OF_A_TITLE)
-    first_values = (next(filter(None, row.values), "") for row in rows)
-    return any(value.strip().lower() in heads for value in first_values)
+    with _name_sheet(path, sheet):
+        rows = islice(reader.rows(), _MOST_OF_A_TITLE)
+        first_values = (next(filter(None, row.values), "") for row in rows)
+        return any(value.strip().lower() in heads for value in first_values)
 
 
-def _choose_sheet(book: _Workbook, name: str | None, heads: Collection[str]) -> _Sheet:
-    """The sheet of this name, or the first one.
+def _choose_sheet(book: _Workbook, name: str | None, path: str, heads: Collection[str]) -> _Sheet:
+    """The sheet of this name, or the first one of the workbook at a path.
 
     No other may then be hidden, or begin with one of these heads, in any case.
     """
@@ -514,7 +550,7 @@ def _choose_sheet(book: _Workbook, name: str | None, heads: Collection[str]) -> 
             raise BadWorkbook(f"its sheet {quote(sheet.name)} is hidden; delete it, or {hint}")
     known = {head.lower() for head in heads}
     for sheet in book.sheets[1:]:
-        if _begins_as_form(book, sheet, known):
+        if _begins_as_form(book, sheet, path, known):
             raise BadWorkbook(f"its sheet {quote(sheet.name)} begins as a form does, too; {hint}")
     return book.sheets[0]
 
@@ -530,18 +566,29 @@ def _find_sheet(sheets: Sequence[_Sheet], name: str) -> _Sheet:
     raise BadWorkbook(f"it has no sheet {quote(name)}, but {names}")
 
 
+@contextmanager
+def _pause_collector() -> Iterator[None]:
+    """Within this nothing looks for cycles of objects. The elements of a sheet are in none, and are
+    so many that a third of the time would go into looking at them.
+    """
+    was_enabled = gc.isenabled()
+    gc.disable()
+    try:
+        yield
+    finally:
+        if was_enabled:
+            gc.enable()
+
+
 def _fill_from_sheet(file: File, most: int, name: str | None, heads: Collection[str]) -> None:
     """Fills a file with the rows of a sheet, at most so many."""
     book = _Workbook(file.data)
-    sheet = _choose_sheet(book, name, heads)
+    sheet = _choose_sheet(book, name, file.path, heads)
     reader = _SheetReader(book, sheet, file)
     others = f", of {len(book.sheets)} sheets" if len(book.sheets) > 1 else ""
     file.changes.append(f"read from sheet {sheet.name}{others}")
-    try:
+    with _name_sheet(file.path, sheet):
         file.fill(reader.rows(), most)
-    except BadWorkbook as bad:
-        place = f"{file.path}:{sheet.name}!{bad.cell}" if bad.cell else file.path
-        raise Unreadable(place, bad.why) from None
     reader.add_faults()
 
 
@@ -560,7 +607,8 @@ def read_workbook(
     """
     file = File(path, data)
     try:
-        _fill_from_sheet(file, most, name=sheet, heads=heads)
+        with _pause_collector():
+            _fill_from_sheet(file, most, name=sheet, heads=heads)
     except BadWorkbook as bad:
         raise Unreadable(path, bad.why) from None
     return file

@@ -15,6 +15,7 @@ LINE_END = re.compile(r"\r\n|\n|\r")
 BYTE_ORDER_MARK = "\ufeff"
 # what would be read as something else, as the head of a part, and a mark that is dropped
 _NEEDS_QUOTES = re.compile(f'[,"\\r\\n]|^%|^{BYTE_ORDER_MARK}')
+_MAY_NEED_QUOTES = re.compile(f'[,"\\r\\n%{BYTE_ORDER_MARK}]')  # of a whole record
 
 
 @dataclass
@@ -132,7 +133,9 @@ def format_record(values: Sequence[str]) -> str:
     >>> format_record(["Alpha", "A, B"])
     'Alpha,"A, B"\\n'
     """
-    return (",".join(map(format_field, values)) or '""') + "\n"
+    if _MAY_NEED_QUOTES.search("".join(values)):
+        values = [format_field(value) for value in values]
+    return (",".join(values) or '""') + "\n"
 
 
 def format_field(value: str, special: re.Pattern[str] = _NEEDS_QUOTES) -> str:
