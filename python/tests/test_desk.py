@@ -3,15 +3,18 @@ keeps, and what an office does wrong.
 """
 import contextlib
 import hashlib
+import http.client
 import os
 import signal
 import socket
+import threading
 from collections.abc import Iterator
+from concurrent.futures import ThreadPoolExecutor
 from functools import partial
 from pathlib import Path
 
 import pytest
-from commands import check_stopped, hide_library, run, run_program
+from commands import check_stopped, hide_library, run, run_program, wait_for
 from desks import (
     FORM_OF,
     MANY_BIDDERS,
@@ -368,16 +371,34 @@ def test_a_journal_of_other_rules_is_refused(desk: DeskFolder) -> None:
     assert seen.err.count("\n") == 1
 
 
+def test_the_filter_ends_under_load_and_so_does_the_desk(desk: DeskFolder) -> None:
+    """Whoever calls goes on calling: the desk ends nevertheless."""
+    with desk.serve() as served:
+        is_over = threading.Event()
+
+        def call(session: int) -> None:
+            amount = 100 * session
+            while not is_over.is_set():
+                amount += 1
+                form = make_form("Alpha", amount)
+                with contextlib.suppress(OSError, http.client.HTTPException):
+                    served.call("PUT", "/form?over=any", form, key=desk.keys["Alpha", session])
+
+        with ThreadPoolExecutor(12) as threads:
+            for number in range(12):
+                threads.submit(call, number % 3 + 1)
+            try:
+                wait_for(lambda: desk.journal.count(b"%call") > 10)
+                os.kill(served.find_filter(), signal.SIGKILL)
+                assert served.wait() == 3
+            finally:
+                is_over.set()
+
+
 def test_the_filter_ends_and_so_does_the_desk(desk: DeskFolder) -> None:
     with desk.serve() as served:
         served.put()
-        children = Path(f"/proc/{served.process.pid}/task/{served.process.pid}/children")
-        commands = {
-            int(pid): Path(f"/proc/{pid}/cmdline").read_bytes()
-            for pid in children.read_text().split()
-        }
-        filters = [pid for pid, command in commands.items() if b"journal" in command]
-        os.kill(filters[0], signal.SIGKILL)
+        os.kill(served.find_filter(), signal.SIGKILL)
         assert served.wait() == 3
     with desk.serve() as served:
         assert served.look()["stands"]["number"] == 1

@@ -24,7 +24,7 @@ from wdp.desk.calls import Reply  # noqa: E402
 from wdp.desk.clock import Clock, Jumped, format_time, parse_time  # noqa: E402
 from wdp.desk.filter import FilterEnded  # noqa: E402
 from wdp.desk.keys import Session  # noqa: E402
-from wdp.desk.readers import TOO_LONG, Readers  # noqa: E402
+from wdp.desk.readers import TOO_LONG, Readers, ReadersStopped  # noqa: E402
 from wdp.desk.reading import Reading, Standing  # noqa: E402
 from wdp.desk.room import SIZE, Room  # noqa: E402
 from wdp.desk.service import Desk, FormCall, Over  # noqa: E402
@@ -159,6 +159,25 @@ def test_what_takes_too_long_or_too_much_memory_is_ended(folder: DeskFolder, wdp
 
     asyncio.run(check())
     assert reading.SECONDS == 5 and reading.MEMORY == 2**30
+
+
+def test_readers_that_are_stopped_start_no_child(folder: DeskFolder, wdp: str) -> None:
+    """Whoever waits for one is told at once: the process of a desk that ends doesn't stay."""
+
+    async def check() -> None:
+        readers = Readers(wdp, folder.where / "rules.csv", holder="09" + "00" * 31, count=1)
+        script = folder.write("endless.py", ENDLESS.replace("SECONDS = 0", "SECONDS = 10_000"))
+        readers._command[1:3] = [str(script)]
+        await readers.start()
+        asked = [asyncio.create_task(readers.read(b"endless", "key", Standing())) for _ in "123"]
+        await asyncio.sleep(0.5)
+        await asyncio.wait_for(readers.stop(), 60)
+        told = asyncio.gather(*asked, return_exceptions=True)
+        answers = await asyncio.wait_for(told, 60)
+        assert [type(answer) for answer in answers] == [ReadersStopped] * 3
+        assert not readers._children
+
+    asyncio.run(check())
 
 
 def test_a_bidder_has_so_much_in_hand(folder: DeskFolder) -> None:

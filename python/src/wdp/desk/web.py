@@ -18,6 +18,7 @@ from wdp.desk.clock import Jumped, format_time
 from wdp.desk.filter import FilterEnded
 from wdp.desk.keys import OFFICE, Session
 from wdp.desk.outcomes import Outcome
+from wdp.desk.readers import ReadersStopped
 from wdp.desk.service import Desk, FormCall, Over
 from wdp.office.sheets import MOST_OF_A_FILE
 
@@ -146,6 +147,9 @@ class Site:
             response = self._say(request, problem.status, problem.words)
         except FilterEnded:
             response = self._respond(request, Outcome("unknown"))
+        except ReadersStopped:
+            words = "the desk ends, and nothing was taken; send the same once more"
+            response = self._say(request, HTTPStatus.SERVICE_UNAVAILABLE, words)
         except Jumped:
             response = self._respond(request, Outcome("stopped"))
         except web.HTTPException as error:
