@@ -10,7 +10,7 @@ from typing import Any
 import aiohttp
 
 from desk_trials.desks import make_form
-from desk_trials.judging import Judge
+from trials.desk_judge import Judge
 
 MOST_SECONDS = 900
 Row = tuple[str, int, str]

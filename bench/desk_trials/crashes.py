@@ -13,8 +13,9 @@ from pathlib import Path
 
 from desk_trials.callers import Callers, Load, open_client
 from desk_trials.desks import DeskFolder, Forked, Service, Starter, make_form, make_rules
-from desk_trials.judging import Judge, read_entries, settle
 from desk_trials.machines import FilterMachine, PoweredDisk, make_library, mount_small
+from desk_trials.settling import settle
+from trials.desk_judge import Judge, read_entries
 
 CALLERS_OF_A_BIDDER = 2
 # how a trial of one desk ends it, and what is counted
@@ -24,6 +25,13 @@ End = Callable[[Forked], Awaitable[list[str]]]
 def kill(pid: int) -> None:
     with contextlib.suppress(ProcessLookupError):
         os.kill(pid, signal.SIGKILL)
+
+
+async def wait_until_dead(pid: int) -> None:
+    """(Who has no parent any more is only buried after a while.)"""
+    with contextlib.suppress(FileNotFoundError):
+        while Path(f"/proc/{pid}/stat").read_text().rpartition(")")[2].split()[0] not in "ZX":
+            await asyncio.sleep(0.002)
 
 
 async def wait_in_thread(service: Forked) -> None:
@@ -59,6 +67,11 @@ class Rounds:
         await self.load.wait_for_receipts()
         await asyncio.sleep(self.draw.random() ** 2 * 0.4)
         self.counted.update(await end(service))
+        self.pause()
+
+    def pause(self) -> None:
+        """No caller makes a new call until the next start."""
+        assert self.load
         self.load.is_up.clear()
 
     async def run(self, end: End) -> None:
@@ -85,16 +98,14 @@ def run_kills(options: argparse.Namespace, folder: Path) -> bool:
     async def end(service: Forked) -> list[str]:
         filter_ = service.find_filter()
         kind = rounds.draw.randrange(3)
-        if kind == 0:
-            kill(filter_)
-        elif kind == 1:
+        if kind != 0:
             kill(service.pid)
-        else:
-            kill(service.pid)
+        if kind != 1:
             kill(filter_)
+        await asyncio.sleep(0.05)
+        rounds.pause()
         await wait_in_thread(service)
-        while Path(f"/proc/{filter_}").exists():
-            await asyncio.sleep(0.002)
+        await wait_until_dead(filter_)
         counted = [("kills of the filter", "kills of the service", "kills of both")[kind]]
         if rounds.draw.random() < 0.8 and machine.tear(rounds.draw, desk.journal):
             counted.append("torn ends")
@@ -111,6 +122,8 @@ def run_sync(options: argparse.Namespace, folder: Path) -> bool:
 
     async def end(service: Forked) -> list[str]:
         machine.fails.touch()
+        await asyncio.sleep(0.05)
+        rounds.pause()
         await wait_in_thread(service)
         machine.fails.unlink()
         # (pages that couldn't be written are lost, though they could be read until now)
@@ -137,8 +150,7 @@ def run_power(options: argparse.Namespace, folder: Path) -> bool:
         kill(filter_)
         kill(service.pid)
         await wait_in_thread(service)
-        while Path(f"/proc/{filter_}").exists():
-            await asyncio.sleep(0.002)
+        await wait_until_dead(filter_)
         return ["power cuts"]
 
     async def cut_often() -> None:

@@ -14,7 +14,8 @@ import aiohttp
 
 from desk_trials.callers import Callers, Row, hand_in_all, open_client
 from desk_trials.desks import DeskFolder, Service, make_form, make_rules
-from desk_trials.judging import Judge, read_entries, settle
+from desk_trials.settling import settle
+from trials.desk_judge import Judge, read_entries
 
 FLOOR = """
 import asyncio, os, sys

@@ -5,6 +5,7 @@ import contextlib
 import hashlib
 import http.client
 import os
+import random
 import signal
 import socket
 import threading
@@ -28,6 +29,7 @@ from desks import (
 for _name in ("aiohttp", "cryptography"):
     pytest.importorskip(_name, reason=f"{_name} isn't there")
 
+from trials.desk_judge import Judge  # noqa: E402
 
 pytestmark = pytest.mark.usefixtures("wdp_desk")
 
@@ -303,9 +305,55 @@ def test_a_round_from_the_forms_to_the_winners(desk: DeskFolder, wdp: str) -> No
     check_stopped(desk.desk("open", desk.holder, desk.folder), "it has other files")
 
 
+def test_all_that_was_told_in_a_run_is_kept(desk: DeskFolder, wdp: str) -> None:
+    """Forms, withdrawals and statements of all sessions at once, over whatever stood and over what
+    may stand, in two starts; a judge of its own checks each receipt.
+    """
+    judge = Judge()
+
+    def work(served: Served, session: tuple[str, int], seed: int) -> None:
+        draw = random.Random(seed)
+        for _ in range(12):
+            form = make_form(session[0], draw.randint(10, 99))
+            judge.send(session[0], form)
+            over_any = draw.random() < 0.5
+            calls = [("PUT", "/form", form), ("PUT", "/form", form), ("DELETE", "/form", None)]
+            method, path, body = draw.choice([*calls, ("POST", "/show", None)])
+            headers = {} if over_any else {"If_Match": f'"{draw.randint(1, 9)}"'}
+            path += "?over=any" if over_any else ""
+            answer = served.call(method, path, body, key=desk.keys[session], **headers)
+            assert answer.status in (200, 404, 412), answer
+            judge.take(answer.members)
+
+    sessions = [session for session in desk.keys if session[0] != "-"]
+    for seed in (10, 20):
+        with desk.serve() as served, ThreadPoolExecutor(len(sessions)) as threads:
+            works = [
+                threads.submit(work, served, session, seed + number)
+                for number, session in enumerate(sessions)
+            ]
+            for each in works:
+                each.result()
+            judge.heads.append(served.call("GET", "/head").body.decode())
+            if seed == 20:
+                judge.take(served.call("POST", "/close", key=desk.office).members)
+    assert desk.desk("open", desk.holder, desk.output).status == 0
+    forms = run_program(wdp, "forms", (desk.output / "input.txt").read_bytes()).decode()
+    assert len(judge.receipts) > 60
+    assert judge.judge(desk.journal, forms) == []
+
+
 def test_a_second_process_is_refused(desk: DeskFolder) -> None:
-    with desk.serve():
+    with desk.serve() as served:
+        served.put()
+        before = read_folder(desk.where)
         check_stopped(desk.desk("serve", "--port", 1), f"another run works in {desk.where}")
+        assert read_folder(desk.where) == before
+        assert served.look()["stands"]["number"] == 1
+
+
+def read_folder(folder: Path) -> dict[str, bytes]:
+    return {path.name: path.read_bytes() for path in folder.iterdir() if path.is_file()}
 
 
 def test_what_an_office_does_wrong(desk: DeskFolder) -> None:

@@ -1,5 +1,8 @@
 """A judge of desks that shares no code with the package: each receipt's signature, entry, chain and commitment, that each entry's
 answer is the one that the calls before it leave, and that `wdp forms` prints the form of each bidder's last change, as it was sent."""
+
+from __future__ import annotations
+
 import hashlib
 import re
 from collections import defaultdict
@@ -11,15 +14,27 @@ from typing import Any, NamedTuple
 from cryptography.exceptions import InvalidSignature
 from cryptography.hazmat.primitives.asymmetric.ed25519 import Ed25519PublicKey
 
-from desk_trials.desks import DeskFolder, find_wdp, run
-
-CALL = re.compile(rb"%call (\d+) (\d+) (\S+) (\d+) (\w+) (\d+|-) ([0-9a-f]{64}|-) (\d+) (\d+) (\d+)\n")
+CALL = re.compile(
+    rb"%call (\d+) (\d+) (\S+) (\d+) (\w+) (\d+|-) ([0-9a-f]{64}|-) (\d+) (\d+) (\d+)\n"
+)
 REPLY = re.compile(rb"\n%reply ([a-z]+) (\d+|-) ([0-9a-f]{64})\n")
 RECEIPT = re.compile(
     r"entry (?P<entry>\d+), (?P<time>\S+)\n(?:bidder (?P<bidder>\S+), session (?P<session>\d+)\n|the office\n)?"
     r"answer (?P<answer>\w+)(?: (?P<number>\d+|none))?\n(?:form (?P<form>\w+), salt (?P<salt>\w+), (?P<bids>\d+) bids?\n)?"
     r"chain (?P<chain>\w+)\n"
 )
+
+
+HEAD = re.compile(r"\nentries (\d+)\nchain (\w+)\n")
+
+
+def is_signed(said: str, key: Ed25519PublicKey) -> bool:
+    text, _, signature = said.rpartition("signature ")
+    try:
+        key.verify(bytes.fromhex(signature.strip()), text.encode())
+    except InvalidSignature:
+        return False
+    return True
 
 
 class Entry(NamedTuple):
@@ -79,9 +94,10 @@ def find_wrong_answers(entries: list[Entry]) -> Iterator[str]:
 
 @dataclass
 class Judge:
-    """Receipts as callers got them, and the digests of what each bidder has sent."""
+    """Receipts and heads as callers got them, and the digests of what each bidder has sent."""
 
     receipts: list[str] = field(default_factory=list)
+    heads: list[str] = field(default_factory=list)
     sent: dict[str, set[str]] = field(default_factory=lambda: defaultdict(set))
     wrong: list[str] = field(default_factory=list)
 
@@ -92,30 +108,40 @@ class Judge:
         if "receipt" in members:
             self.receipts.append(members["receipt"])
 
-    def judge(self, journal: bytes, forms: str | None = None) -> bool:
-        """Says what is wrong or lost; whether nothing is."""
+    def judge(self, journal: bytes, forms: str | None = None) -> list[str]:
+        """What is wrong or lost."""
         entries = {entry.number: entry for entry in read_entries(journal)}
-        key = Ed25519PublicKey.from_public_bytes(bytes.fromhex(journal.split(b"\n")[0].split()[6].decode()))
+        self.wrong = []
+        key = Ed25519PublicKey.from_public_bytes(
+            bytes.fromhex(journal.split(b"\n")[0].split()[6].decode())
+        )
         self.wrong += find_wrong_answers(list(entries.values()))
         for receipt in self.receipts:
             self.wrong += self.judge_receipt(receipt, entries, key)
+        for head in self.heads:
+            self.wrong += self.judge_head(head, entries, key)
         if forms is not None:
             self.wrong += self.judge_forms(forms, entries)
-        end = max((entry.end for entry in entries.values()), default=0)
-        behind = len(journal) - end if end else 0
-        print(f"{len(self.receipts)} receipts, {len(self.wrong)} lost or wrong; {len(entries)} entries, {behind} bytes behind them")
-        for text in self.wrong[:3]:
-            print("WRONG", text)
-        return not self.wrong
+        return self.wrong
 
-    def judge_receipt(self, receipt: str, entries: dict[int, Entry], key: Ed25519PublicKey) -> Iterator[str]:
-        text, _, signature = receipt.rpartition("signature ")
-        try:
-            key.verify(bytes.fromhex(signature.strip()), text.encode())
-        except InvalidSignature:
+    def judge_head(
+        self, head: str, entries: dict[int, Entry], key: Ed25519PublicKey
+    ) -> Iterator[str]:
+        if not is_signed(head, key):
+            yield f"not signed: {head}"
+            return
+        said = HEAD.search(head)
+        entry = entries.get(int(said[1])) if said else None
+        if not said or not entry or entry.chain != said[2].encode():
+            yield f"another chain: {head}"
+
+    def judge_receipt(
+        self, receipt: str, entries: dict[int, Entry], key: Ed25519PublicKey
+    ) -> Iterator[str]:
+        if not is_signed(receipt, key):
             yield f"not signed: {receipt}"
             return
-        said = RECEIPT.search(text)
+        said = RECEIPT.search(receipt)
         entry = entries.get(int(said["entry"])) if said else None
         if not said or not entry:
             yield f"no entry: {receipt}"
@@ -124,8 +150,15 @@ class Judge:
         time = datetime.fromisoformat(said["time"]) - datetime.fromtimestamp(0, timezone.utc)
         if time // timedelta(microseconds=1) != entry.time:
             yield f"another time: {receipt} {entry}"
-        kept = (entry.bidder.decode(), str(entry.session), entry.answer.decode(), change, entry.chain.decode())
-        if kept != said.group("bidder", "session", "answer", "number", "chain"):
+        kept = (
+            entry.bidder.decode(),
+            str(entry.session),
+            entry.answer.decode(),
+            change,
+            entry.chain.decode(),
+        )
+        whose = (said["bidder"] or "-", said["session"] or "0", said["answer"])
+        if kept != (*whose, said["number"] or "none", said["chain"]):
             yield f"another entry: {receipt} {entry}"
         if said["form"]:
             commitment = hashlib.sha256(f"{said['salt']}{said['form']}".encode()).hexdigest()
@@ -143,17 +176,14 @@ class Judge:
                 last[entry.bidder.decode()] = entry
         stand = {name: entry for name, entry in last.items() if entry.answer == b"accepted"}
         yield from (f"forms: {name}" for name in stand.keys() ^ printed.keys())
-        yield from (f"a form that wasn't sent: {name}" for name, form in printed.items() if form not in self.sent[name])
+        yield from (
+            f"a form that wasn't sent: {name}"
+            for name, form in printed.items()
+            if form not in self.sent[name]
+        )
         for receipt in self.receipts:
             said = RECEIPT.search(receipt)
-            if said and said["form"] and last[said["bidder"]].number == int(said["entry"]):
+            change = last.get(said["bidder"]) if said and said["form"] else None
+            if said and change and change.number == int(said["entry"]):
                 if printed.get(said["bidder"]) != said["form"]:
                     yield f"the settled form is another one: {receipt}"
-
-
-def settle(desk: DeskFolder, judge: Judge) -> bool:
-    """Closes, opens, and judges with what `wdp forms` prints; whether nothing is wrong."""
-    desk.desk("close")
-    desk.desk("open", desk.holder, desk.beside / "out")
-    forms = run(find_wdp(), "forms", desk.beside / "out/input.txt")
-    return judge.judge(desk.journal.read_bytes(), forms)
