@@ -13,7 +13,7 @@ from pathlib import Path
 from typing import Any
 
 import pytest
-from desks import FORM, DeskFolder, Served
+from desks import FORM, MANY_BIDDERS, MANY_RULES, DeskFolder, Served, make_form
 
 aiohttp = pytest.importorskip("aiohttp", reason="aiohttp isn't there")
 
@@ -248,19 +248,41 @@ def test_the_offices_page(served: Served, tmp_path: Path) -> None:
 
 def post(served: Served, fields: dict[str, Any]) -> tuple[int, str]:
     """What a browser without scripts gets for a form with these fields."""
+    return post_all(served, [fields])[0]
 
-    async def call() -> tuple[int, str]:
+
+def post_all(served: Served, forms: list[dict[str, Any]]) -> list[tuple[int, str]]:
+    """What so many browsers get at once."""
+
+    async def call(client: Any, fields: dict[str, Any]) -> tuple[int, str]:
         data = aiohttp.FormData()
         for name, value in fields.items():
             if isinstance(value, bytes):
                 data.add_field(name, value, filename="form.csv")
             else:
                 data.add_field(name, value)
-        async with aiohttp.ClientSession() as client:
-            async with client.post(f"http://127.0.0.1:{served.port}/", data=data) as reply:
-                return reply.status, await reply.text()
+        async with client.post(f"http://127.0.0.1:{served.port}/", data=data) as reply:
+            return reply.status, await reply.text()
 
-    return asyncio.run(call())
+    async def call_all() -> list[tuple[int, str]]:
+        async with aiohttp.ClientSession(connector=aiohttp.TCPConnector(limit=0)) as client:
+            return list(await asyncio.gather(*(call(client, fields) for fields in forms)))
+
+    return asyncio.run(call_all())
+
+
+def test_many_browsers_without_scripts_at_once(tmp_path: Path) -> None:
+    """A bidder may have so many calls in hand, and all together may have more."""
+    with DeskFolder(tmp_path, MANY_RULES).serve() as served:
+        forms = []
+        for name in MANY_BIDDERS:
+            send = {"do": "send", "over": "-", "file": make_form(name, 30)}
+            keys = [served.desk.keys[name, session] for session in (1, 2, 3)]
+            forms += [{**send, "key": key} for key in keys * 3]
+        answers = post_all(served, forms)
+        assert len(answers) == 180
+        assert {status for status, _ in answers} == {200}
+        assert sum("Accepted as number 1" in text for _, text in answers) == 20
 
 
 def test_the_pages_forms_without_a_browser(served: Served) -> None:
