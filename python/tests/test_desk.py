@@ -8,6 +8,7 @@ import os
 import random
 import signal
 import socket
+import subprocess
 import threading
 from collections.abc import Iterator
 from concurrent.futures import ThreadPoolExecutor
@@ -83,6 +84,7 @@ def test_a_call_says_over_what_it_is_made(bidder: Bidder) -> None:
     assert bidder.call("PUT", "/form", bidder.form, If_None_Match="x").status == 400
     both = {"If_Match": '"1"', "If_None_Match": "*"}
     assert bidder.call("PUT", "/form", bidder.form, **both).status == 428
+    assert bidder.call("DELETE", "/form").status == 428
     assert bidder.put(number=7).status == 412
     assert bidder.call("PUT", "/form?over=any", bidder.form).word == "accepted"
     assert bidder.call("PUT", "/form?over=any", bidder.make_form(90)).status == 200
@@ -402,6 +404,12 @@ def test_what_an_office_does_wrong(desk: DeskFolder) -> None:
         check_stopped(desk.desk("open", desk.holder, desk.output), "the round isn't closed")
         served.call("POST", "/close", key=desk.office)
     check_stopped(desk.desk("open", folder / "holder.pub", desk.output), "others than its owner")
+    signing = folder / "signing.pem"
+    subprocess.run(["openssl", "genpkey", "-algorithm", "ED25519", "-out", signing], check=True)
+    (folder / "holder.pub").chmod(0o600)
+    for path in (folder / "holder.pub", signing):
+        words = f"{path}: it has no private key of X25519"
+        check_stopped(desk.desk("open", path, desk.output), words)
     other = DeskFolder(make_folder(folder / "third"))
     check_stopped(
         desk.desk("open", other.holder, desk.output), "entry 1, of Alpha: it isn't sealed"
