@@ -460,6 +460,31 @@ def test_the_filter_ends_and_so_does_the_desk(desk: DeskFolder) -> None:
         assert served.look()["stands"]["number"] == 1
 
 
+NO_FILTER = """#!/usr/bin/python3
+import hashlib, sys
+front = sys.stdin.buffer.readline() + sys.stdin.buffer.readline()
+front += sys.stdin.buffer.read(int(front.split()[-1]))
+with open(sys.argv[1], "wb") as file:
+    file.write(front)
+print("0 opened 0", hashlib.sha256(front).hexdigest(), flush=True)
+sys.stdin.buffer.readline()
+print("REPLY", flush=True)
+sys.stdin.read()
+"""
+
+
+@pytest.mark.parametrize("reply", ["nonsense", "- round over\\n- round over"])
+def test_a_filter_that_cant_be_understood(desk: DeskFolder, reply: str) -> None:
+    """The desk ends, with one line, and its caller learns that nobody knows what was taken."""
+    program = desk.write("filter", NO_FILTER.replace("REPLY", reply))
+    program.chmod(0o755)
+    with desk.serve(WDP_DESK=str(program)) as served:
+        answer = served.call("POST", "/show", key=desk.keys["Alpha", 1])
+        assert answer.status == (503 if reply == "nonsense" else 410)
+        assert served.wait() == 3
+        assert "wdp-desk printed a reply" in served.lines[-1]
+
+
 def test_libraries_that_are_missing_are_one_line(desk: DeskFolder, tmp_path: Path) -> None:
     folder = make_folder(tmp_path / "hidden")
     seen = run("desk", "close", desk.where, **hide_library("aiohttp", folder))
