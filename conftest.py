@@ -88,7 +88,17 @@ def wdp_solve(pytestconfig: pytest.Config) -> str:
 @pytest.fixture(scope="session")
 def failing(tmp_path_factory: pytest.TempPathFactory) -> str:
     """The library of tools/trials/failing.c, to preload."""
-    made = tmp_path_factory.mktemp("failing") / "failing.so"
-    source = Path(ROOT, "tools/trials/failing.c")
+    return make_library(tmp_path_factory, "failing")
+
+
+@pytest.fixture(scope="session")
+def machine(tmp_path_factory: pytest.TempPathFactory) -> str:
+    """The library of tools/trials/machine.c, to preload."""
+    return make_library(tmp_path_factory, "machine")
+
+
+def make_library(folders: pytest.TempPathFactory, name: str) -> str:
+    made = folders.mktemp(name) / f"{name}.so"
+    source = Path(ROOT, f"tools/trials/{name}.c")
     subprocess.run(["cc", "-shared", "-fPIC", "-O1", "-o", made, source, "-ldl"], check=True)
     return str(made)

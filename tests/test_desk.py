@@ -5,7 +5,7 @@ from __future__ import annotations
 import os
 import random
 import subprocess
-import time
+from dataclasses import replace
 from pathlib import Path
 
 import pytest
@@ -21,52 +21,18 @@ from trials.desk_calls import (
     submission,
     without_chains,
 )
+from trials.desk_runs import (
+    Conversation,
+    damage,
+    find_wrong_verdict,
+    kill_under_calls,
+    make_journal,
+    replayed,
+    run,
+    told_entries,
+    torn,
+)
 from trials.program import ROOT
-
-
-def run(program: str, journal: Path, calls: bytes) -> subprocess.CompletedProcess[bytes]:
-    return subprocess.run([program, str(journal)], input=calls, capture_output=True, timeout=120)
-
-
-def replayed(program: str, journal: Path) -> subprocess.CompletedProcess[bytes]:
-    return subprocess.run([program, "--replay", str(journal)], capture_output=True, timeout=120)
-
-
-class Conversation:
-    """A desk that is called and answers one call after the other."""
-
-    def __init__(self, program: str, journal: Path, front: bytes = FRONT) -> None:
-        self.process = subprocess.Popen(
-            [program, str(journal)],
-            stdin=subprocess.PIPE,
-            stdout=subprocess.PIPE,
-            stderr=subprocess.PIPE,
-        )
-        self.opened = self.ask(front)
-
-    def send(self, data: bytes) -> None:
-        assert self.process.stdin
-        self.process.stdin.write(data)
-        self.process.stdin.flush()
-
-    def read(self) -> bytes:
-        assert self.process.stdout
-        line = self.process.stdout.readline()
-        if line.startswith(b"- refused "):
-            line += b"".join(self.process.stdout.readline() for _ in range(int(line.split()[2])))
-        return line
-
-    def ask(self, data: bytes) -> bytes:
-        self.send(data)
-        return self.read()
-
-    def kill(self) -> None:
-        self.process.kill()
-        self.process.communicate()
-
-    def end(self) -> tuple[bytes, bytes, int]:
-        out, error = self.process.communicate()
-        return out, error, self.process.returncode
 
 
 @pytest.fixture(scope="module")
@@ -287,55 +253,67 @@ def test_replies_come_while_the_input_is_open(wdp_desk: str, tmp_path: Path) -> 
     desk.end()
 
 
-def told_entries(told: list[bytes]) -> list[tuple[bytes, bytes]]:
-    """Number and chain of each entry that was told."""
-    return [(line.split()[0], line.split()[-1]) for line in told if line[:1].isdigit()]
-
-
-def torn(data: bytes, end: int, chance: random.Random) -> bytes:
-    """A journal of which so many bytes were on the disk: of the sectors behind them some weren't written."""
-    rest = bytearray(data[end:])
-    for sector in range(0, len(rest) + 512, 512):
-        at = sector - end % 512
-        if chance.random() < 0.5:
-            low, high = max(at, 0), max(at + 512, 0)
-            rest[low:high] = bytes(len(rest[low:high]))
-    kept = chance.randint(0, len(rest))
-    return data[:end] + bytes(rest[:kept])
-
-
-@pytest.mark.parametrize("seed", range(12))
-def test_kills_and_torn_ends(wdp_desk: str, tmp_path: Path, seed: int) -> None:
-    """No reply that was told is without its entry, whatever becomes of the bytes behind those that were synced: up to the last entry
-    that was told, and those of which an entry says so."""
+@pytest.mark.parametrize("seed", range(8))
+def test_kills_and_torn_ends(wdp_desk: str, machine: str, tmp_path: Path, seed: int) -> None:
+    """No reply that was told is without its entry, whatever becomes of the bytes behind those that were synced."""
     chance = random.Random(seed)
     journal = tmp_path / "j"
+    synced = tmp_path / "synced"
+    on_machine = {"LD_PRELOAD": machine, "SYNCED": str(synced), "SYNC_DELAY": "2000"}
     told: list[bytes] = []
-    for turn in range(4):
-        desk = Conversation(wdp_desk, journal)
-        for number in range(chance.randint(1, 12)):
-            amount = turn * 100 + number
-            desk.send(
-                submission(b"Alpha", amount, chance.choice([None, 1, 2, 3]), salt=number).encode()
-            )
-            if chance.random() < 0.7:
-                told.append(desk.read())
-        time.sleep(chance.random() * 0.01)
-        desk.kill()
-        data = journal.read_bytes()
-        entries = list(entries_of(FRONT, data))
-        kept = {(entry.words[0], entry.chain): entry.end for entry in entries}
-        synced = [kept[entry] for entry in told_entries(told)]
-        synced += [int(entry.words[-1]) for entry in entries]
-        journal.write_bytes(torn(data, max(synced, default=len(FRONT)), chance))
-    desk = Conversation(wdp_desk, journal)
-    assert int(desk.opened.split()[0]) >= len(told_entries(told))
-    desk.end()
-    kept = {
-        (entry.words[0], entry.chain): entry.end
-        for entry in entries_of(FRONT, journal.read_bytes())
-    }
-    assert all(entry in kept for entry in told_entries(told))
+    for turn in range(5):
+        told += kill_under_calls(wdp_desk, journal, chance, turn * 1_000, **on_machine)
+        journal.write_bytes(torn(journal.read_bytes(), int(synced.read_text()), chance))
+        desk = Conversation(wdp_desk, journal, **on_machine)
+        desk.end()
+        kept = {(entry.words[0], entry.chain) for entry in entries_of(FRONT, journal.read_bytes())}
+        assert int(desk.opened.split()[0]) == len(kept)
+        assert kept.issuperset(told_entries(told))
+
+
+def test_a_sync_that_fails_ends_the_desk(wdp_desk: str, machine: str, tmp_path: Path) -> None:
+    """Nobody is told of what wasn't synced, and another sync isn't tried: it might succeed without having written anything."""
+    journal, fails = tmp_path / "j", tmp_path / "fails"
+    synced = tmp_path / "synced"
+    desk = Conversation(
+        wdp_desk, journal, LD_PRELOAD=machine, SYNC_FAILS=str(fails), SYNCED=str(synced)
+    )
+    first = desk.ask(submission(b"Alpha", 1, None, salt=1).encode())
+    fails.touch()
+    desk.send(submission(b"Alpha", 2, 1, salt=2).encode() + Show(b"Beta", 1, 1).encode())
+    out, error, status = desk.end()
+    assert (out, status) == (b"", 3)
+    assert error.startswith(b"wdp-desk: ") and error.count(b"\n") == 1
+    # (pages that couldn't be written are lost)
+    journal.write_bytes(journal.read_bytes()[: int(synced.read_text())])
+    again = Conversation(wdp_desk, journal)
+    assert again.opened.split() == [b"1", b"opened", b"0", first.split()[-1]]
+    again.end()
+
+
+def test_a_disk_that_is_full(wdp_desk: str, tmp_path: Path) -> None:
+    """A call that can't be written is told so, and leaves nothing behind; a smaller one is taken."""
+    journal = tmp_path / "j"
+    most = len(FRONT) + 2_000
+    begin = ["sh", "-c", f'trap "" XFSZ; ulimit -f {-(-most // 512)}; exec "$@"', "sh"]
+    calls = [submission(b"Alpha", 1, None, salt=1)]
+    calls.append(replace(submission(b"Alpha", 2, 1, salt=2), sealed=bytes(3_000)))
+    calls += [submission(b"Alpha", 3, 1, salt=3), submission(b"Beta", 4, None, salt=4)]
+    desk = subprocess.Popen(
+        [*begin, wdp_desk, journal], stdin=subprocess.PIPE, stdout=subprocess.PIPE
+    )
+    assert desk.stdin and desk.stdout
+    told = []
+    for part in [FRONT, *(call.encode() for call in calls)]:
+        desk.stdin.write(part)
+        desk.stdin.flush()
+        told.append(desk.stdout.readline().split()[1])
+    assert told == [b"opened", b"accepted", b"disk", b"accepted", b"accepted"]
+    desk.communicate()
+    model = Desk(FRONT, BIDDERS)
+    for call in [calls[0], *calls[2:]]:
+        model.answer(call, len(model.journal))
+    assert journal.read_bytes() == model.journal
 
 
 @pytest.fixture(scope="module")
@@ -379,6 +357,18 @@ def test_damaged_journals(wdp_desk: str, long_journal: bytes, tmp_path: Path, se
         again = replayed(wdp_desk, journal)
         assert (again.stdout, again.stderr, again.returncode) == (b"", ran.stderr, 1)
     assert journal.read_bytes() == bytes(data)
+
+
+@pytest.mark.parametrize("seed", range(40))
+def test_journals_beside_the_second_writing(wdp_desk: str, tmp_path: Path, seed: int) -> None:
+    """Damage of any kind anywhere, and answers that aren't due with chains that fit."""
+    _, right = make_journal()
+    chance = random.Random(seed)
+    assert find_wrong_verdict(wdp_desk, tmp_path / "j", right) == ""
+    data = right
+    while data == right:
+        data = damage(right, chance)
+    assert find_wrong_verdict(wdp_desk, tmp_path / "j", data) == ""
 
 
 def test_a_torn_end_is_told_and_cut(wdp_desk: str, long_journal: bytes, tmp_path: Path) -> None:

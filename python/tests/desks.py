@@ -135,6 +135,13 @@ class Served:
     def is_up(self) -> bool:
         return any("http" in line for line in self.lines)
 
+    def find_filter(self) -> int:
+        """The process of the filter."""
+        pid = self.process.pid
+        children = Path(f"/proc/{pid}/task/{pid}/children").read_text().split()
+        names = {int(child): Path(f"/proc/{child}/cmdline").read_bytes() for child in children}
+        return next(child for child, name in names.items() if name.endswith(b"/journal\0"))
+
     def stop(self) -> int:
         """Ends the process; its status."""
         self.process.terminate()

@@ -9,7 +9,7 @@ from commands import EXAMPLES, ROOT, read_text, make_environment, run_program, p
 
 BENCH = ROOT / "bench"
 # what isn't run: modules that scripts import, and what `hostile` compiles
-PARTS = {"README.md", "measuring.py", "hostile_texts", "colliding_names.c", "__pycache__"}
+PARTS = {"README.md", "measuring.py", "hostile_texts", "desk_trials", "colliding_names.c", "__pycache__"}
 # what needs LibreOffice
 PARTS |= {"shown_workbooks"}
 
@@ -82,8 +82,8 @@ SHOWN = {
     r"  of 4 groups 4 have the same total, 4 the same cost, 4 the same winners; the prices come to 30 before and to 30 now\n"
     r"  cbc alone, 1 groups",
     "peers": r"(?s).*\| explain",
-    "desk": r"(?s)2 sessions at once.*\n  floor .*'accepted': 2.*\n  service .*'accepted': 2.* the floor's processor time\n$",
-    "filter": "100 calls, 0 replies differ\n$",
+    "desk": r"(?s)2 sessions at once.*\n  floor .*'accepted': 2.*\n  service .*'accepted': 2.* the floor's processor time, .*\nright\n$",
+    "filter": r"\{.*\}\n100 calls, 0 replies or entries differ\n$",
     "hostile": r"(?s).*\| submitted .*\n\n[01] within bounds, [01] beyond\n$",
     "hostile_workbooks": r"(?s).*\| lying .*\n\n[01] within bounds, [01] beyond\n$",
     "solve": r"\| worked\.txt \| \d+ \| 4 \| [\d.]+ \| \d+ \| 0 \| [\d.]+ \|\n$",
@@ -104,10 +104,19 @@ def test_scripts_that_measure(wdp: str, wdp_solve: str, name: str) -> None:
     assert re.match(SHOWN[name], printed)
 
 
-def test_filter_measures_calls(wdp: str) -> None:
-    printed = run_script(wdp, ["filter", "speed", "20"])
-    shown = r"one at a time: \d+ calls a second\nthe same writes and syncs alone: \d+ a second\nat once: 256000 replies, \d+ a second, \d+ MB\n$"
-    assert re.match(shown, printed)
+# (those that need root, or a minute, aren't run here)
+TRIALS = r"""
+desk kills --rounds 2 --sessions 2 --port 18481 | \{'starts': 2, .*\}\n\d+ receipts, 0 lost or wrong; \d+ entries\nright\n$
+desk sync --rounds 1 --sessions 2 --port 18482 | \{'starts': 1, .*\}\n\d+ receipts, 0 lost or wrong; \d+ entries\nright\n$
+filter kills 2 | 2 kills, \{.*\}\n0 replies without their entries\n$
+filter damage 4 | \{.*\}\n4 damaged journals, 0 wrong verdicts\n$
+filter speed 20 | desk: \d+ a second\nalone: \d+ a second\n[\d.]+ times .* alone\nat once: 256000 replies, \d+ a second, \d+ MB\n$
+"""
+
+
+@pytest.mark.parametrize("words, shown", parse_rows(TRIALS))
+def test_trials_of_a_desk(wdp: str, wdp_desk: str, words: str, shown: str) -> None:
+    assert re.match(shown, run_script(wdp, words.split()))
 
 
 def test_outcomes_measures_the_step_of_each_group(wdp: str) -> None:

@@ -3,15 +3,20 @@ keeps, and what an office does wrong.
 """
 import contextlib
 import hashlib
+import http.client
 import os
+import random
 import signal
 import socket
+import subprocess
+import threading
 from collections.abc import Iterator
+from concurrent.futures import ThreadPoolExecutor
 from functools import partial
 from pathlib import Path
 
 import pytest
-from commands import check_stopped, hide_library, run, run_program
+from commands import check_stopped, hide_library, run, run_program, wait_for
 from desks import (
     FORM_OF,
     MANY_BIDDERS,
@@ -25,6 +30,7 @@ from desks import (
 for _name in ("aiohttp", "cryptography"):
     pytest.importorskip(_name, reason=f"{_name} isn't there")
 
+from trials.desk_judge import Judge  # noqa: E402
 
 pytestmark = pytest.mark.usefixtures("wdp_desk")
 
@@ -78,6 +84,7 @@ def test_a_call_says_over_what_it_is_made(bidder: Bidder) -> None:
     assert bidder.call("PUT", "/form", bidder.form, If_None_Match="x").status == 400
     both = {"If_Match": '"1"', "If_None_Match": "*"}
     assert bidder.call("PUT", "/form", bidder.form, **both).status == 428
+    assert bidder.call("DELETE", "/form").status == 428
     assert bidder.put(number=7).status == 412
     assert bidder.call("PUT", "/form?over=any", bidder.form).word == "accepted"
     assert bidder.call("PUT", "/form?over=any", bidder.make_form(90)).status == 200
@@ -300,9 +307,55 @@ def test_a_round_from_the_forms_to_the_winners(desk: DeskFolder, wdp: str) -> No
     check_stopped(desk.desk("open", desk.holder, desk.folder), "it has other files")
 
 
+def test_all_that_was_told_in_a_run_is_kept(desk: DeskFolder, wdp: str) -> None:
+    """Forms, withdrawals and statements of all sessions at once, over whatever stood and over what
+    may stand, in two starts; a judge of its own checks each receipt.
+    """
+    judge = Judge()
+
+    def work(served: Served, session: tuple[str, int], seed: int) -> None:
+        draw = random.Random(seed)
+        for _ in range(12):
+            form = make_form(session[0], draw.randint(10, 99))
+            judge.send(session[0], form)
+            over_any = draw.random() < 0.5
+            calls = [("PUT", "/form", form), ("PUT", "/form", form), ("DELETE", "/form", None)]
+            method, path, body = draw.choice([*calls, ("POST", "/show", None)])
+            headers = {} if over_any else {"If_Match": f'"{draw.randint(1, 9)}"'}
+            path += "?over=any" if over_any else ""
+            answer = served.call(method, path, body, key=desk.keys[session], **headers)
+            assert answer.status in (200, 404, 412), answer
+            judge.take(answer.members)
+
+    sessions = [session for session in desk.keys if session[0] != "-"]
+    for seed in (10, 20):
+        with desk.serve() as served, ThreadPoolExecutor(len(sessions)) as threads:
+            works = [
+                threads.submit(work, served, session, seed + number)
+                for number, session in enumerate(sessions)
+            ]
+            for each in works:
+                each.result()
+            judge.heads.append(served.call("GET", "/head").body.decode())
+            if seed == 20:
+                judge.take(served.call("POST", "/close", key=desk.office).members)
+    assert desk.desk("open", desk.holder, desk.output).status == 0
+    forms = run_program(wdp, "forms", (desk.output / "input.txt").read_bytes()).decode()
+    assert len(judge.receipts) > 60
+    assert judge.judge(desk.journal, forms) == []
+
+
 def test_a_second_process_is_refused(desk: DeskFolder) -> None:
-    with desk.serve():
+    with desk.serve() as served:
+        served.put()
+        before = read_folder(desk.where)
         check_stopped(desk.desk("serve", "--port", 1), f"another run works in {desk.where}")
+        assert read_folder(desk.where) == before
+        assert served.look()["stands"]["number"] == 1
+
+
+def read_folder(folder: Path) -> dict[str, bytes]:
+    return {path.name: path.read_bytes() for path in folder.iterdir() if path.is_file()}
 
 
 def test_what_an_office_does_wrong(desk: DeskFolder) -> None:
@@ -351,6 +404,12 @@ def test_what_an_office_does_wrong(desk: DeskFolder) -> None:
         check_stopped(desk.desk("open", desk.holder, desk.output), "the round isn't closed")
         served.call("POST", "/close", key=desk.office)
     check_stopped(desk.desk("open", folder / "holder.pub", desk.output), "others than its owner")
+    signing = folder / "signing.pem"
+    subprocess.run(["openssl", "genpkey", "-algorithm", "ED25519", "-out", signing], check=True)
+    (folder / "holder.pub").chmod(0o600)
+    for path in (folder / "holder.pub", signing):
+        words = f"{path}: it has no private key of X25519"
+        check_stopped(desk.desk("open", path, desk.output), words)
     other = DeskFolder(make_folder(folder / "third"))
     check_stopped(
         desk.desk("open", other.holder, desk.output), "entry 1, of Alpha: it isn't sealed"
@@ -368,19 +427,62 @@ def test_a_journal_of_other_rules_is_refused(desk: DeskFolder) -> None:
     assert seen.err.count("\n") == 1
 
 
+def test_the_filter_ends_under_load_and_so_does_the_desk(desk: DeskFolder) -> None:
+    """Whoever calls goes on calling: the desk ends nevertheless."""
+    with desk.serve() as served:
+        is_over = threading.Event()
+
+        def call(session: int) -> None:
+            amount = 100 * session
+            while not is_over.is_set():
+                amount += 1
+                form = make_form("Alpha", amount)
+                with contextlib.suppress(OSError, http.client.HTTPException):
+                    served.call("PUT", "/form?over=any", form, key=desk.keys["Alpha", session])
+
+        with ThreadPoolExecutor(12) as threads:
+            for number in range(12):
+                threads.submit(call, number % 3 + 1)
+            try:
+                wait_for(lambda: desk.journal.count(b"%call") > 10)
+                os.kill(served.find_filter(), signal.SIGKILL)
+                assert served.wait() == 3
+            finally:
+                is_over.set()
+
+
 def test_the_filter_ends_and_so_does_the_desk(desk: DeskFolder) -> None:
     with desk.serve() as served:
         served.put()
-        children = Path(f"/proc/{served.process.pid}/task/{served.process.pid}/children")
-        commands = {
-            int(pid): Path(f"/proc/{pid}/cmdline").read_bytes()
-            for pid in children.read_text().split()
-        }
-        filters = [pid for pid, command in commands.items() if b"journal" in command]
-        os.kill(filters[0], signal.SIGKILL)
+        os.kill(served.find_filter(), signal.SIGKILL)
         assert served.wait() == 3
     with desk.serve() as served:
         assert served.look()["stands"]["number"] == 1
+
+
+NO_FILTER = """#!/usr/bin/python3
+import hashlib, sys
+front = sys.stdin.buffer.readline() + sys.stdin.buffer.readline()
+front += sys.stdin.buffer.read(int(front.split()[-1]))
+with open(sys.argv[1], "wb") as file:
+    file.write(front)
+print("0 opened 0", hashlib.sha256(front).hexdigest(), flush=True)
+sys.stdin.buffer.readline()
+print("REPLY", flush=True)
+sys.stdin.read()
+"""
+
+
+@pytest.mark.parametrize("reply", ["nonsense", "- round over\\n- round over"])
+def test_a_filter_that_cant_be_understood(desk: DeskFolder, reply: str) -> None:
+    """The desk ends, with one line, and its caller learns that nobody knows what was taken."""
+    program = desk.write("filter", NO_FILTER.replace("REPLY", reply))
+    program.chmod(0o755)
+    with desk.serve(WDP_DESK=str(program)) as served:
+        answer = served.call("POST", "/show", key=desk.keys["Alpha", 1])
+        assert answer.status == (503 if reply == "nonsense" else 410)
+        assert served.wait() == 3
+        assert "wdp-desk printed a reply" in served.lines[-1]
 
 
 def test_libraries_that_are_missing_are_one_line(desk: DeskFolder, tmp_path: Path) -> None:

@@ -1,17 +1,20 @@
-"""A desk that lies is found by the receipts of those whom it lied to: by `desk check`, or by two
-receipts beside each other.
+"""A desk that lies is found by the receipts of those whom it lied to: by `desk check`, by two
+receipts beside each other, and by a judge that shares no code with the package.
 """
 import hashlib
 import re
+from collections.abc import Callable
 from pathlib import Path
 from typing import NamedTuple
 
 import pytest
-from commands import check_stopped
+from commands import check_stopped, run_program
 from desks import FORM_OF, HEAD, DeskFolder, make_form
 
 for _name in ("aiohttp", "cryptography"):
     pytest.importorskip(_name, reason=f"{_name} isn't there")
+
+from trials.desk_judge import Judge  # noqa: E402
 
 from wdp.desk import checking, receipts  # noqa: E402
 
@@ -85,6 +88,64 @@ def desk(told: tuple[DeskFolder, list[Path], bytes]) -> DeskFolder:
 @pytest.fixture
 def paths(told: tuple[DeskFolder, list[Path], bytes]) -> list[Path]:
     return told[1]
+
+
+@pytest.fixture
+def judge(paths: list[Path]) -> Judge:
+    judge = Judge()
+    for name, form in [*FORM_OF.items(), ("Beta", make_form("Beta", 11))]:
+        judge.send(name, form)
+    judge.receipts = [path.read_text() for path in paths[:-1]]
+    judge.heads = [paths[-1].read_text()]
+    return judge
+
+
+Lie = Callable[[list[Entry]], list[Entry]]
+
+
+def drop(entries: list[Entry]) -> list[Entry]:
+    return entries[1:]
+
+
+def reorder(entries: list[Entry]) -> list[Entry]:
+    return [entries[1], entries[0], *entries[2:]]
+
+
+def change_form(entries: list[Entry]) -> list[Entry]:
+    head = entries[2].head
+    commitment = hashlib.sha256(b"another").hexdigest().encode()
+    changed = entries[2]._replace(head=(*head[:6], commitment, *head[7:]))
+    return [*entries[:2], changed, *entries[3:]]
+
+
+def change_time(entries: list[Entry]) -> list[Entry]:
+    head = entries[2].head
+    changed = entries[2]._replace(head=(head[0], b"%d" % (int(head[1]) + 1), *head[2:]))
+    return [*entries[:2], changed, *entries[3:]]
+
+
+def forget_the_last(entries: list[Entry]) -> list[Entry]:
+    return [*entries[:3], entries[4]]
+
+
+@pytest.mark.parametrize("lie", [drop, reorder, change_form, change_time, forget_the_last])
+def test_a_judge_of_its_own_finds_each_lie(
+    desk: DeskFolder, judge: Judge, wdp: str, lie: Lie
+) -> None:
+    forms = run_program(wdp, "forms", (desk.output / "input.txt").read_bytes()).decode()
+    assert judge.judge(desk.journal, forms) == []
+    liar = Liar(desk)
+    liar.write(lie(liar.entries))
+    assert judge.judge(desk.journal, forms)
+    check_stopped(desk.desk("check", *desk.folder.glob("[0-9].txt")), "that the desk said")
+
+
+def test_a_judge_of_its_own_finds_another_head(desk: DeskFolder, judge: Judge) -> None:
+    signer = receipts.Signer((desk.where / "signing.key").read_bytes())
+    said = receipts.parse_signed(judge.heads[0], "head")
+    judge.heads.append(signer.sign(receipts.Head(said.round, 4, "0" * 64)))
+    [wrong] = judge.judge(desk.journal)
+    assert wrong.startswith("another chain: ")
 
 
 def test_an_honest_desk(desk: DeskFolder, paths: list[Path]) -> None:

@@ -5,6 +5,7 @@
 import asyncio
 import contextlib
 import hashlib
+import random
 import socket
 from collections.abc import AsyncIterator
 from contextlib import asynccontextmanager
@@ -13,7 +14,7 @@ from typing import Any
 
 import pytest
 from commands import check_stopped
-from desks import FORM, HEAD, DeskFolder, make_form
+from desks import FORM, HEAD, RULES, DeskFolder, make_form
 
 for _name in ("aiohttp", "cryptography"):
     pytest.importorskip(_name, reason=f"{_name} isn't there")
@@ -24,9 +25,11 @@ from wdp.desk.calls import Reply  # noqa: E402
 from wdp.desk.clock import Clock, Jumped, format_time, parse_time  # noqa: E402
 from wdp.desk.filter import FilterEnded  # noqa: E402
 from wdp.desk.keys import Session  # noqa: E402
-from wdp.desk.readers import TOO_LONG, Readers  # noqa: E402
+from wdp.desk.outcomes import Outcome  # noqa: E402
+from wdp.desk.readers import TOO_LONG, Readers, ReadersStopped  # noqa: E402
 from wdp.desk.reading import Reading, Standing  # noqa: E402
 from wdp.desk.room import SIZE, Room  # noqa: E402
+from wdp.desk.sealing import Commitment, make_salt  # noqa: E402
 from wdp.desk.service import Desk, FormCall, Over  # noqa: E402
 
 ALPHA = Session("Alpha", 1)
@@ -161,6 +164,25 @@ def test_what_takes_too_long_or_too_much_memory_is_ended(folder: DeskFolder, wdp
     assert reading.SECONDS == 5 and reading.MEMORY == 2**30
 
 
+def test_readers_that_are_stopped_start_no_child(folder: DeskFolder, wdp: str) -> None:
+    """Whoever waits for one is told at once: the process of a desk that ends doesn't stay."""
+
+    async def check() -> None:
+        readers = Readers(wdp, folder.where / "rules.csv", holder="09" + "00" * 31, count=1)
+        script = folder.write("endless.py", ENDLESS.replace("SECONDS = 0", "SECONDS = 10_000"))
+        readers._command[1:3] = [str(script)]
+        await readers.start()
+        asked = [asyncio.create_task(readers.read(b"endless", "key", Standing())) for _ in "123"]
+        await asyncio.sleep(0.5)
+        await asyncio.wait_for(readers.stop(), 60)
+        told = asyncio.gather(*asked, return_exceptions=True)
+        answers = await asyncio.wait_for(told, 60)
+        assert [type(answer) for answer in answers] == [ReadersStopped] * 3
+        assert not readers._children
+
+    asyncio.run(check())
+
+
 def test_a_bidder_has_so_much_in_hand(folder: DeskFolder) -> None:
     """(A large body that isn't ended keeps nobody else's out.)"""
 
@@ -280,6 +302,9 @@ def test_a_connection_without_a_request_is_ended(
     monkeypatch.setattr(web, "BODY_SECONDS", 0.5)
     head = f"PUT /form?over=any HTTP/1.1\r\nHost: x\r\nAuthorization: Bearer {folder.keys['Alpha', 1]}\r\n"
     body = f"{head}Content-Length: 24\r\n\r\nAlpha,A"
+    form = "Beta,A,B\n20,1,0\n"
+    whole = head.replace(folder.keys["Alpha", 1], folder.keys["Beta", 1])
+    whole += f"Connection: close\r\nContent-Length: {len(form)}\r\n\r\n{form}"
 
     async def send(port: int, text: str) -> bytes:
         source, output = await asyncio.open_connection("127.0.0.1", port)
@@ -298,6 +323,12 @@ def test_a_connection_without_a_request_is_ended(
                 answers = await asyncio.gather(*(send(port, head) for _ in range(100)))
                 assert answers == [b""] * 100
                 assert (await send(port, body)).startswith(b"HTTP/1.1 408 ")
+                # (so many of a bidder are here at once, and nobody else waits for them)
+                bodies = asyncio.gather(*(send(port, body) for _ in range(200)))
+                other = await send(port, whole)
+                assert other.startswith(b"HTTP/1.1 200 ") and b"accepted" in other
+                statuses = {answer[9:12] for answer in await bodies}
+                assert statuses == {b"408", b"429"}
 
     asyncio.run(check())
 
@@ -493,13 +524,73 @@ def test_the_round_closes_at_its_time(tmp_path: Path) -> None:
     assert entries[0][1] == parse_time(CLOSES) - 1 and entries[1][1] >= parse_time(CLOSES)
 
 
+def test_a_thousand_callers_at_the_deadline(tmp_path: Path) -> None:
+    """Those whose last byte came before the second are answered, the others are told that the round
+    is over, and the close is behind all of them.
+    """
+    names = [f"B{number}" for number in range(200)]
+    rules = RULES + "".join(f"bidder,{name},9,5,\n" for name in names)
+    folder = DeskFolder(tmp_path, rules, closes=CLOSES)
+    times = SetClock()
+    end = parse_time(CLOSES)
+    times.at = end - 60_000_000
+    draw = random.Random(1)
+    order = [Session(name, session) for name in names for session in range(1, 6)]
+    draw.shuffle(order)
+
+    async def check() -> list[tuple[int, Outcome]]:
+        async with work(folder, clock=times.make()) as desk:
+            slow = SlowReaders(MadeReaders())
+            desk._readers = slow  # type: ignore[assignment]
+            watching = asyncio.create_task(desk.watch())
+            times.pass_time(59_499_000)
+            calls = []
+            for number, session in enumerate(order):
+                times.pass_time(1_000)
+                form = make_form(session.bidder, 10 + number)
+                call = make_call(desk, session, form)
+                calls.append((call.arrived, asyncio.create_task(desk.hand_in(call))))
+                await asyncio.sleep(0)
+            # (it is over by the clock, and nothing has been read yet)
+            await asyncio.sleep(0.3)
+            assert desk.accounts.is_open and not watching.done()
+            slow.let.set()
+            told = [(arrived, await answer) for arrived, answer in calls]
+            await watching
+            assert not desk.accounts.is_open
+            return told
+
+    told = asyncio.run(check())
+    late = [outcome.answer for arrived, outcome in told if arrived >= end]
+    in_time = [outcome.answer for arrived, outcome in told if arrived < end]
+    assert late == ["round over"] * 500
+    assert len(in_time) == 500 and set(in_time) == {"accepted", "stale"}
+    kinds = [(match[5], int(match[2])) for match in HEAD.finditer(folder.journal)]
+    assert len(kinds) == 501 and kinds[-1][0] == b"close"
+    assert all(kind == b"submit" and at < end for kind, at in kinds[:-1])
+
+
+class MadeReaders:
+    """Readers that need no child: the forms are as they have to be."""
+
+    async def read(self, data: bytes, session_key: str, standing: Standing) -> Reading:
+        form = Commitment(hashlib.sha256(data).hexdigest(), make_salt())
+        return Reading(bids=1, text=data, form=form, sealed=b"sealed")
+
+    async def start(self) -> None:
+        ...
+
+    async def stop(self) -> None:
+        ...
+
+
 CLOSES = "2096-12-01T12:00:00Z"
 
 
 class SlowReaders:
     """Readers that wait until they are let."""
 
-    def __init__(self, usual: Readers) -> None:
+    def __init__(self, usual: Readers | MadeReaders) -> None:
         self.usual = usual
         self.begun = asyncio.Event()
         self.let = asyncio.Event()

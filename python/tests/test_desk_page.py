@@ -13,7 +13,7 @@ from pathlib import Path
 from typing import Any
 
 import pytest
-from desks import FORM, DeskFolder, Served
+from desks import FORM, MANY_BIDDERS, MANY_RULES, DeskFolder, Served, make_form
 
 aiohttp = pytest.importorskip("aiohttp", reason="aiohttp isn't there")
 
@@ -79,15 +79,20 @@ class Tab:
             await self.press(TAB)
         raise AssertionError(words)
 
-    async def enter(self, served: Served, bidder: str) -> None:
-        """Opens the page, and enters the key by the keyboard."""
+    async def enter(self, served: Served, key: str, heading: str = "Hand in a form") -> None:
+        """Opens the page, and enters a key by the keyboard."""
         await self.ask("Page.navigate", url=f"http://127.0.0.1:{served.port}/")
         await self.wait("document.activeElement && document.activeElement.id === 'key'")
-        await self.write(served.desk.keys[bidder, 1])
+        await self.write(key)
         await self.press(ENTER)
-        await self.wait("document.getElementById('stands') !== null")
+        await self.wait(
+            f"document.querySelector('h1').textContent === '{heading}' && "
+            "document.querySelector('[type=password]') === null"
+        )
 
     async def check_widths(self, folder: Path, name: str) -> None:
+        # (the style sheet has come, too)
+        await self.wait("document.readyState === 'complete'")
         for width in WIDTHS:
             await self.ask(
                 "Emulation.setDeviceMetricsOverride",
@@ -145,18 +150,18 @@ def test_a_bidder_needs_the_keyboard_alone(served: Served, tmp_path: Path) -> No
 
     async def check() -> None:
         async with open_tab(tmp_path) as tab:
-            await tab.enter(served, "Alpha")
+            await tab.enter(served, served.desk.keys["Alpha", 1])
             await tab.check_widths(tmp_path, "entered")
             await tab.go_to("Amount of bid 1")
             for value in ("30x", "1", "0"):
                 await tab.write(value)
                 await tab.press(TAB)
-            for value in ("50", "3", "1"):
+            for value in ("50", "3", "y"):
                 await tab.write(value)
                 await tab.press(TAB)
             await tab.go_to("Hand in these bids")
             await tab.press(ENTER)
-            await tab.wait("document.querySelectorAll('.fault').length === 1")
+            await tab.wait("document.querySelectorAll('.fault').length === 2")
             # (the focus goes to the cell once the page knows what stands)
             await tab.wait("document.activeElement.ariaLabel === 'Amount of bid 1'")
             assert await tab.evaluate("document.activeElement.value") == "30x"
@@ -166,6 +171,9 @@ def test_a_bidder_needs_the_keyboard_alone(served: Served, tmp_path: Path) -> No
             assert served.look()["calls_left"] == 1000
             await tab.evaluate("document.activeElement.select()")
             await tab.write("30")
+            await tab.go_to("B of bid 2")
+            assert "'y' isn't" in await tab.evaluate(beside)
+            await tab.write("1")  # (the Tab has marked what was there)
             await tab.go_to("Hand in these bids")
             await tab.press(ENTER)
             await tab.wait("document.querySelector('#answer pre') !== null")
@@ -197,14 +205,15 @@ def test_an_upload_needs_no_scripts(served: Served, tmp_path: Path) -> None:
         node = await tab.ask("DOM.querySelector", nodeId=root, selector="#file")
         await tab.ask("DOM.setFileInputFiles", nodeId=node["nodeId"], files=[str(form)])
         await tab.go_to("Hand in")
+        await tab.evaluate("document.body.id = 'before'")
         await tab.press(ENTER)
-        await tab.wait("document.querySelector('#answer h2') !== null")
+        await tab.wait("document.querySelector('body:not([id]) #answer h2') !== null")
         return str(await tab.evaluate("document.getElementById('answer').innerText"))
 
     async def check() -> None:
         async with open_tab(tmp_path) as tab:
             await tab.ask("Emulation.setScriptExecutionDisabled", value=True)
-            await tab.enter(served, "Alpha")
+            await tab.enter(served, served.desk.keys["Alpha", 1])
             assert await tab.evaluate("document.getElementById('typing').hidden") is True
             assert "answer accepted 1" in await hand_in(tab)
             await tab.check_widths(tmp_path, "unscripted")
@@ -216,21 +225,64 @@ def test_an_upload_needs_no_scripts(served: Served, tmp_path: Path) -> None:
     asyncio.run(check())
 
 
+def test_the_offices_page(served: Served, tmp_path: Path) -> None:
+    """By the keyboard, too; and the page that asks for a key."""
+    served.put()
+    served.put("Beta")
+
+    async def check() -> None:
+        async with open_tab(tmp_path) as tab:
+            await tab.ask("Page.navigate", url=f"http://127.0.0.1:{served.port}/")
+            await tab.wait("document.activeElement && document.activeElement.id === 'key'")
+            await tab.check_widths(tmp_path, "first")
+            await tab.enter(served, served.desk.office, "Who has handed in")
+            await tab.check_widths(tmp_path, "office")
+            assert "2 of 3 bidders" in await tab.evaluate("document.body.innerText")
+            assert served.put("Gamma").status == 200
+            await tab.go_to("Look again")
+            await tab.press(ENTER)
+            await tab.wait("document.body.innerText.includes('3 of 3 bidders')")
+
+    asyncio.run(check())
+
+
 def post(served: Served, fields: dict[str, Any]) -> tuple[int, str]:
     """What a browser without scripts gets for a form with these fields."""
+    return post_all(served, [fields])[0]
 
-    async def call() -> tuple[int, str]:
+
+def post_all(served: Served, forms: list[dict[str, Any]]) -> list[tuple[int, str]]:
+    """What so many browsers get at once."""
+
+    async def call(client: Any, fields: dict[str, Any]) -> tuple[int, str]:
         data = aiohttp.FormData()
         for name, value in fields.items():
             if isinstance(value, bytes):
                 data.add_field(name, value, filename="form.csv")
             else:
                 data.add_field(name, value)
-        async with aiohttp.ClientSession() as client:
-            async with client.post(f"http://127.0.0.1:{served.port}/", data=data) as reply:
-                return reply.status, await reply.text()
+        async with client.post(f"http://127.0.0.1:{served.port}/", data=data) as reply:
+            return reply.status, await reply.text()
 
-    return asyncio.run(call())
+    async def call_all() -> list[tuple[int, str]]:
+        async with aiohttp.ClientSession(connector=aiohttp.TCPConnector(limit=0)) as client:
+            return list(await asyncio.gather(*(call(client, fields) for fields in forms)))
+
+    return asyncio.run(call_all())
+
+
+def test_many_browsers_without_scripts_at_once(tmp_path: Path) -> None:
+    """A bidder may have so many calls in hand, and all together may have more."""
+    with DeskFolder(tmp_path, MANY_RULES).serve() as served:
+        forms = []
+        for name in MANY_BIDDERS:
+            send = {"do": "send", "over": "-", "file": make_form(name, 30)}
+            keys = [served.desk.keys[name, session] for session in (1, 2, 3)]
+            forms += [{**send, "key": key} for key in keys * 3]
+        answers = post_all(served, forms)
+        assert len(answers) == 180
+        assert {status for status, _ in answers} == {200}
+        assert sum("Accepted as number 1" in text for _, text in answers) == 20
 
 
 def test_the_pages_forms_without_a_browser(served: Served) -> None:

@@ -54,7 +54,9 @@ def faults_of(wdp: str, text: bytes) -> bytes:
     return subprocess.run([wdp, "explain", "--json"], input=given, capture_output=True).stdout
 
 
-def random_call(chance: random.Random, wdp_faults: dict[bytes, bytes], number: int) -> Call:
+def random_call(
+    chance: random.Random, wdp_faults: dict[bytes, bytes], number: int, closes: float = 0.01
+) -> Call:
     bidder = chance.choice(BIDDERS)
     session = chance.randint(1, SESSIONS[bidder])
     over = chance.choice([None, *range(1, 6)]) if chance.random() < 0.5 else None
@@ -63,7 +65,7 @@ def random_call(chance: random.Random, wdp_faults: dict[bytes, bytes], number: i
         return Show(bidder, session, number)
     if kind < 0.35:
         return Withdraw(bidder, session, number, chance.randint(0, 6))
-    if kind < 0.36:
+    if kind < 0.35 + closes:
         return Close(number)
     call = submission(
         bidder,

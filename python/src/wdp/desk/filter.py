@@ -45,6 +45,7 @@ class Filter:
         self._waiting: deque[asyncio.Future[Reply]] = deque()
         self._reading = asyncio.create_task(self._read_replies())
         self.ended = asyncio.Event()
+        self._why = ""
         self.opened = Reply("opened")
 
     @classmethod
@@ -88,9 +89,15 @@ class Filter:
                 if reply.count:
                     lines = [await self._output.readline() for _ in range(reply.count)]
                     reply = Reply(reply.answer, lines=b"".join(lines))
+                if not self._waiting:
+                    raise Unclear("wdp-desk printed a reply to no call")
                 waiting = self._waiting.popleft()
                 if not waiting.done():
                     waiting.set_result(reply)
+        except (Unclear, ValueError) as error:
+            # (what it says can't be relied on any more)
+            self._why = str(error)
+            self._process.kill()
         finally:
             self.ended.set()
             while self._waiting:
@@ -102,6 +109,8 @@ class Filter:
         """Why the filter ended."""
         said = (await self._messages.read()).decode("utf-8", "backslashreplace").splitlines()
         status = await self._process.wait()
+        if self._why:
+            return self._why
         return said[-1] if said else f"wdp-desk ended with status {status}"
 
     async def stop(self) -> None:

@@ -15,8 +15,13 @@ from wdp.desk.reading import READY, Reading, Standing, parse_head
 from wdp.texts.refusals import Unclear
 
 _LONGEST_LINE = 256 * 1024 * 1024  # bytes of an answer's first line, which has the faults
+_TICK = 0.01  # seconds between two looks at who still asks
 _PATIENCE = 600  # seconds for a child that waits and doesn't work, so that no limit ends it
 TOO_LONG = "it takes too long to read; save it as CSV"
+
+
+class ReadersStopped(Exception):
+    """The desk ends, and the form wasn't read."""
 
 
 class _Child:
@@ -67,6 +72,8 @@ class Readers:
         # places for children: one that waits for a form, or none, which has to be started
         self._places: asyncio.Queue[_Child | None] = asyncio.Queue()
         self._children: set[_Child] = set()
+        self._asking = 0
+        self._is_stopped = False
 
     async def start(self) -> None:
         """Starts the children, and waits until they can read."""
@@ -90,13 +97,28 @@ class Readers:
         return child
 
     async def _ask(self, request: dict[str, Any], data: bytes) -> Reading:
+        self._asking += 1
+        try:
+            reading = await self._ask_in_turn(request, data)
+        finally:
+            self._asking -= 1
+        if reading is None and self._is_stopped:
+            raise ReadersStopped
+        return reading or Reading(faults=[("", TOO_LONG)])
+
+    async def _ask_in_turn(self, request: dict[str, Any], data: bytes) -> Reading | None:
         child = await self._places.get()
         reading = None
         try:
-            child = child or await self._start_child()
-            reading = await asyncio.wait_for(child.ask(request, data), _PATIENCE)
+            # (none is started while the desk ends: its start would be cut off)
+            if not self._is_stopped:
+                child = child or await self._start_child()
+                reading = await asyncio.wait_for(child.ask(request, data), _PATIENCE)
         except asyncio.TimeoutError:
             pass
+        except Unclear:
+            if not self._is_stopped:
+                raise
         finally:
             # (a child whose answer wasn't read to its end has the rest of it in its pipe)
             if reading is None and child is not None:
@@ -104,7 +126,7 @@ class Readers:
                 await child.end()
                 child = None
             self._places.put_nowait(child)
-        return reading or Reading(faults=[("", TOO_LONG)])
+        return reading
 
     async def read(self, data: bytes, session_key: str, standing: Standing) -> Reading:
         """A form that is to be handed in."""
@@ -120,5 +142,9 @@ class Readers:
         return await self._ask({"do": "locate", "lines": lines.decode("ascii")}, data)
 
     async def stop(self) -> None:
-        """Ends the children."""
-        await asyncio.gather(*(child.end() for child in self._children))
+        """Ends the children, and waits until nobody asks them any more."""
+        self._is_stopped = True
+        while self._children or self._asking:
+            children, self._children = self._children, set()
+            await asyncio.gather(*(child.end() for child in children))
+            await asyncio.sleep(_TICK)

@@ -251,7 +251,7 @@ async def _wait_for_end(desk: Desk, where: Path, say: Say) -> int:
             say(str(ended.result()))
             return ENDED
         if desk.stopped:
-            (where / "stopped").write_text(f"{desk.stopped}\n")
+            DeskFolder(where).write_secret("stopped", f"{desk.stopped}\n".encode())
             say(f"{desk.stopped}: the desk has stopped; set the clock right, and start it again")
         if desk.stopped or asked in done:
             with contextlib.suppress(asyncio.TimeoutError):

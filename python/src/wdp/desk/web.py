@@ -18,6 +18,7 @@ from wdp.desk.clock import Jumped, format_time
 from wdp.desk.filter import FilterEnded
 from wdp.desk.keys import OFFICE, Session
 from wdp.desk.outcomes import Outcome
+from wdp.desk.readers import ReadersStopped
 from wdp.desk.service import Desk, FormCall, Over
 from wdp.office.sheets import MOST_OF_A_FILE
 
@@ -25,6 +26,8 @@ BODY_SECONDS = 60  # for a whole body
 _MOST_IN_HAND = 512 * 1024 * 1024  # bytes of all bodies that are here at once
 _MOST_OF_A_BIDDER = 32 * 1024 * 1024  # bytes of these of one bidder
 _MOST_CALLS_OF_A_BIDDER = 64  # at once
+_MOST_OF_NOBODY = 256 * 1024 * 1024  # the same of calls by a page, whose key comes with the body
+_MOST_CALLS_OF_NOBODY = 2_048
 _MOST_OF_FIELDS = 64 * 1024  # bytes of a page's form, beside the file
 _ETAG = re.compile('"([0-9]{1,9})"')
 _CLOSED_HEADERS = {
@@ -44,6 +47,13 @@ class Problem(Exception):
         super().__init__(words)
         self.status = int(status)
         self.words = words
+
+
+def _make_refusal(bidder: str, words: str) -> Problem:
+    """Why a body isn't taken: of a bidder, or of all whose key isn't known yet."""
+    if bidder:
+        return Problem(HTTPStatus.TOO_MANY_REQUESTS, words)
+    return Problem(HTTPStatus.SERVICE_UNAVAILABLE, "too much is here at once; try again")
 
 
 class _Hands:
@@ -68,16 +78,14 @@ class _Hands:
             self.bytes[bidder] += count
             if size > MOST_OF_A_FILE:
                 raise Problem(HTTPStatus.REQUEST_ENTITY_TOO_LARGE, "the file is too large")
-            if self.bytes[bidder] > _MOST_OF_A_BIDDER:
-                words = "this bidder has too much in hand; try again"
-                raise Problem(HTTPStatus.TOO_MANY_REQUESTS, words)
+            if self.bytes[bidder] > (_MOST_OF_A_BIDDER if bidder else _MOST_OF_NOBODY):
+                raise _make_refusal(bidder, "this bidder has too much in hand; try again")
             if self.bytes.total() > _MOST_IN_HAND:
                 words = "too much is here at once; try again"
                 raise Problem(HTTPStatus.SERVICE_UNAVAILABLE, words)
 
-        if self.calls[bidder] >= _MOST_CALLS_OF_A_BIDDER:
-            words = "this bidder has too many calls in hand; try again"
-            raise Problem(HTTPStatus.TOO_MANY_REQUESTS, words)
+        if self.calls[bidder] >= (_MOST_CALLS_OF_A_BIDDER if bidder else _MOST_CALLS_OF_NOBODY):
+            raise _make_refusal(bidder, "this bidder has too many calls in hand; try again")
         self.calls[bidder] += 1
         try:
             yield add
@@ -146,6 +154,9 @@ class Site:
             response = self._say(request, problem.status, problem.words)
         except FilterEnded:
             response = self._respond(request, Outcome("unknown"))
+        except ReadersStopped:
+            words = "the desk ends, and nothing was taken; send the same once more"
+            response = self._say(request, HTTPStatus.SERVICE_UNAVAILABLE, words)
         except Jumped:
             response = self._respond(request, Outcome("stopped"))
         except web.HTTPException as error:
@@ -345,16 +356,17 @@ class Site:
             except asyncio.TimeoutError:
                 raise Problem(HTTPStatus.REQUEST_TIMEOUT, _LATE) from None
             page = pages.read_fields(fields)
-            session = self._desk.keys.find(page.key)
-            if session is None:
-                return pages.format_page(self._desk, page, words="This key isn't known.")
-            page.session = session
-            if session.is_office:
-                return pages.format_office(self._desk, page, self._describe_round())
+        session = self._desk.keys.find(page.key)
+        if session is None:
+            return pages.format_page(self._desk, page, words="This key isn't known.")
+        page.session = session
+        if session.is_office:
+            return pages.format_office(self._desk, page, self._describe_round())
+        # (nobody who sends a page waits for the forms of others)
+        async with self._hands.hold(session.bidder) as add:
+            add(len(page.data))
             outcome = await self._do(page)
-            return pages.format_page(
-                self._desk, page, outcome=outcome, state=self._describe(session)
-            )
+        return pages.format_page(self._desk, page, outcome=outcome, state=self._describe(session))
 
     async def _do(self, page: pages.PageFields) -> Outcome | None:
         """Does what the page's button says."""

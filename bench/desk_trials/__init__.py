@@ -1,0 +1,1 @@
+"""What bench/desk tries desks with: folders, callers, a judge, and machines whose disk and clock fail."""
