@@ -7,7 +7,7 @@ ghost use Rattle.answers.specs.FaithfulAnswers.{CompiledIsFaithful, TextIsFaithf
 ghost use Rattle.answers.specs.FeasibleAnswers.{MappedIsFeasible, ReportedIsFeasible};
 ghost use Rattle.answers.specs.FollowsFromForms.{AwardFollowsFromForms};
 ghost use Rattle.answers.specs.Verified.{AwardFollows, AwardsFollow, NoOtherIsSo, UniqueIsOnly};
-ghost use Rattle.answers.specs.VerifiedForms.{AwardFollowsFromDigests};
+ghost use Rattle.answers.specs.VerifiedForms.{AwardFollowsFromDigests, VerifiedWithFormsIsTrue};
 ghost use Rattle.answers.specs.VerifiedInputs.{VerifiedIsTrue};
 
 /// What `text` answers of an input is a text that is faithful to the auction that the input describes: each 0-1 point of its
@@ -37,6 +37,12 @@ pub fn reported_allocations_are_feasible()
 /// What `verify` answers of an input is a true report on the auction that the input describes.
 pub fn a_verified_report_is_true()
     ensures { VerifiedIsTrue }
+{}
+
+/// What `verify --forms` answers of an input is the lines of its rules and last forms, and a true report on the auction that the input
+/// describes.
+pub fn a_report_after_its_forms_is_true()
+    ensures { VerifiedWithFormsIsTrue }
 {}
 
 /// Where a true report ends with the line `unique`, no other feasible allocation of the auction has as great a total; and so the
