@@ -366,6 +366,16 @@ fn following(
     Ok(found)
 }
 
+/// Adds awards to those that are found, of which as many as `most` stay.
+fn add_more(found: &mut Vec<Allocation>, more: Vec<Allocation>, most: u16) -> Result<(), AllocError>
+    ensures { OnOk result (found.new.items ≡ take most (found.old.items ++ more.items)) }
+{
+    let mut later = more;
+    found.append(&mut later)?;
+    found.truncate(usize::from(most));
+    Ok(())
+}
+
 /// The awards that follow from each of these in turn, as many as `most`.
 fn all_following(
     alloc: Global,
@@ -382,9 +392,8 @@ fn all_following(
 {
     let mut found = Vec::new(alloc);
     for award in listed {
-        let mut more = following(alloc, book, award, most)?;
-        found.append(&mut more)?;
-        found.truncate(usize::from(most));
+        let more = following(alloc, book, award, most)?;
+        add_more(&mut found, more, most)?;
     }
     Ok(found)
 }
@@ -403,9 +412,8 @@ pub(crate) fn with_following(
     ensures { IfOk result (λ found. found.items ≡ take most
         (with_following (lots_in book.now.rules) (book_of book.now) listed.items)) }
 {
-    let mut more = all_following(alloc, book, &listed, most)?;
+    let more = all_following(alloc, book, &listed, most)?;
     let mut found = listed;
-    found.append(&mut more)?;
-    found.truncate(usize::from(most));
+    add_more(&mut found, more, most)?;
     Ok(found)
 }

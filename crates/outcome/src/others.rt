@@ -50,7 +50,7 @@ impl OtherAwards {
     }
 }
 
-ghost use Rattle.std.specs.Prelude.{◌≡◌, ◌++◌, ◌∷◌, All, IfOk, codes, false, flat_map, if◌then◌else◌, length, nat_le, true};
+ghost use Rattle.std.specs.Prelude.{◌≡◌, ◌≤◌, ◌++◌, ◌∷◌, All, IfOk, codes, drop, false, flat_map, if◌then◌else◌, length, nat_le, suc, take, true};
 ghost use Rattle.byte_sinks.specs.Adds.{Adds};
 ghost use Rattle.auction_terms.specs.Allocations.{IsFeasible};
 ghost use Rattle.auction_terms.specs.Keeping.{is_kept_choice};
@@ -93,6 +93,21 @@ fn with_first(
     Ok(listed)
 }
 
+/// Of awards that begin with the first one, the others, as many as are printed, and whether there are more.
+fn others_among(awards: Vec<Allocation>) -> OtherAwards
+    requires { 1 ≤ length awards.items }
+    ensures awards { result.awards ≡ drop 1 (take (suc MOST_TIES) awards.items) }
+    ensures further { result.further ≡ (if nat_le (length awards.items) (suc MOST_TIES)
+        then Further.NoOther else Further.More) }
+{
+    let printed = usize::from(MOST_TIES) + 1;
+    let further = further_than(&awards, printed);
+    let mut others = awards;
+    others.truncate(printed);
+    others.remove(0);
+    OtherAwards::new(others, further)
+}
+
 /// What is known of other awards, where the first one, with nobody left out, and these ties are all awards of kept bids: the ties, and those
 /// that follow from any of them, as many as `MOST_TIES`.
 pub fn others_of(
@@ -108,13 +123,9 @@ pub fn others_of(
     ensures { IfOk result (λ others. others
         ≡ others_of (lots_in book.now.rules) (book_of book.now) (first.now ∷ ties.items)) }
 {
-    let printed = usize::from(MOST_TIES) + 1;
     let listed = with_first(alloc, first, ties)?;
-    let mut awards = with_following(alloc, book, listed, MOST_TIES + 2)?;
-    let further = further_than(&awards, printed);
-    awards.truncate(printed);
-    awards.remove(0);
-    Ok(OtherAwards::new(awards, further))
+    let awards = with_following(alloc, book, listed, MOST_TIES + 2)?;
+    Ok(others_among(awards))
 }
 
 /// Adds the line of each tie, and the award.

@@ -1,6 +1,7 @@
 //! What each winner costs alone: the greater of its opportunity cost and its reserve.
 
-ghost use Rattle.std.specs.Prelude.{◌≡◌, ◌⊎◌, ◌==◌, ◌∷◌, [], Err, IfErr, IfOk, Ok, false};
+ghost use Rattle.std.specs.Prelude.{◌≡◌, ◌⊎◌, ◌==◌, ◌∷◌, ◌^◌, ◌≤ℤ◌, [], Err, IfErr, IfOk, Ok, false, pos, unsigned_abs};
+ghost use Rattle.std.specs.Int.{int_max};
 ghost use Rattle.std.specs.List.{AllZip};
 ghost use Rattle.auction_terms.specs.Groups.{has};
 ghost use Rattle.auction_terms.specs.Terms.{lots_in};
@@ -57,6 +58,15 @@ fn is_alone(group: &Group, bidder: u16) -> bool
     numbers.len() == 1 && numbers[0] == bidder
 }
 
+// The greater of a cost and a reserve.
+fn greater(cost: i128, reserve: u64) -> u64
+    requires low { pos 0 ≤ℤ cost }
+    requires high { cost ≤ℤ pos (2 ^ 48) }
+    ensures { result ≡ unsigned_abs (int_max cost (pos reserve)) }
+{
+    cost.max(i128::from(reserve)) as u64
+}
+
 /// What a winner costs alone, by its group and an allocation without it.
 fn alone_by(
     book: &ClosedBook,
@@ -76,7 +86,8 @@ fn alone_by(
     // Its contract says that the bidders of its choices rise.
     let _rising = first.choices();
     let cost = cost(book, first, group, without);
-    cost.max(i128::from(reserve_of(book, choice))) as u64
+    let reserve = reserve_of(book, choice);
+    greater(cost, reserve)
 }
 
 /// What a winner costs alone, by the first group that is that winner alone.

@@ -1,10 +1,11 @@
 //! Whether weights show that prices in parts of a pound are the prices of the rule: of least sum, and the nearest to what each winner
 //! costs alone.
 
-ghost use Rattle.std.specs.Prelude.{◌≡◌, ◌≤◌, ◌*◌, ◌^◌, ◌&&◌, All, IfErr, None, OnOk, Some, false, length, nat_le};
+ghost use Rattle.std.specs.Prelude.{◌≡◌, ◌≤◌, ◌*◌, ◌^◌, ◌&&◌, ◌∷◌, [], All, IfErr, None, OnOk, Some, false, length, nat_le};
 ghost use Rattle.std.specs.List.{AllZip, list_all};
 ghost use Rattle.auction_terms.specs.declared.limits.TheConstants.{GREATEST_AMOUNT, MOST_PARTS};
 ghost use Rattle.auction_terms.specs.Allocations.{weighed_choice};
+ghost use Rattle.auction_terms.specs.FirstFault.{first_failed};
 ghost use Rattle.auction_terms.specs.Groups.{has};
 ghost use Rattle.auction_terms.specs.Terms.{lots_in};
 ghost use Rattle.bid_desk.specs.Closing.{book_of};
@@ -54,6 +55,16 @@ fn product(scale: u64, number: u64) -> u128
     u128::from(scale) * u128::from(number)
 }
 
+/// Whether the weights on a bidder are the scale.
+fn is_even(groups: &Groups, weights: &Weights<'_>, bidder: u16) -> bool
+    requires few { length groups.now ≤ 1024 }
+    requires weights { length weights.now.groups.now ≡ length groups.now }
+    ensures { result ≡ even_by groups.now weights.now.groups.now
+        (price_in weights.now.own.now) weights.now.scale bidder }
+{
+    weights_on(groups, weights, bidder) == u128::from(weights.scale)
+}
+
 /// Whether the weights on each winner are the scale.
 fn are_even(groups: &Groups, weights: &Weights<'_>, choices: &[Choice]) -> bool
     requires few { length groups.now ≤ 1024 }
@@ -62,7 +73,7 @@ fn are_even(groups: &Groups, weights: &Weights<'_>, choices: &[Choice]) -> bool
         (price_in weights.now.own.now) weights.now.scale c.bidder) choices.now }
 {
     for choice in choices {
-        if weights_on(groups, weights, choice.bidder) != u128::from(weights.scale) {
+        if !is_even(groups, weights, choice.bidder) {
             return false;
         }
     }
@@ -189,6 +200,21 @@ fn shows_nearest(
     are_shown(rule.nearest.scale, moved, tight)
 }
 
+// Which of the two isn't shown first.
+fn both_shown(least: bool, nearest: bool) -> Result<(), RuleFault>
+    ensures shown { OnOk result (first_failed ((least, NotLeast) ∷ (nearest, NotNearest) ∷ []) ≡ None) }
+    ensures refused { IfErr result (λ fault. first_failed ((least, NotLeast) ∷ (nearest, NotNearest) ∷ [])
+        ≡ Some fault) }
+{
+    if !least {
+        return Err(RuleFault::NotLeast);
+    }
+    if !nearest {
+        return Err(RuleFault::NotNearest);
+    }
+    Ok(())
+}
+
 /// Whether weights show that prices that suffice are the prices of the rule, by what each winner costs alone. The allocations are of
 /// greatest total, each without its group.
 pub fn show_the_prices(
@@ -241,11 +267,7 @@ pub fn show_the_prices(
         (price_in payments.now.prices.now)) }
 {
     payments.book.within_limits();
-    if !shows_least(payments, listed, &rule.least) {
-        return Err(RuleFault::NotLeast);
-    }
-    if !shows_nearest(payments, listed, alone, rule) {
-        return Err(RuleFault::NotNearest);
-    }
-    Ok(())
+    let least = shows_least(payments, listed, &rule.least);
+    let nearest = shows_nearest(payments, listed, alone, rule);
+    both_shown(least, nearest)
 }

@@ -1,4 +1,4 @@
-use Rattle.std.proofs.Common.{◌≡◌, ◌∙◌, ◌++◌, List, false, sym, ap, subst, take, rules}
+use Rattle.std.proofs.Common.{◌∙◌, ◌++◌, List, false, sym, ap, subst, take}
 use Rattle.auction_terms.specs.declared.bids.Choice.{Choice}
 use Rattle.auction_terms.specs.Allocations.{IsFeasible}
 use Rattle.auction_terms.specs.Terms.{lots_in}
@@ -15,7 +15,6 @@ following-requires-clause-feasible c =
 pub loop-award-preserved : goal.loop-award-preserved
 loop-award-preserved c =
     let f = following (lots_in c.args.book.now.rules) (book_of c.args.book.now) in
-    let joined : c.truncate.new.self.items ≡ take c.args.most (c.loop-award.found.items ++ c.in_ok-more.more.items) = search rules in
-    joined ∙ ap (λ (more : List (List Choice)). take c.args.most (c.loop-award.found.items ++ more)) c.in_ok-more.ensures
+    c.in_ok-add_more.ensures ∙ ap (λ (more : List (List Choice)). take c.args.most (c.loop-award.found.items ++ more)) c.in_ok-more.ensures
     ∙ cut_more f c.args.most c.loop-award.award-index c.args.listed.now c.award-item.result c.loop-award.found.items
     c.loop-award-test.true c.award-item.is c.loop-award.invariant

@@ -10,16 +10,15 @@ use Rattle.outcome.specs.declared.others.Further.TheVariants.{More, NoOther}
 use Rattle.outcome.proofs.OtherFacts.{as-many, one-deeper}
 use Rattle.outcome.proofs.others.others_of.Goals as goal
 
+pub with_following-requires-clause-feasible : goal.with_following-requires-clause-feasible
+with_following-requires-clause-feasible c = rw c.in_ok-listed.ensures c.requires.feasible
+
 pub returns : goal.returns
 returns c =
     let all = with_following (lots_in c.args.book.now.rules) (book_of c.args.book.now) (c.args.first.now ∷ c.args.ties.items) in
     let found : c.in_ok-awards.awards.items ≡ take (suc (suc MOST_TIES)) all = rw c.in_ok-listed.ensures at c.in_ok-awards.ensures in
-    let cut : c.truncate.new.self.items ≡ take (suc MOST_TIES) c.in_ok-awards.awards.items = rw c.from-printed.ensures at c.truncate.ensures.items in
-    let others : c.remove.new.self.items ≡ drop 1 c.truncate.new.self.items = c.remove.ensures.items in
-    let awards : c.remove.new.self.items ≡ drop 1 (take (suc MOST_TIES) all) =
-    others ∙ ap (λ (xs : List (List Choice)). drop 1 xs) (cut ∙ ap (λ (xs : List (List Choice)). take (suc MOST_TIES) xs) found
-    ∙ one-deeper (suc MOST_TIES) all) in
-    let further : c.further_than-further.result ≡ (if nat_le (length all) (suc MOST_TIES) then NoOther else More) =
-    (rw c.from-printed.ensures at c.further_than-further.ensures) ∙ ap (λ (b : Bool). if b then NoOther else More)
-    (ap (λ (xs : List (List Choice)). nat_le (length xs) (suc MOST_TIES)) (c.deref.ensures.value ∙ found) ∙ as-many (suc MOST_TIES) all) in
-    c.new.ensures ∙ ap₂ (λ (xs : List (List Choice)) (f : Further). record { awards = xs; further = f }) awards further
+    let awards = c.others_among.ensures.awards ∙ ap (λ (xs : List (List Choice)). drop 1 (take (suc MOST_TIES) xs)) found
+    ∙ ap (λ (xs : List (List Choice)). drop 1 xs) (one-deeper (suc MOST_TIES) all) in
+    let further = c.others_among.ensures.further ∙ ap (λ (b : Bool). if b then NoOther else More)
+    (ap (λ (xs : List (List Choice)). nat_le (length xs) (suc MOST_TIES)) found ∙ as-many (suc MOST_TIES) all) in
+    ap₂ (λ (xs : List (List Choice)) (f : Further). record { awards = xs; further = f }) awards further

@@ -1,13 +1,11 @@
-use Rattle.std.proofs.Common.{◌≡◌, ◌∙◌, ◌∷◌, [], Bool, List, None, Some, false, refl, sym, true}
-use Rattle.std.specs.Prelude.{All, ℕ}
+use Rattle.std.proofs.Common.{Err, List, Ok, Result}
+use Rattle.std.specs.Prelude.{All, OnOk, ℕ}
 use Rattle.std.proofs.lemmas.List.Elements.{All-from_recursion}
-use Rattle.auction_terms.specs.FirstFault.{first_failed}
 use Rattle.auction_terms.specs.Groups.{has}
 use Rattle.auction_terms.specs.Terms.{lots_in}
 use Rattle.bid_desk.specs.Closing.{book_of}
 use Rattle.outcome.specs.Pricing.{price_in}
 use Rattle.program_rows.specs.Faithful.{IsGreatest}
-use Rattle.prices.specs.declared.rule.RuleFault.TheVariants.{NotLeast, NotNearest}
 use Rattle.prices.specs.Prices.{reserves_in}
 use Rattle.prices.specs.Rule.{Rule}
 use Rattle.prices.specs.Weights.{Weighted, listed_weights, weighted}
@@ -15,52 +13,34 @@ use Rattle.prices.proofs.FewFacts.{all_greatest, alone_few, prices_few, reserves
 use Rattle.prices.proofs.RuleFacts.{shown_are_the_prices}
 use Rattle.prices.proofs.rule.show_the_prices.Goals as goal
 
-pub shows_least-requires-clause-reserves : goal.shows_least-requires-clause-reserves
-shows_least-requires-clause-reserves c =
+pub shows_least-least-requires-clause-reserves : goal.shows_least-least-requires-clause-reserves
+shows_least-least-requires-clause-reserves c =
     let payments = c.args.payments.now in
     reserves_few (lots_in payments.book.now.rules) (book_of payments.book.now) payments.first.now payments.parts (price_in payments.prices.now)
     c.within_limits.ensures.book c.requires.prices (reserves_in payments.book.now.rules) c.requires.suffice
 
-pub shows_nearest-requires-clause-alone : goal.shows_nearest-requires-clause-alone
-shows_nearest-requires-clause-alone c =
+pub shows_nearest-nearest-requires-clause-alone : goal.shows_nearest-nearest-requires-clause-alone
+shows_nearest-nearest-requires-clause-alone c =
     let payments = c.args.payments.now in
     alone_few (lots_in payments.book.now.rules) (book_of payments.book.now) payments.first.now payments.parts (price_in payments.prices.now)
     c.within_limits.ensures.book c.requires.prices (reserves_in payments.book.now.rules) (price_in c.args.alone.now) c.requires.suffice
     c.requires.first.feasible c.requires.alone
 
-pub shows_nearest-requires-clause-prices : goal.shows_nearest-requires-clause-prices
-shows_nearest-requires-clause-prices c =
+pub shows_nearest-nearest-requires-clause-prices : goal.shows_nearest-nearest-requires-clause-prices
+shows_nearest-nearest-requires-clause-prices c =
     let payments = c.args.payments.now in
     prices_few (lots_in payments.book.now.rules) (book_of payments.book.now) payments.first.now payments.parts (price_in payments.prices.now)
     c.within_limits.ensures.book c.requires.prices c.requires.parts
 
-pub shows_nearest-requires-clause-reserves : goal.shows_nearest-requires-clause-reserves
-shows_nearest-requires-clause-reserves c =
+pub shows_nearest-nearest-requires-clause-reserves : goal.shows_nearest-nearest-requires-clause-reserves
+shows_nearest-nearest-requires-clause-reserves c =
     let payments = c.args.payments.now in
     reserves_few (lots_in payments.book.now.rules) (book_of payments.book.now) payments.first.now payments.parts (price_in payments.prices.now)
     c.within_limits.ensures.book c.requires.prices (reserves_in payments.book.now.rules) c.requires.suffice
 
--- ---- what isn't shown first
-
-least_fails : (a b : Bool) → a ≡ false → first_failed ((a, NotLeast) ∷ (b, NotNearest) ∷ []) ≡ Some NotLeast
-least_fails a b e = rw e refl
-
-nearest_fails : (a b : Bool) → a ≡ true → b ≡ false → first_failed ((a, NotLeast) ∷ (b, NotNearest) ∷ []) ≡ Some NotNearest
-nearest_fails a b e f = rw (e, f) refl
-
-both_shown : (a b : Bool) → a ≡ true → b ≡ true → first_failed ((a, NotLeast) ∷ (b, NotNearest) ∷ []) ≡ None
-both_shown a b e f = rw (e, f) refl
-
-pub returns-then-not-shows_least-clause-refused : goal.returns-then-not-shows_least-clause-refused
-returns-then-not-shows_least-clause-refused c = least_fails _ _ (sym c.shows_least.ensures ∙ c.if-not-shows_least.true)
-
-pub returns-then-not-shows_nearest-clause-refused : goal.returns-then-not-shows_nearest-clause-refused
-returns-then-not-shows_nearest-clause-refused c = nearest_fails _ _ (sym c.shows_least.ensures ∙ c.if-not-shows_least.false)
-    (sym c.shows_nearest.ensures ∙ c.if-not-shows_nearest.true)
-
-pub returns-clause-shown : goal.returns-clause-shown
-returns-clause-shown c = both_shown _ _ (sym c.shows_least.ensures ∙ c.if-not-shows_least.false)
-    (sym c.shows_nearest.ensures ∙ c.if-not-shows_nearest.false)
+on_ok : {T E P Q : Type 0} (r : Result T E) → (P → Q) → OnOk r P → OnOk r Q
+on_ok (Ok x) f p = f p
+on_ok (Err e) f p = tt
 
 pub returns-clause-prices : goal.returns-clause-prices
 returns-clause-prices c =
@@ -79,6 +59,6 @@ returns-clause-prices c =
     let greatest : (weights : List ℕ) → All (λ w. IsGreatest lots book (has w.group) w.without) (weighted groups won weights) = λ weights.
     All-from_recursion (λ (w : Weighted). IsGreatest lots book (has w.group) w.without) (weighted groups won weights)
     (all_greatest lots book groups won weights c.requires.without) in
-    shown_are_the_prices reserves lots book payments.first.now (price_in c.args.alone.now) payments.parts (price_in payments.prices.now) rule
-    c.requires.suffice (greatest given.least.groups.now) (greatest given.nearest.groups.now)
-    (both_shown _ _ (sym c.shows_least.ensures ∙ c.if-not-shows_least.false) (sym c.shows_nearest.ensures ∙ c.if-not-shows_nearest.false))
+    let shown = rw (c.shows_least-least.ensures, c.shows_nearest-nearest.ensures) at c.both_shown.ensures.shown in
+    on_ok c.both_shown.result (shown_are_the_prices reserves lots book payments.first.now (price_in c.args.alone.now) payments.parts (price_in payments.prices.now) rule
+    c.requires.suffice (greatest given.least.groups.now) (greatest given.nearest.groups.now)) shown
