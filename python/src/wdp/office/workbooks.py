@@ -319,8 +319,8 @@ class _SheetReader:
         if known is None:
             known = usual[key] = self._judge_usual(column, style)
         text = element[-1].text or ""
-        parse = _parse_short if len(text) <= _LONGEST_USUAL else _parse_whole
-        number, digits = parse(text)
+        is_short = len(text) <= _LONGEST_USUAL
+        number, digits = _parse_short(text) if is_short else _parse_whole(text)
         room = self.layout.rooms[column]
         if not known.least <= number < known.beyond or not room:
             return None
