@@ -47,7 +47,8 @@ _ERROR = re.compile(r"#[A-Z0-9/_]+[!?]?")
 _DATE = re.compile("[0-9]{4}-[0-9]{2}-[0-9]{2}(?:T[0-9:.]+Z?)?")
 _TEXTS = ("s", "str", "inlineStr")
 _TEXT = "text"  # what kind of fault a number is that is written as a text
-_LONGEST_USUAL = 15  # characters of a number
+_LONGEST_USUAL = 15  # digits of a number
+_LONGEST_NUMBER = 68  # characters of one with a fraction
 _MOST_VALUES = 150_000  # cells, more than a form has
 _MOST_ODD = 10_000  # cells that no form may have, after which the rest isn't read
 _MOST_SPILLED = 4_100  # formulas with values in other cells, more than a form has rows
@@ -319,8 +320,7 @@ class _SheetReader:
         if known is None:
             known = usual[key] = self._judge_usual(column, style)
         text = element[-1].text or ""
-        is_short = len(text) <= _LONGEST_USUAL
-        number, digits = _parse_short(text) if is_short else _parse_whole(text)
+        number, digits = _parse_whole(text) if len(text) <= _LONGEST_NUMBER else (-1, "")
         room = self.layout.rooms[column]
         if not known.least <= number < known.beyond or not room:
             return None
@@ -495,6 +495,7 @@ class _SheetReader:
         return next((look for look in looks if look.find_reason(number)), looks[0])
 
 
+@lru_cache(maxsize=4_096)
 def _parse_whole(text: str) -> tuple[int, str]:
     """A whole number, which isn't below 0, as a cell has it, and its digits; -1 if it isn't one."""
     number: float = -1
@@ -504,9 +505,6 @@ def _parse_whole(text: str) -> tuple[int, str]:
         number = float(text)
     is_whole = 0 <= number < MOST_SHOWN and number == int(number)
     return (int(number), str(int(number))) if is_whole else (-1, "")
-
-
-_parse_short = lru_cache(maxsize=4_096)(_parse_whole)
 
 
 def _format_date(number: float, *, is_of_1904: bool) -> str:
