@@ -6,6 +6,8 @@ formulas, arrays, unnamed, heights, faults, looks, rules, comments, drawn: such 
   which has values in all cells; cells without names; whose rows have heights of their own; whose numbers are texts; whose cells look
   different; with conditions, in each of which are many colours; with comments; with drawings (drawn).
 cells, ignored: as many cells as are read; cells with attributes that may be ignored.
+narrow, spaced, digits: such a form whose numbers are wider than their columns; whose cells and values have an attribute that shows
+  nothing; whose numbers have many zeros after the point.
 floats, blanks, words, gaps: a form of numbers with a fraction of 0; of formulas without a value; of words; of every second cell.
 links: a sheet that is linked to one part many times.
 long_name, wide: rows with one cell far to the right, in a sheet with a long name; and with an ordinary one.
@@ -180,6 +182,12 @@ def make_csv(line, size):
     return ",".join(HEAD).encode() + b"\n" + line * (size // len(line))
 
 
+def make_narrow():
+    """Numbers that are wider than their columns."""
+    columns = '<cols><col min="1" max="40" width="1.5" customWidth="1"/></cols>'
+    return workbooks.make_one(columns + make_full(lambda place, value: f'<c r="{place}"><v>{value + 11}</v></c>'))
+
+
 small = workbooks.make_body(SMALL)
 KINDS = {
     "form": lambda: workbooks.make_one(workbooks.make_body(make_form())),
@@ -195,6 +203,11 @@ KINDS = {
     ),
     "looks": lambda: make_styled(1_024),
     "rules": make_rules,
+    "narrow": make_narrow,
+    "spaced": lambda: workbooks.make_one(
+        make_full(lambda place, value: f'<c r="{place}" cm="1"><v xml:space="preserve">{value}</v></c>')
+    ),
+    "digits": lambda: workbooks.make_one(make_full(lambda place, value: f'<c r="{place}"><v>{value}.{"0" * 40}</v></c>')),
     "floats": lambda: workbooks.make_one(make_full(lambda place, value: f'<c r="{place}"><v>{value}.0</v></c>')),
     "blanks": lambda: workbooks.make_one(make_full(lambda place, value: f'<c r="{place}" t="str"><f>A1</f><v></v></c>')),
     "words": lambda: workbooks.make_one(make_full(lambda place, value: f'<c r="{place}" t="str"><v>x</v></c>')),

@@ -19,7 +19,8 @@ Colour = tuple[int, int, int]
 _Value = TypeVar("_Value")
 
 OFF = ("0", "false")
-NUMBER = re.compile(r"[+-]?(?=\.?[0-9])[0-9]{0,400}(?:\.[0-9]{0,400})?(?:[eE][+-]?[0-9]{1,4})?")
+# as a spreadsheet writes it: programs write 17 digits, and zeros before or after them
+NUMBER = re.compile(r"[+-]?(?=\.?[0-9])[0-9]{0,30}(?:\.[0-9]{0,30})?(?:[eE][+-]?[0-9]{1,4})?")
 INDEX = re.compile("[0-9]{1,9}")
 _RGB = re.compile("[0-9A-Fa-f]{2}([0-9A-Fa-f]{6})")
 _BLACK: Colour = (0, 0, 0)

@@ -47,7 +47,8 @@ _ERROR = re.compile(r"#[A-Z0-9/_]+[!?]?")
 _DATE = re.compile("[0-9]{4}-[0-9]{2}-[0-9]{2}(?:T[0-9:.]+Z?)?")
 _TEXTS = ("s", "str", "inlineStr")
 _TEXT = "text"  # what kind of fault a number is that is written as a text
-_LONGEST_USUAL = 15  # characters of a number
+_LONGEST_USUAL = 15  # digits of a number
+_LONGEST_NUMBER = 68  # characters of one with a fraction
 _MOST_VALUES = 150_000  # cells, more than a form has
 _MOST_ODD = 10_000  # cells that no form may have, after which the rest isn't read
 _MOST_SPILLED = 4_100  # formulas with values in other cells, more than a form has rows
@@ -311,34 +312,43 @@ class _SheetReader:
         """The number of the next cell of the row, if it has nothing else that is to be looked at."""
         column = self.column + 1
         place = format_column(column) + row
-        attributes = element.attrib
-        style = attributes.get("s")
-        if element.tag != self.cell_tag or not _are_usual(attributes, style, place):
+        if not self._is_usual(element, place) or column > MOST_CELLS:
             return None
-        if column > MOST_CELLS:
-            return None
-        count = len(element)
-        if count != 1 and not self._has_plain_formula(element, place):
-            return None
-        value = element[-1]
-        if value.tag != self.value_tag or len(value) or value.keys():
-            return None
-        text = value.text
-        if not text or len(text) > _LONGEST_USUAL:
-            return None
+        style = element.get("s")
         key: _Style = column if style is None else style
         known = usual.get(key)
         if known is None:
             known = usual[key] = self._judge_usual(column, style)
-        number, digits = _parse_whole(text)
-        is_shown = known.least <= number < known.beyond
-        if not is_shown or number >= self.layout.rooms[column]:
+        text = element[-1].text or ""
+        number, digits = _parse_whole(text) if len(text) <= _LONGEST_NUMBER else (-1, "")
+        room = self.layout.rooms[column]
+        if not known.least <= number < known.beyond or not room:
             return None
-        if count == 2:
+        if number >= room:
+            self.remarks.narrow.append(place)
+        if len(element) == 2:
             self.remarks.formulas.append(place)
         self.column = column
         self.values.columns[column].add(self.row, known.look)
         return digits
+
+    def _is_usual(self, element: Element, place: str) -> bool:
+        """Whether a cell has a value, and perhaps a formula that has no values in other cells, and
+        nothing of it has to be looked at.
+        """
+        attributes = element.attrib
+        if element.tag != self.cell_tag or attributes.get("r", place) != place:
+            return False
+        count = len(element)
+        if count != 1 and not self._has_plain_formula(element, place):
+            return False
+        others = len(attributes) - ("r" in attributes) - ("s" in attributes)
+        if others and (attributes.get("t", "n") != "n" or not self.part.knows(element)):
+            return False
+        value = element[-1]
+        if value.tag != self.value_tag or len(value):
+            return False
+        return not value.keys() or self.part.knows(value)
 
     def _has_plain_formula(self, element: Element, place: str) -> bool:
         """Whether a cell has a formula that has no values in other cells, and one element more."""
@@ -485,21 +495,11 @@ class _SheetReader:
         return next((look for look in looks if look.find_reason(number)), looks[0])
 
 
-def _are_usual(attributes: Mapping[str, str], style: str | None, place: str) -> bool:
-    """Whether these are a style, the place and the kind of a number, or fewer of them."""
-    count = len(attributes) - (style is not None)
-    if attributes.get("r") == place:
-        count -= 1
-    return not count or count == 1 and attributes.get("t") == "n"
-
-
 @lru_cache(maxsize=4_096)
 def _parse_whole(text: str) -> tuple[int, str]:
-    """A whole number, which isn't below 0, by the few characters that a cell has, and its digits; -1
-    if it isn't one.
-    """
+    """A whole number, which isn't below 0, as a cell has it, and its digits; -1 if it isn't one."""
     number: float = -1
-    if text.isdigit() and text.isascii():
+    if len(text) <= _LONGEST_USUAL and text.isdigit() and text.isascii():
         number = int(text)
     elif NUMBER.fullmatch(text):
         number = float(text)
