@@ -1,1 +1,1 @@
-"""What bench/desk tries desks with: folders, callers, a judge, and machines whose disk and clock fail."""
+"""The parts of bench/desk: desks, callers, trials, and machines whose disk and clock fail."""

@@ -1,4 +1,4 @@
-"""Callers of a desk, what they were told and how long it took."""
+"""Callers of a desk: their calls, the answers and the times."""
 import asyncio
 import json
 import random
@@ -18,7 +18,7 @@ Row = tuple[str, int, str]
 
 @dataclass
 class Callers:
-    """What came of calls: how long each took, and the answers."""
+    """How long each call took, and how many answers of each kind there were."""
 
     seconds: list[float] = field(default_factory=list)
     answers: Counter[str] = field(default_factory=Counter)
@@ -67,7 +67,7 @@ async def hand_in_all(url: str, work: list[tuple[str, bytes]]) -> Callers:
 
 
 class Load:
-    """Callers that hand in and withdraw as long as the desk is up."""
+    """Callers that hand in and withdraw forms while the desk is up."""
 
     def __init__(self, url: str, rows: list[Row], judge: Judge, *, bids: tuple[int, int], seed: int) -> None:
         self.url = url

@@ -1,4 +1,4 @@
-"""Desks that are killed, whose disk fails or is full, whose power is cut and whose clock is set."""
+"""Trials in which a desk is killed, its disk fails or is full, its power is cut, or its clock is set."""
 import argparse
 import asyncio
 import contextlib
@@ -18,7 +18,7 @@ from desk_trials.settling import settle
 from trials.desk_judge import Judge, read_entries
 
 CALLERS_OF_A_BIDDER = 2
-# how a trial of one desk ends it, and what is counted
+# ends a desk in the way of a trial; what is counted
 End = Callable[[Forked], Awaitable[list[str]]]
 
 
@@ -28,7 +28,7 @@ def kill(pid: int) -> None:
 
 
 async def wait_until_dead(pid: int) -> None:
-    """(Who has no parent any more is only buried after a while.)"""
+    """(The system removes a process without a parent only after a while.)"""
     with contextlib.suppress(FileNotFoundError):
         while Path(f"/proc/{pid}/stat").read_text().rpartition(")")[2].split()[0] not in "ZX":
             await asyncio.sleep(0.002)
@@ -39,7 +39,7 @@ async def wait_in_thread(service: Forked) -> None:
 
 
 class Rounds:
-    """Starts of a desk under load, each of which is ended in some way."""
+    """A desk that is started under load again and again, and ended each time."""
 
     def __init__(self, options: argparse.Namespace, desk: DeskFolder, starter: Starter) -> None:
         self.options = options
@@ -241,7 +241,7 @@ def run_clock(options: argparse.Namespace, folder: Path) -> bool:
             load.is_up.set()
             await load.wait_for_receipts()
             await asyncio.sleep(0.5)
-            # (the file is read at each look at the clock)
+            # (the library reads the file whenever the clock is read, so it has to be complete at all times)
             clock.with_suffix(".new").write_text(str(by))
             os.replace(clock.with_suffix(".new"), clock)
             set_at = time.time()

@@ -1,4 +1,4 @@
-"""Desks under load: many callers at once beside a floor, callers at the close's second, and half requests."""
+"""Trials with many callers: at once and compared with a floor, around the close, and with half requests."""
 import argparse
 import asyncio
 import datetime
@@ -50,7 +50,7 @@ class Floor(Service):
 
 
 def measure(service: Service, work: list[tuple[str, bytes]], first: list[tuple[str, bytes]]) -> tuple[float, Callers]:
-    """Milliseconds of processor a form, and what the callers saw. (What starts once isn't measured: the children that read forms.)"""
+    """Milliseconds of processor time a form, and what the callers saw. (The start of the children that read forms isn't measured.)"""
     url = f"http://127.0.0.1:{service.port}"
     asyncio.run(hand_in_all(url, first))
     begin, before = time.perf_counter(), service.count_seconds()

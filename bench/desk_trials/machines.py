@@ -1,4 +1,4 @@
-"""Machines whose disk fails: syncs that are known, late or refused, a disk that is full, and one that loses what wasn't flushed."""
+"""Machines whose disk fails: syncs are recorded, delayed or fail, the disk is full, or it loses what wasn't flushed."""
 import contextlib
 import os
 import random
@@ -21,7 +21,7 @@ def make_library(folder: Path) -> Path:
 
 
 class FilterMachine:
-    """What the filter runs on: it is known how much of the journal is synced, a sync takes some time, and it can be made to fail."""
+    """A machine for wdp-desk that records how many bytes of the journal are synced, delays each sync, and can make syncs fail."""
 
     def __init__(self, folder: Path, delay: int) -> None:
         self.synced = folder / "synced"
@@ -38,12 +38,12 @@ class FilterMachine:
         self.program.chmod(0o700)
 
     def count_synced(self) -> int:
-        """How many bytes of the journal are surely on the disk: nobody is told before they are counted here."""
+        """How many bytes of the journal are on the disk. They are counted before wdp-desk learns that its sync has ended."""
         return int(self.synced.read_text() or 0)
 
     def tear(self, draw: random.Random, journal: Path) -> bool:
-        """What a power cut leaves: each sector behind what was synced is there or empty, and the end may be gone. Whether there was
-        anything behind it."""
+        """Does to a journal what a power cut does: each sector after the synced bytes is kept or emptied, and the end may be cut off.
+        Whether there were such bytes."""
         data = bytearray(journal.read_bytes())
         synced = self.count_synced()
         if len(data) <= synced:
@@ -61,7 +61,7 @@ class FilterMachine:
 
 @contextlib.contextmanager
 def mount_small(folder: Path, size: str) -> Iterator[Path]:
-    """A disk that is soon full."""
+    """A small disk."""
     disk = folder / "disk"
     disk.mkdir()
     subprocess.run(["mount", "-t", "tmpfs", "-o", f"size={size}", "none", disk], check=True)
@@ -116,7 +116,7 @@ class PoweredDisk:
 
 
 def unmount(folder: Path) -> None:
-    """(Something of a process that was just killed may still hold it.)"""
+    """(A process that was just killed may still hold a file.)"""
     for _ in range(200):
         if not subprocess.run(["umount", folder], capture_output=True).returncode:
             return

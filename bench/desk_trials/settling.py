@@ -1,4 +1,4 @@
-"""A desk is closed, its forms are opened, and all that was told is judged."""
+"""Closes a desk, opens its forms, and judges all receipts."""
 from desk_trials.desks import DeskFolder, find_wdp, run
 from trials.desk_judge import Judge, read_entries
 

@@ -1,4 +1,4 @@
-"""Runs of `wdp-desk` that are killed, and journals that are torn or damaged, for tests and for bench/."""
+"""Runs of `wdp-desk` that are killed, and torn or damaged journals, for tests and for bench/."""
 
 from __future__ import annotations
 
@@ -74,7 +74,7 @@ def told_entries(told: list[bytes]) -> list[tuple[bytes, bytes]]:
 
 
 def torn(data: bytes, end: int, chance: random.Random) -> bytes:
-    """A journal of which so many bytes were on the disk: of the sectors behind them some weren't written."""
+    """A journal after a power cut: the first `end` bytes were on the disk, and of the sectors after them some weren't."""
     rest = bytearray(data[end:])
     for sector in range(0, len(rest) + SECTOR, SECTOR):
         at = sector - end % SECTOR
@@ -101,7 +101,7 @@ def random_change(chance: random.Random, number: int) -> Call:
 def kill_under_calls(
     program: str, journal: Path, chance: random.Random, first: int, **environment: str
 ) -> list[bytes]:
-    """What a desk told that is killed at a random moment while calls come."""
+    """The replies of a desk that is killed at a random moment while calls come."""
     calls = [random_change(chance, first + number).encode() for number in range(200)]
     desk = Conversation(program, journal, **environment)
 
@@ -133,7 +133,7 @@ def kill_under_calls(
 
 
 def close_input(process: subprocess.Popen[bytes]) -> None:
-    """(What can't be sent any more is forgotten.)"""
+    """Closes the input of a process that may have ended; calls that can't be sent any more are dropped."""
     assert process.stdin
     try:
         process.stdin.close()
@@ -159,7 +159,8 @@ def make_journal() -> tuple[Desk, bytes]:
 
 
 def judge_journal(data: bytes) -> tuple[str, int]:
-    """What a journal is, by the second writing: whole, torn or damaged, and from which byte on; or of another round."""
+    """The verdict of the second implementation: whole, torn or damaged, and from which byte on; not made to its end; or of another
+    round."""
     if not data.startswith(FRONT):
         if len(data) <= len(FRONT) and all(one in (0, two) for one, two in zip(data, FRONT)):
             return "unmade", 0
@@ -180,7 +181,8 @@ def is_due(
     answer: tuple[bytes, bytes],
     accounts: dict[bytes, tuple[int, bytes]],
 ) -> bool:
-    """Whether an entry has the answer that is due after the accounts, which it changes: changes, and the number that stands."""
+    """Whether an entry has the answer that the entries before it lead to. Of each bidder, `accounts` has the number of changes and the
+    number that stands, and is brought up to date."""
     bidder, kind, over = words[2], words[4], words[5]
     changes, stands = accounts.get(bidder, (0, b"-"))
     if kind == b"close":
@@ -195,7 +197,7 @@ def is_due(
 
 
 def damage(data: bytes, chance: random.Random) -> bytes:
-    """A journal that isn't as it was."""
+    """A journal with some damage."""
     changed = bytearray(data)
     at = chance.randrange(len(data))
     size = chance.randint(1, 60)
@@ -247,7 +249,7 @@ def tell_another_answer(data: bytes, chance: random.Random) -> bytes:
 
 
 def find_wrong_verdict(program: str, journal: Path, data: bytes) -> str:
-    """What the program does with a journal that the second writing judges otherwise; "" if nothing."""
+    """Where the program and the second implementation differ about a journal; "" if they agree."""
     verdict, place = judge_journal(data)
     journal.write_bytes(data)
     name = os.fsencode(journal)

@@ -1,9 +1,11 @@
-/* Preload it: a machine whose disk and clock are tried.
+/* A library to preload: it records, delays or fails the syncs of a program, and sets its clock. The environment says how:
  *
- * SYNCED         a file that gets the length of the regular file whose sync has just ended, before whoever asked for it knows
- * SYNC_DELAY     so many microseconds pass before each sync
- * SYNC_FAILS     while this file is there each sync fails
- * CLOCK          a file with the seconds by which the clock is beside the right time
+ * SYNCED         after each sync, and before it returns, the length of the synced file is written into this file
+ * SYNC_DELAY     each sync takes this number of microseconds longer
+ * SYNC_FAILS     while this file exists, each sync fails
+ * CLOCK          a file with the number of seconds that are added to the time of day
+ *
+ * All this is about regular files; folders are synced as without the library.
  */
 #define _GNU_SOURCE
 #include <dlfcn.h>
