@@ -297,6 +297,22 @@ def test_groups_that_were_added_for_another_award(folder: AuctionFolder) -> None
     assert (second / "audit.txt").read_bytes() == before[second / "audit.txt"]
 
 
+OF_AN_AWARD = "award.txt audit.txt prices.txt report.txt ties.txt unpriced.txt certificates/1.txt certificates/2.txt"
+
+
+@pytest.mark.parametrize("name", [*OF_AN_AWARD.split(), "programs/1.mps", "solutions/1.txt", "solutions/3.txt"])
+def test_an_award_of_which_a_file_is_missing(folder: AuctionFolder, name: str) -> None:
+    """It is made again as this award, and not as another one that ties with it."""
+    assert run_in(folder, "auction --award 2").status == 0
+    before = read_files(folder)
+    (folder.where / "awards/2" / name).unlink()
+    seen = run_in(folder, "auction --award 2")
+    assert seen.status == 0, seen
+    after = read_files(folder)
+    others = {key: text for key, text in after.items() if "/logs/" not in key}
+    assert others == {key: text for key, text in before.items() if "/logs/" not in key}
+
+
 def test_an_award_of_which_a_file_was_changed(folder: AuctionFolder) -> None:
     """Another list of awards would have award 2 made anew: what the office wrote there stays."""
     assert run_in(folder, "auction --award 2").status == 0

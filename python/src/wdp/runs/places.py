@@ -114,13 +114,25 @@ def _run_for_award(run: Run, award: int) -> int:
     with folder.lock(alone=True), folder.scratch():
         if folder.has(_UNPRICED) and folder.read(_UNPRICED) != audit:
             folder.clear()
-        if not folder.has(_UNPRICED):
+        if not folder.has(_UNPRICED) or _lacks_part(folder, audit):
             take_audit(run_of_award, audit)
             folder.leave(_UNPRICED, audit)
         status = run_of_award.run_all()
     if not status:
+        if audits.list_numbers(folder.read(AUDIT))[0] != award:
+            raise Refused(f"{folder.path(AUDIT)} hasn't award {award} first: delete {folder.where}")
         run.means.reporter.say(f"award {award} is the first of {folder.path(AUDIT)}")
     return status
+
+
+def _lacks_part(folder: Folder, audit: bytes) -> bool:
+    """Whether a file with something of the audit isn't in its folder any more. What the solver finds
+    in its place may be another award.
+    """
+    kinds = [part.kind for part in parse_parts(audit)]
+    groups = range(1, kinds.count("certificate") + 1)
+    names = [name_file(kind, group) for kind in ("solution", "certificate") for group in groups]
+    return not all(map(folder.has, [*names, TIES]))
 
 
 def take_audit(run: Run, audit: bytes) -> None:
