@@ -361,7 +361,7 @@ def pages(tmp_path):
     return call
 
 
-COMPILE = "answers/src/commands/compile.rt | run_compile.faithful"
+COMPILE = "answers/src/commands/compile.rt | write_programs.faithful"
 FITS = "auction_terms.Packages.fits"
 MISSING = "can't be read: No such file or directory"
 # a file, what is changed in it, and what is said of the change
@@ -370,12 +370,12 @@ ABSENT = {
         "tools/pages",
         COMPILE,
         COMPILE.replace("faithful", "faithless"),
-        "a promise names run_compile.faithless, and run_compile of compile.rt hasn't a clause faithless",
+        "a promise names write_programs.faithless, and write_programs of compile.rt hasn't a clause faithless",
     ),
     "function": (
         "tools/pages",
         COMPILE,
-        COMPILE.replace("run_compile", "run_away"),
+        COMPILE.replace("write_programs", "run_away"),
         "a promise names run_away, which isn't a public function of compile.rt",
     ),
     "source": (
