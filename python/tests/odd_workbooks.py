@@ -11,6 +11,7 @@ from workbooks import FORM, HEAD, LINKS, MAIN, OFFICE, RawWorkbook, make_row
 COMPATIBLE = "http://schemas.openxmlformats.org/markup-compatibility/2006"
 AC = "http://schemas.microsoft.com/office/spreadsheetml/2009/9/ac"
 DRAWING = "http://schemas.openxmlformats.org/drawingml/2006/spreadsheetDrawing"
+ART = "http://schemas.openxmlformats.org/drawingml/2006/main"
 X14 = "http://schemas.microsoft.com/office/spreadsheetml/2009/9/main"
 XM = "http://schemas.microsoft.com/office/excel/2006/main"
 SHEET = "xl/worksheets/sheet1.xml"
@@ -109,6 +110,67 @@ def comment(cell: str, count: int = 1) -> dict[str, Any]:
     return linked("comments", "comments1.xml", f"<comments xmlns='{MAIN}'>{listed}</comments>")
 
 
+VML = """<xml xmlns:v="urn:schemas-microsoft-com:vml" xmlns:x="urn:schemas-microsoft-com:office:excel">
+<v:shape type="#_x0000_t202" style="position:absolute;visibility:{}"><x:ClientData ObjectType="Note">
+<x:Anchor>0,0,1,0,3,0,4,0</x:Anchor>{}<x:Row>8</x:Row><x:Column>4</x:Column></x:ClientData></v:shape>{}</xml>"""
+
+
+def note(visibility: str, more: str = "", shapes: str = "") -> dict[str, Any]:
+    """A comment beside the bids, whose note is over them, if it is seen; and other shapes."""
+    made = comment("E9")
+    rels = made["parts"]["xl/worksheets/_rels/sheet1.xml.rels"]
+    link = f'<Relationship Id="rId2" Type="{OFFICE}/vmlDrawing" Target="../vml1.vml"/>'
+    made["parts"]["xl/worksheets/_rels/sheet1.xml.rels"] = rels.replace("</Rel", f"{link}</Rel")
+    made["parts"]["xl/vml1.vml"] = VML.format(visibility, more, shapes)
+    return {**made, "after": '<legacyDrawing r:id="rId2"/>', "root": f'xmlns:r="{OFFICE}"'}
+
+
+def bordered(ends: str, style: str) -> str:
+    """Styles of cells with a border that may go across them."""
+    made = (
+        f"<borders count='2'><border/><border {ends}><diagonal style='{style}'/></border></borders>"
+    )
+    return (
+        make_styles()
+        .replace("<cellXfs", f"{made}<cellXfs")
+        .replace("<xf font", "<xf borderId='1' font")
+    )
+
+
+def themed(face: str) -> dict[str, Any]:
+    """Amounts in the font of a theme."""
+    colours = "<a:dk1><a:sysClr val='windowText'/></a:dk1><a:lt1><a:sysClr val='window'/></a:lt1>"
+    scheme = f"<a:clrScheme name='Office'>{colours}</a:clrScheme>"
+    fonts = f"<a:minorFont><a:latin typeface='{face}'/></a:minorFont>"
+    scheme += f"<a:fontScheme name='Office'>{fonts}</a:fontScheme>"
+    root = f"<a:theme xmlns:a='{ART}'><a:themeElements>{scheme}</a:themeElements></a:theme>"
+    link = f'<Relationship Id="rId9" Type="{OFFICE}/theme" Target="theme1.xml"/></Relationships>'
+    font = "<font><name val='Calibri'/><scheme val='minor'/></font>"
+    return {
+        "cell": 's="1"',
+        "styles": make_styles(font=font),
+        "parts": {"xl/theme1.xml": root},
+        "changes": [("xl/_rels/workbook.xml.rels", "</Relationships>", link)],
+    }
+
+
+def drawn(inner: str, offset: int = 0) -> dict[str, Any]:
+    """A drawing whose corners are beside the bids."""
+    drawing = anchor((5, 1), (6, 2)).replace("</xdr:twoC", f"{inner}<xdr:clientData/></xdr:twoC")
+    drawing = drawing.replace("</xdr:col>", f"</xdr:col><xdr:colOff>{offset}</xdr:colOff>", 1)
+    drawing = drawing.replace("<xdr:wsDr", f'<xdr:wsDr xmlns:a="{ART}"')
+    made = linked("drawing", "drawing1.xml", drawing)
+    return {**made, "after": '<drawing r:id="rId1"/>', "root": f'xmlns:r="{OFFICE}"'}
+
+
+def picture(more: str = "", shape: str = "rect") -> str:
+    """A picture of this shape."""
+    frame = f"<a:xfrm{more}><a:off x='0' y='0'/><a:ext cx='9' cy='9'/></a:xfrm>"
+    frame += f"<a:prstGeom prst='{shape}'><a:avLst/></a:prstGeom>"
+    named = "<xdr:nvPicPr><xdr:cNvPr id='2' name='x'/><xdr:cNvPicPr/></xdr:nvPicPr>"
+    return f"<xdr:pic>{named}<xdr:blipFill/><xdr:spPr>{frame}</xdr:spPr></xdr:pic>"
+
+
 def anchor(begin: tuple[int, int], end: tuple[int, int]) -> str:
     corners = (
         f"<xdr:{name}><xdr:col>{column}</xdr:col><xdr:row>{row}</xdr:row></xdr:{name}>"
@@ -157,6 +219,11 @@ def styled(**styles: str) -> Odd:
     return Odd(cell='s="1"', styles=make_styles(**styles))
 
 
+def headed(text: str) -> Odd:
+    """A name in the first row that is another text than it was."""
+    return Odd(changes=[(SHEET, "<is><t>High</t></is>", f"<is>{text}</is>")])
+
+
 TAKEN = "Fox,Low,High / 5000,2,1 / 9900,4,0 / 3000,0,3"
 FORMAT = "A2: its format {} isn't known to show it as it is"
 IGNORED = f'xmlns:mc="{COMPATIBLE}" xmlns:x14ac="{AC}" mc:Ignorable="x14ac"'
@@ -165,6 +232,9 @@ BOOK_OLD = '<sheet name="Bids"'
 UNAPPLIED = make_styles(font=coloured("rgb='FF0000FF'"), xf="applyFont='0' xfId='0'")
 UNAPPLIED = UNAPPLIED.replace("<cellXfs", "<cellStyleXfs><xf fontId='0'/></cellStyleXfs><cellXfs")
 YELLOW_ROW = [(SHEET, '<c r="A3" ', '<c r="A3" s="1" ')]
+PALE_BARS = {**bars(), "cell": 's="1"', "styles": make_styles(font=coloured("rgb='FF80E080'"))}
+OWN_STYLE = "<tableStyles><tableStyle name='TableStyleLight1'/></tableStyles>"
+ALL_UNDER = "12 cells under a drawing: A1, A2,"
 LARGE = make_styles(font="<font><sz val='60'/></font>")
 
 # the name of each kind, a workbook, and what is said of it: in part, or that it is taken without a word
@@ -501,5 +571,125 @@ ODD: dict[str, tuple[Odd, str]] = {
             changes=[(SHEET, '<c r="B1"', '<c r="B1" s="1"')],
         ),
         "B1: its format '0;0;0;\"High\"' isn't known to show it as it is",
+    ),
+    "a note over the bids": (Odd(**note("visible")), ALL_UNDER),
+    "a note over the bids, as its data say": (Odd(**note("hidden", "<x:Visible/>")), ALL_UNDER),
+    "a note that isn't seen": (Odd(**note("hidden")), TAKEN),
+    "a shape beside a note": (
+        Odd(**note("hidden", shapes="<V:rect xmlns:V='urn:schemas-microsoft-com:vml'/>")),
+        ALL_UNDER,
+    ),
+    "a picture behind the cells": (
+        Odd(
+            after='<picture r:id="rId1"/>',
+            root=f'xmlns:r="{OFFICE}"',
+            **linked("image", "image1.png", ""),
+        ),
+        ALL_UNDER,
+    ),
+    "buttons": (Odd(after="<controls/>"), ALL_UNDER),
+    "lines across": (
+        Odd(cell='s="1"', styles=bordered("diagonalUp='1' diagonalDown='1'", "thick")),
+        "A2: a line goes across it; the same of A3, A4",
+    ),
+    "a line across that isn't drawn": (
+        Odd(cell='s="1"', styles=bordered("diagonalUp='0'", "thick")),
+        TAKEN,
+    ),
+    "a line across without a style": (
+        Odd(cell='s="1"', styles=bordered("diagonalDown='1'", "none")),
+        TAKEN,
+    ),
+    "a line across by a condition": (
+        Odd(**given("<border diagonalUp='1'><diagonal style='thin'/></border>")),
+        "A2: a condition may put a line across it",
+    ),
+    "signs for digits by the theme": (
+        Odd(**themed("Wingdings")),
+        "A2: its font 'Wingdings' may have other signs",
+    ),
+    "the font of the theme": (Odd(**themed("Calibri")), TAKEN),
+    "signs for digits in a list of fonts": (
+        styled(font="<font><name val='Nobody;Wingdings'/></font>"),
+        "A2: its font 'Nobody;Wingdings' may have other signs",
+    ),
+    "signs for digits from above": (
+        styled(font="<font><name val='@Webdings'/></font>"),
+        "A2: its font '@Webdings' may have other signs",
+    ),
+    "frozen beyond the window": (
+        Odd(
+            before="<sheetViews><sheetView workbookViewId='0'><pane ySplit='300' state='frozen'/></sheetView></sheetViews>"
+        ),
+        "its window is frozen beyond the first 20 rows or columns",
+    ),
+    "a table of a style of its own": (
+        Odd(styles=make_styles(more=OWN_STYLE), **table("TableStyleLight1")),
+        "A1: its table has the style 'TableStyleLight1', which may colour it",
+    ),
+    "light digits in a table": (
+        Odd(
+            cell='s="1"',
+            styles=make_styles(font=coloured("rgb='FFCECFCF'")),
+            **table("TableStyleLight1"),
+        ),
+        "12 cells under a condition that may change the look",
+    ),
+    "three places for a fraction": (styled(code="0.000"), FORMAT.format("'0.000'")),
+    "four places for a fraction": (styled(code="0.0000"), TAKEN),
+    "a name that is repeated": (
+        Odd(
+            styles=make_styles(xf="<alignment horizontal='fill'/>"),
+            changes=[(SHEET, '<c r="B1"', '<c r="B1" s="1"')],
+        ),
+        "B1: its alignment 'fill' may repeat it",
+    ),
+    "a name of which a part is white": (
+        headed("<r><t>Hi</t></r><r><rPr><color rgb='FFFFFFFF'/></rPr><t>gh</t></r>"),
+        "C1: the colour of its font, FFFFFF, can't be told from its fill, FFFFFF",
+    ),
+    "a name of which a part is struck through": (
+        headed("<r><t>Hi</t></r><r><rPr><strike/><sz val='11'/></rPr><t>gh</t></r>"),
+        "C1: it is struck through",
+    ),
+    "a name of signs": (
+        headed("<r><rPr><rFont val='Wingdings'/></rPr><t>High</t></r>"),
+        "C1: its font 'Wingdings' may have other signs",
+    ),
+    "a name of which a part is red": (
+        headed("<r><t>Hi</t></r><r><rPr><b/><color rgb='FFFF0000'/></rPr><t>gh</t></r>"),
+        TAKEN,
+    ),
+    "a name with pieces and a text": (
+        headed("<t>Hi</t><r><t>gh</t></r>"),
+        "a text of its cells has pieces, and a text beside them",
+    ),
+    "digits as wide as the column": (
+        Odd(before="<cols><col min='1' max='1' width='4.7109375'/></cols>"),
+        TAKEN,
+    ),
+    "digits a little wider than the column": (
+        Odd(before="<cols><col min='1' max='1' width='4.5'/></cols>"),
+        "3 numbers wider than the column: A2, A3, A4",
+    ),
+    "large digits in a narrow column": (
+        Odd(cell='s="1"', styles=make_styles(font="<font><sz val='30'/></font>")),
+        "3 numbers wider than the column: A2, A3, A4",
+    ),
+    "columns of no width": (
+        Odd(before="<sheetFormatPr baseColWidth='0' defaultRowHeight='15'/>"),
+        "A1: its column is hidden",
+    ),
+    "bars that get as light as their digits": (
+        Odd(**PALE_BARS),
+        "A2: a condition may put a fill behind it",
+    ),
+    "a picture beside the bids": (Odd(**drawn(picture())), TAKEN),
+    "a turned picture beside the bids": (Odd(**drawn(picture(" rot='5400000'"))), ALL_UNDER),
+    "a callout beside the bids": (Odd(**drawn(picture(shape="wedgeRectCallout"))), ALL_UNDER),
+    "a picture moved over the bids": (Odd(**drawn(picture(), -5_000_000)), ALL_UNDER),
+    "a thick line beside the bids": (
+        Odd(**drawn("<xdr:cxnSp><xdr:spPr><a:ln w='20000000'/></xdr:spPr></xdr:cxnSp>")),
+        ALL_UNDER,
     ),
 }

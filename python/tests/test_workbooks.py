@@ -13,6 +13,7 @@ from collections.abc import Callable
 from pathlib import Path
 from typing import Any
 
+import openpyxl.comments
 import pytest
 
 import workbooks
@@ -69,6 +70,12 @@ TOO_MUCH: dict[str, tuple[Callable[[], bytes], str]] = {
     "fonts": (
         lambda: make_odd(Odd(styles=make_styles(font="<font><sz val='11'/></font>" * 1_024))),
         "it has more than 1,024 fonts or fills",
+    ),
+    "pieces of texts": (
+        lambda: workbooks.RawWorkbook(
+            ("Bids", ""), texts=f"<si>{'<r><rPr/><t>x</t></r>' * 10_001}</si>"
+        ).bytes(),
+        "its texts have more than 10,000 fonts of their own",
     ),
     "texts": (
         lambda: workbooks.RawWorkbook(("Bids", ""), texts="<si/>" * 100_001).bytes(),
@@ -233,6 +240,40 @@ def test_what_spreadsheets_write_is_taken(tmp_path: Path, program: str) -> None:
 @pytest.mark.parametrize("make", [make_like_excel, make_like_google, make_like_apple])
 def test_what_other_spreadsheets_declare_is_taken(make: Callable[[], bytes]) -> None:
     assert workbooks.read_outcome(make()) == TAKEN
+
+
+def test_sheets_that_have_no_cells_are_counted(office: OfficeFolder) -> None:
+    """One of them may show other bids."""
+    book = workbooks.RawWorkbook(("Chart", ""), ("Bids", workbooks.make_body(workbooks.FORM)))
+    sheet = 'worksheet" Target="worksheets/sheet1'
+    book.change("xl/_rels/workbook.xml.rels", sheet, sheet.replace("worksheet", "chartsheet", 1))
+    file = read_workbook("it", book.bytes(), 4_002, heads=workbooks.BIDDERS)
+    assert file.changes == ["read from sheet Bids, of 2 sheets"]
+
+
+def write_note_by_openpyxl() -> bytes:
+    def add_note(book: Any, sheet: Any) -> None:
+        sheet["E9"].comment = openpyxl.comments.Comment("seen", "office")
+
+    return workbooks.write_rows(workbooks.FORM, add_note)
+
+
+def write_note_by_xlsxwriter() -> bytes:
+    xlsxwriter = pytest.importorskip("xlsxwriter")
+    data = io.BytesIO()
+    book = xlsxwriter.Workbook(data)
+    sheet = book.add_worksheet("Bids")
+    for index, row in enumerate(workbooks.FORM):
+        sheet.write_row(index, 0, row)
+    sheet.write_comment("E9", "seen")
+    book.close()
+    return data.getvalue()
+
+
+@pytest.mark.parametrize("write", [write_note_by_openpyxl, write_note_by_xlsxwriter])
+def test_a_note_beside_the_bids_isnt_named(write: Callable[[], bytes]) -> None:
+    """As it is usual, it is seen only while someone points at its cell."""
+    assert workbooks.read_outcome(write()) == TAKEN
 
 
 def test_the_table_of_what_is_known_has_each_name_once() -> None:

@@ -42,7 +42,8 @@ _SUM = re.compile(rb"[0-9a-f]{64}  (.+)\n")
 
 @dataclass
 class Folder:
-    """The folder of an auction. Its `input.txt` is the input, and one alone.
+    """The folder of an auction. Its `input.txt` is the input, and one alone; one that `is_derived`
+    has that of another folder, by which it is made again.
 
     A file that isn't as it was left, or that nobody left, is kept: it is replaced only if this
     folder `replaces` such files.
@@ -50,6 +51,7 @@ class Folder:
 
     where: Path
     replaces: bool = False
+    is_derived: bool = False
 
     def path(self, name: str) -> Path:
         """The path of a file that a step leaves."""
@@ -130,7 +132,7 @@ class Folder:
         """
         there = [name for name in names if os.path.lexists(self.path(name))]
         changed = [name for name in there if not self._is_as_left(name)]
-        if changed and (INPUT in changed or not self.replaces):
+        if changed and (self._has_input(changed) or not self.replaces):
             raise self._refuse(changed)
         return changed
 
@@ -184,10 +186,14 @@ class Folder:
             named.append(f"{len(names) - len(named)} more")
         maker = _MAKERS.get(names[0].split("/")[0], "auction")
         again = f"wdp-office {maker} with --replace makes it again"
-        if INPUT in names:
+        if self._has_input(names):
             again = "take another folder"
         are = "isn't" if len(names) == 1 else "aren't"
         return Refused(f"{', '.join(named)} {are} what was left there: put that back, or {again}")
+
+    def _has_input(self, names: Sequence[str]) -> bool:
+        """Whether one of these files is an input that nothing makes again."""
+        return INPUT in names and not self.is_derived
 
     def _leave_sum(self, name: str, data: bytes) -> None:
         """Writes the sum of what is left; Refused if something else is in its place."""

@@ -52,8 +52,9 @@ _BESIDE = rf"""(?:
     "{_BLANK}*{_CURRENCY}?{_BLANK}*" | \[\${_BLANK}*{_CURRENCY}?{_BLANK}*(?:{_LANGUAGE})?\]
     | \\?[$£€¥] | \\?{_BLANK} | _. | \*{_BLANK}
 )*"""
+# (with three places for a fraction it would look as if it had thousands)
 _DIGITS = r"""(?:
-    General | (?: [#?0]+ | (?:[#?]+,)+[#?]*0{0,3} ) (?:\.[#?0]*)? | \#[ ]\?{1,3}/\?{1,3}
+    General | (?: [#?0]+ | (?:[#?]+,)+[#?]*0{0,3} ) (?:\.(?![#?0]{3}(?![#?0]))[#?0]*)? | \#[ ]\?{1,3}/\?{1,3}
 )"""
 _NUMBER = re.compile(f"{_BESIDE}{_DIGITS}{_BESIDE}", re.VERBOSE | re.DOTALL)
 # how accountants write 0

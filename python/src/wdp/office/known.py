@@ -41,12 +41,14 @@ sst | @count @uniqueCount @mc:Ignorable | how many texts there are; read: what i
 sst | si* extLst | a text, by its number; what is newer
 si | t r* rPh* phoneticPr | read: its pieces; how it is pronounced
 is | t r* rPh* phoneticPr | read: its pieces; how it is pronounced
-r | rPr t | its font; read: its characters
+r | rPr t | read: its font; its characters
+rPr | rFont charset family scheme b i u outline shadow condense extend | read: its name and marks
+rPr | strike color sz vertAlign | read: whether it is struck through, its colour, its size
 t | @xml:space | whether blanks at its ends count
 
 styleSheet | @mc:Ignorable | read: what is newer
 styleSheet | numFmts fonts fills | read: formats, fonts and colours
-styleSheet | borders | lines round cells
+styleSheet | borders | read: lines across cells
 styleSheet | cellStyleXfs cellXfs | what styles are made from; read: the styles of cells
 styleSheet | cellStyles | the styles that have names
 styleSheet | dxfs tableStyles colors | read: what conditions and tables give to cells; colours
@@ -71,10 +73,16 @@ stop | color | read: its colour
 color | @auto @indexed @rgb @theme @tint | read: a colour
 fgColor | @auto @indexed @rgb @theme @tint | read: a colour
 bgColor | @auto @indexed @rgb @theme @tint | read: a colour
+borders | @count | how many there are
+borders | border* | lines round a cell
+border | @diagonalUp @diagonalDown | read: whether a line goes across the cell
+border | @outline | whether it is round several cells
+border | start end left right top bottom diagonal vertical horizontal | lines round it, and across
 cellXfs | @count | how many there are
 cellXfs | xf* | a style of cells
 xf | @numFmtId @fontId @fillId | read: its format, font and fill
-xf | @borderId @xfId @quotePrefix @pivotButton | its lines, its named style, an apostrophe, a button
+xf | @borderId @xfId | read: its lines, its named style
+xf | @quotePrefix @pivotButton | an apostrophe, a button
 xf | @applyNumberFormat @applyFont @applyFill @applyBorder | read: whether they are its own
 xf | @applyAlignment @applyProtection | read: whether they are its own
 xf | alignment protection extLst | read: where the value is in the cell; what may be changed
@@ -84,7 +92,7 @@ alignment | @vertical @wrapText @relativeIndent @justifyLastLine @readingOrder |
 dxfs | @count | how many there are
 dxfs | dxf* | read: what a condition or a table gives to cells
 dxf | font numFmt fill | read: its font, format and fill
-dxf | alignment border protection | what no condition changes; lines; what may be changed
+dxf | border alignment protection | read: a line across; what no condition changes; what may be
 
 worksheet | @mc:Ignorable | read: what is newer
 worksheet | mc:AlternateContent* | named: buttons and objects, drawn over cells
@@ -102,7 +110,7 @@ worksheet | printOptions pageMargins pageSetup headerFooter | how it is printed
 worksheet | rowBreaks colBreaks customProperties cellWatches | where pages end; data of programs
 worksheet | ignoredErrors smartTags | which warnings aren't shown; marks of texts
 worksheet | drawing drawingHF legacyDrawing legacyDrawingHF | read by its links: what is drawn
-worksheet | picture oleObjects controls | what is drawn below, over, and beside cells
+worksheet | picture oleObjects controls | named: what is drawn below and over cells
 worksheet | webPublishItems tableParts extLst | how it is published; read: tables, what is newer
 sheetViews | sheetView* extLst | a window
 sheetView | @showFormulas @topLeftCell | read: whether formulas are shown; the first cell in sight
@@ -112,10 +120,11 @@ sheetView | @rightToLeft @tabSelected @showOutlineSymbols @defaultGridColor | wh
 sheetView | @showWhiteSpace @view @colorId @workbookViewId | how pages and lines are shown
 sheetView | @zoomScale @zoomScaleNormal @zoomScaleSheetLayoutView @zoomScalePageLayoutView | its zoom
 sheetView | pane selection* extLst | read: whether rows are frozen; what is selected
-pane | @xSplit @ySplit @topLeftCell @activePane @state | read: whether rows are frozen; where
+pane | @xSplit @ySplit @state | read: how many rows and columns are frozen
+pane | @topLeftCell @activePane | the first cell in sight beside them; which part is in use
 selection | @pane @activeCell @activeCellId @sqref | what is selected
-sheetFormatPr | @defaultColWidth @defaultRowHeight | read: sizes
-sheetFormatPr | @baseColWidth @customHeight @thickTop @thickBottom | sizes
+sheetFormatPr | @defaultColWidth @baseColWidth @defaultRowHeight | read: sizes
+sheetFormatPr | @customHeight @thickTop @thickBottom | sizes
 sheetFormatPr | @zeroHeight | whether rows are hidden that have no cell
 sheetFormatPr | @outlineLevelRow @outlineLevelCol | how deep outlines are
 cols | col* | some columns

@@ -4,7 +4,6 @@ their styles.
 import re
 from collections.abc import Iterator
 from dataclasses import dataclass, field
-from functools import cached_property
 from xml.etree.ElementTree import Element
 
 from wdp.office.archives import BadWorkbook, XmlPart
@@ -14,7 +13,9 @@ from wdp.office.looks import NUMBER, Look, is_on
 MOST_CELLS = 256  # of a row
 _LOWEST = 6  # points of a row, below which nothing is seen of it
 _NARROWEST = 1  # characters of a column, below which nothing is seen of it
-_USUAL_WIDTH = 8.0
+_ROOM_BESIDE = 0.71  # of a width: characters that stay empty
+_NEARLY = 1e-6
+_USUAL_WIDTH = 8 + _ROOM_BESIDE
 _HINT = "show what counts, and delete the rest"
 IN_COLLAPSED_GROUP = f"its row is in a group, of which one is collapsed; {_HINT}"
 _NUMBER_OF_COLUMN = re.compile("[1-9][0-9]{0,4}")
@@ -51,14 +52,16 @@ class Layout:
     row: RowLook = RowLook()
     has_collapsed_row: bool = False
     grouped_rows: list[int] = field(default_factory=list)
+    _rooms: dict[float, list[int]] = field(default_factory=dict)
 
     def take_sheet(self, part: XmlPart) -> None:
         """Takes what comes before the rows: sizes of which nothing else is said, and columns."""
         for element in part.root:
             name = part.name(element.tag)
             if name == "sheetFormatPr":
-                width = _parse_size(element.get("defaultColWidth"), _USUAL_WIDTH)
-                self.usual_width = width or 0.0
+                base = _parse_size(element.get("baseColWidth"), _USUAL_WIDTH - _ROOM_BESIDE) or 0.0
+                usual = base + _ROOM_BESIDE
+                self.usual_width = _parse_size(element.get("defaultColWidth"), usual) or 0.0
                 self.usual_height = _parse_size(element.get("defaultRowHeight"), None)
             elif name == "cols":
                 self._take_columns(list(element))
@@ -121,20 +124,25 @@ class Layout:
             return f"its column is hidden; {_HINT}"
         return self.hidden.get(column, "")
 
-    def find_room(self, column: int) -> int:
-        """The least number that has more digits than a column is wide."""
-        width = self.widths.get(column, self.usual_width)
-        room: int = 10 ** int(min(width, 20))
+    def find_room(self, column: int, scale: float) -> int:
+        """The least number that has more digits than a column is wide, if a digit is so many times
+        as wide as one of the usual font.
+        """
+        width = self.widths.get(column, self.usual_width) - _ROOM_BESIDE
+        room: int = 10 ** int(min(max(width / scale + _NEARLY, 0), 20))
         return room
 
-    @cached_property
-    def rooms(self) -> list[int]:
-        """Of each column from 0 to the last one of a form, the least number that it doesn't show:
-        0 if it isn't seen.
+    def list_rooms(self, scale: float) -> list[int]:
+        """Of each column from 0 to the last one of a form, the least number that it doesn't show in
+        digits of this scale: 0 if it isn't seen.
         """
-        columns = range(MOST_CELLS + 1)
-        is_hidden = [bool(self._find_reason_of_column(column)) for column in columns]
-        return [0 if is_hidden[column] else self.find_room(column) for column in columns]
+        if scale not in self._rooms:
+            rooms = [self.find_room(column, scale) for column in range(MOST_CELLS + 1)]
+            is_hidden = map(self._find_reason_of_column, range(MOST_CELLS + 1))
+            self._rooms[scale] = [
+                0 if reason else room for reason, room in zip(is_hidden, rooms, strict=True)
+            ]
+        return self._rooms[scale]
 
     def rows_in_collapsed_groups(self) -> Iterator[int]:
         """The rows that are in a group, if one of the groups is collapsed."""

@@ -140,6 +140,7 @@ class Look:
     font: Colour = _BLACK
     size: float = _USUAL_SIZE
     traits: frozenset[str] = frozenset()
+    fills: Sequence[Colour] = (_WHITE,)
 
     @property
     def shown(self) -> range:
@@ -163,11 +164,23 @@ class Look:
 
 
 @dataclass(frozen=True)
-class _Font:
+class Font:
+    """A font: `hides` says why what has it isn't known to be seen."""
+
     hides: str = ""
     colour: Colour = _BLACK
     size: float = _USUAL_SIZE
     traits: frozenset[str] = frozenset()
+
+    def find_reason(self, fills: Sequence[Colour]) -> str:
+        """Why what has this font isn't known to be seen on these colours; nothing if it is."""
+        if self.hides:
+            return self.hides
+        for colour in fills:
+            if is_near(self.colour, colour):
+                shown = f"{format_colour(self.colour)}, can't be told from its fill"
+                return f"the colour of its font, {shown}, {format_colour(colour)}"
+        return ""
 
 
 @dataclass(frozen=True)
@@ -182,14 +195,21 @@ class Condition:
 
 @dataclass
 class Palette:
-    """The colours that a workbook names."""
+    """The colours that a workbook names, and the fonts that its theme does, by their schemes."""
 
     theme: list[Colour | None] = field(default_factory=list)
+    fonts: dict[str, list[str]] = field(default_factory=dict)
     indexed: list[Colour] = field(default_factory=lambda: [*map(_parse_colour, _INDEXED)])
 
     def take_theme(self, root: Element, part: XmlPart) -> None:
-        """Takes the colours of a theme; one that isn't understood isn't known."""
+        """Takes the colours and the fonts of a theme; a colour that isn't understood isn't known."""
         schemes: list[Element] = list(root.iter())
+        for each in schemes:
+            name = part.name(each.tag)
+            if name in ("majorFont", "minorFont"):
+                latin = [font for font in each if part.name(font.tag) == "latin"]
+                names = [font.get("typeface", "") for font in latin]
+                self.fonts.setdefault(name.removesuffix("Font"), []).extend(names)
         schemes = [each for each in schemes if part.name(each.tag) == "clrScheme"]
         found: dict[str, Colour | None] = {}
         for entry in (entry for scheme in schemes for entry in scheme):
@@ -273,17 +293,27 @@ class Styles:
                     palette.take_indexed(list(colours), part)
         self.named = lists.get("cellStyleXfs", [])
         self.formats = _make_formats(lists.get("numFmts", []))
-        self.fonts = [_Font()]
+        self.fonts = [Font()]
         self.fills: list[list[Colour] | None] = [[_WHITE]]
+        # whether a line goes across the cells that have a border
+        self.crosses = [False]
+        self.table_styles: set[str] = set()
         self.of_cells = [Look(NumberFormat(GENERAL))]
         if part:
-            fonts = [self._read_font(each, part) for each in lists.get("fonts", [])]
+            fonts = [self.read_font(each, part) for each in lists.get("fonts", [])]
             self.fonts = fonts or self.fonts
             fills = [self._read_fill(each, part) for each in lists.get("fills", [])]
             self.fills = fills or self.fills
+            borders = [_is_crossed(each, part) for each in lists.get("borders", [])]
+            self.crosses = borders or self.crosses
             looks = [self._make_look(each, part) for each in lists.get("cellXfs", [])]
             self.of_cells = looks or self.of_cells
             self.conditions = [self.read_condition(each, part) for each in lists.get("dxfs", [])]
+            styles = (each.get("name", "") for each in lists.get("tableStyles", []))
+            self.table_styles = {name.lower() for name in styles}
+        usual = self.named[0].get("fontId", "0") if self.named else "0"
+        # that of the digits by which columns are measured
+        self.usual_size = (_pick(self.fonts, usual) or self.fonts[0]).size or _USUAL_SIZE
 
     def find(self, style: str) -> Look | None:
         """The look of a style of cells, by its number; None if there is no such style."""
@@ -297,7 +327,8 @@ class Styles:
             return Condition(f"a condition gives it the style {quote(style)}, which isn't there")
         return self.conditions[int(style)]
 
-    def _read_font(self, font: Element, part: Names) -> _Font:
+    def read_font(self, font: Element, part: Names) -> Font:
+        """A font of cells, or of a piece of a text."""
         values = {part.name(each.tag): each for each in font}
         texts = {name: each.get("val", "") for name, each in values.items()}
         hides = ""
@@ -309,13 +340,12 @@ class Styles:
         points = float(size) if NUMBER.fullmatch(size) else 0.0
         if not _SMALLEST_FONT <= points <= _LARGEST_FONT:
             hides = f"its font has {quote(size)} points, not {_SMALLEST_FONT} to {_LARGEST_FONT}"
-        name = texts.get("name", "")
-        if (
-            texts.get("charset") == _SYMBOL_CHARACTERS
-            or name.lower().startswith(_SIGN_FONTS)
-            or len(name) > 64
-        ):
-            hides = f"its font {quote(name)} may have other signs in place of digits"
+        name = texts.get("name", texts.get("rFont", ""))
+        # (spreadsheets differ in which of the two they show)
+        names = [name, *self.palette.fonts.get(texts.get("scheme", ""), ())]
+        odd = next(filter(_has_signs, names), None)
+        if texts.get("charset") == _SYMBOL_CHARACTERS or odd is not None:
+            hides = f"its font {quote(odd or name)} may have other signs in place of digits"
         colour = self.palette.read(values.get("color"), automatic=_BLACK)
         if colour is None:
             hides = hides or "the colour of its font isn't known"
@@ -325,7 +355,7 @@ class Styles:
                 traits.add(word)
         if colour and colour != _BLACK:
             traits.add(f"colour {format_colour(colour)}")
-        return _Font(hides, colour or _BLACK, size=points, traits=frozenset(traits))
+        return Font(hides, colour or _BLACK, size=points, traits=frozenset(traits))
 
     def _read_fill(
         self, fill: Element, part: Names, *, of_condition: bool = False
@@ -368,18 +398,24 @@ class Styles:
         if font is None:
             return Look(number_format, hides="its font isn't in the workbook")
         traits = set(font.traits)
-        hides = font.hides or self._judge_named_style(style)
+        alignment = _find(style, part, "alignment")
+        hides = font.hides or self._judge_named_style(style) or self._judge_border(style)
         if not fill:
             hides = hides or "the colour of its fill isn't known"
-        for colour in fill or ():
-            if is_near(font.colour, colour):
-                shown = f"{format_colour(font.colour)}, can't be told from its fill"
-                hides = hides or f"the colour of its font, {shown}, {format_colour(colour)}"
+        hides = hides or font.find_reason(fill or ()) or _judge_repeating(alignment)
         if fill and fill != [_WHITE]:
             traits.add(f"fill {format_colour(fill[0])}")
-        alignment = _find(style, part, "alignment")
-        look = Look(number_format, hides, font=font.colour, size=font.size)
+        look = Look(number_format, hides, font=font.colour, size=font.size, fills=fill or ())
         return replace(look, turns=_judge_alignment(alignment), traits=frozenset(traits))
+
+    def _judge_border(self, style: Element) -> str:
+        """Why it isn't known that nothing goes across the cells of a style; nothing if it is."""
+        named = _pick(self.named, style.get("xfId", "0"))
+        at = [each.get("borderId", "0") for each in (style, named) if each is not None]
+        lines = [_pick(self.crosses, each) for each in at]
+        if None in lines:
+            return "its border isn't in the workbook"
+        return "a line goes across it" if any(lines) else ""
 
     def _judge_named_style(self, style: Element) -> str:
         """Why it isn't known if a style, or the named one that it is of, is shown; nothing if it
@@ -409,6 +445,8 @@ class Styles:
             )
             if odd:
                 return Condition(f"a condition may change its font: {_CHANGES.get(odd, odd)}")
+        if any(_is_crossed(each, part) for each in element):
+            return Condition("a condition may put a line across it")
         fill = _find(element, part, "fill")
         colours = [] if fill is None else self._read_fill(fill, part, of_condition=True)
         if colours is None:
@@ -449,13 +487,29 @@ def _make_formats(elements: Sequence[Element]) -> dict[str, NumberFormat]:
     return formats
 
 
+def _has_signs(name: str) -> bool:
+    """Whether a font may have other signs in place of digits. Its name may be a list of names."""
+    names = re.split("[;,]", name)
+    return len(name) > 64 or any(each.strip(" @").lower().startswith(_SIGN_FONTS) for each in names)
+
+
+def _is_crossed(border: Element, part: Names) -> bool:
+    """Whether a border has a line across the cell."""
+    is_there = is_on(border.get("diagonalUp")) or is_on(border.get("diagonalDown"))
+    diagonal = _find(border, part, "diagonal")
+    return is_there and diagonal is not None and diagonal.get("style", "none") != "none"
+
+
+def _judge_repeating(alignment: Element | None) -> str:
+    """Why a value isn't known to be shown once; nothing if it is."""
+    horizontal = "general" if alignment is None else alignment.get("horizontal", "general")
+    return "" if horizontal in _ALIGNMENTS else f"its alignment {quote(horizontal)} may repeat it"
+
+
 def _judge_alignment(alignment: Element | None) -> str:
-    """Why a number isn't known to be shown once, upright and at its size; nothing if it is."""
+    """Why a number isn't known to be shown upright and at its size; nothing if it is."""
     if alignment is None:
         return ""
-    horizontal = alignment.get("horizontal", "general")
-    if horizontal not in _ALIGNMENTS:
-        return f"its alignment {quote(horizontal)} may repeat it"
     if alignment.get("textRotation", "0") != "0":
         return "it is turned"
     if is_on(alignment.get("shrinkToFit")):

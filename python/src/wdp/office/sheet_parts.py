@@ -9,7 +9,17 @@ from xml.etree.ElementTree import Element
 from wdp.office.archives import Archive, BadWorkbook, XmlPart
 from wdp.office.cells import ALL, LAST_COLUMN, LAST_ROW, Area, Values, parse_cell
 from wdp.office.faults import quote
-from wdp.office.looks import OFF, Colour, Condition, Styles, format_colour, is_near, is_on, mix
+from wdp.office.looks import (
+    NUMBER,
+    OFF,
+    Colour,
+    Condition,
+    Styles,
+    format_colour,
+    is_near,
+    is_on,
+    mix,
+)
 from wdp.office.remarks import Remarks
 
 _MOST_AREAS = 500  # merged, of conditions, or under drawings
@@ -18,6 +28,7 @@ _MOST_COMMENTS = 10_000
 _MOST_COMPARED = 200_000  # colours of conditions with colours of fonts
 _MOST_SCANS = 16  # of all cells, for fonts that can't be told from a colour of a condition
 _FROZEN = ("frozen", "frozenSplit")
+_MOST_FROZEN = 20  # rows, and columns, beyond which the rest may be out of the window
 # what a sheet may be linked to beside comments, drawings and tables: nothing of it is seen in cells
 _HARMLESS = (
     "hyperlink",
@@ -42,7 +53,20 @@ _EXTENSIONS = (
     "webExtensions",
 )
 _COLOURS_OF_RULES = ("color", "fillColor", "negativeFillColor")
-_SHAPE = re.compile(rb"<[a-z]+:(?:shape|rect|roundrect|oval|line|polyline|image|curve|arc|group)\b")
+_DARKEST = 128  # of 255: a channel of a colour that can be told from those of all usual tables
+# what is drawn in an older format, with its attributes; that it isn't seen, and that it is
+_SHAPE = re.compile(
+    rb"<(?:[^\s<>:/]+:)?(?:shape|rect|roundrect|oval|line|polyline|image|curve|arc|group)\b[^>]*"
+)
+_UNSEEN = re.compile(rb"""\sstyle\s*=\s*["'][^"']*\bvisibility\s*:\s*hidden\b""")
+_SEEN = re.compile(rb"Visible\b|visibility\s*:(?!\s*hidden)")
+# what may be drawn within an anchor without going beyond it; how far its corners may be within cells
+_WITHIN_ANCHORS = """
+from to col row colOff rowOff pos ext clientData pic nvPicPr cNvPr cNvPicPr picLocks blipFill blip
+stretch fillRect spPr xfrm off prstGeom avLst noFill graphicFrame nvGraphicFramePr cNvGraphicFramePr
+graphicFrameLocks graphic graphicData chart extLst creationId twoCellAnchor oneCellAnchor ln srcRect
+""".split()
+_LONGEST_OFFSET = 1_000_000  # of the 360,000 to a centimetre
 _NOTE = re.compile(rb"""ObjectType\s*=\s*["']Note["']""")
 
 
@@ -74,10 +98,15 @@ class _Surroundings:
             if is_on(window.get("showFormulas")):
                 raise BadWorkbook("its window shows formulas in place of values")
             first = window.get("topLeftCell", "A1")
-            states = [pane.get("state") for pane in window if self.part.name(pane.tag) == "pane"]
-            if first != "A1" and any(state in _FROZEN for state in states):
+            panes = [pane for pane in window if self.part.name(pane.tag) == "pane"]
+            frozen = [pane for pane in panes if pane.get("state") in _FROZEN]
+            if first != "A1" and frozen:
                 why = f"nobody can reach it: the window is frozen from {quote(first)} on"
                 raise BadWorkbook(why, self.values.find_first(ALL))
+            sizes = [pane.get(name, "0") for pane in frozen for name in ("xSplit", "ySplit")]
+            if any(not NUMBER.fullmatch(size) or float(size) > _MOST_FROZEN for size in sizes):
+                most = f"{_MOST_FROZEN} rows or columns"
+                raise BadWorkbook(f"its window is frozen beyond the first {most}; unfreeze it")
 
     def check_merged(self, merged: Element) -> None:
         """No value is covered by merged cells."""
@@ -147,6 +176,9 @@ class _Surroundings:
             ends = [colour for colour in known if colour]
             if len(ends) < len(known):
                 return Condition("a condition may give it a colour that isn't known")
+            if _strip(scale.tag) == "dataBar":
+                # (a bar gets lighter to its end)
+                ends = [each for end in ends for each in (end, (255, 255, 255))]
             colours += [each for pair in zip(ends, ends[1:] or ends) for each in mix(*pair)]
         styles = [each for each in rule if _strip(each.tag) == "dxf"]
         given = [self.styles.read_condition(each, _Stripped()) for each in styles]
@@ -204,17 +236,21 @@ class _Surroundings:
         """Takes the cells under each drawing: up to the sheet's end, if its size isn't in cells."""
         for anchor in part.read():
             corners = {part.name(each.tag): _read_corner(each, part) for each in anchor}
+            is_within = all(_is_within_anchor(each, part) for each in anchor.iter())
             begin = corners.get("from")
             end = corners.get("to") or (LAST_ROW, LAST_COLUMN)
             self.areas += 1
             if self.areas > _MOST_AREAS:
                 raise BadWorkbook("its drawings are too many")
             is_right = begin and begin[0] <= end[0] and begin[1] <= end[1]
-            self.remarks.drawings.append(Area(*begin, *end) if begin and is_right else ALL)
+            is_known = begin and is_right and is_within
+            self.remarks.drawings.append(Area(*begin, *end) if begin and is_known else ALL)
 
     def _take_shapes(self, data: bytes, *, has_notes: bool) -> None:
         """Takes drawings in an older format, in which notes of comments are, too."""
-        if not has_notes or len(_SHAPE.findall(data)) > len(_NOTE.findall(data)):
+        shapes = _SHAPE.findall(data)
+        are_unseen = all(map(_UNSEEN.search, shapes)) and not _SEEN.search(data)
+        if not has_notes or len(shapes) > len(_NOTE.findall(data)) or not are_unseen:
             self.remarks.drawings.append(ALL)
 
     def _check_table(self, part: XmlPart) -> None:
@@ -232,10 +268,13 @@ class _Surroundings:
             is_plain = style and (
                 style[1] == "Light" or not any(map(is_on, map(element.get, ends)))
             )
-            if not is_plain:
-                area = Area.parse(root.get("ref", "")) or ALL
+            area = Area.parse(root.get("ref", "")) or ALL
+            if not is_plain or element.get("name", "").lower() in self.styles.table_styles:
                 why = f"its table has the style {quote(element.get('name', ''))}"
                 raise BadWorkbook(f"{why}, which may colour it", self.values.find_first(area))
+            light = frozenset(font for font in self.values.fonts if max(font) > _DARKEST)
+            if self.values.find_font(area, light):
+                self.remarks.conditions.append(area)
 
 
 class _Stripped:
@@ -253,6 +292,18 @@ def _strip(name: str) -> str:
 
 def _has(element: Element, name: str) -> bool:
     return any(_strip(each.tag) == name for each in element)
+
+
+def _is_within_anchor(element: Element, part: XmlPart) -> bool:
+    """Whether something that is drawn is known not to go beyond the corners that it is said to have."""
+    if element.get("rot", "0") != "0" or element.get("prst", "rect") != "rect":
+        return False
+    if part.name(element.tag) in ("colOff", "rowOff"):
+        text = (element.text or "").strip()
+        return text.isdecimal() and len(text) < 8 and int(text) <= _LONGEST_OFFSET
+    width = element.get("w", "0")
+    is_thin = width.isdecimal() and len(width) < 6
+    return is_thin and _strip(element.tag) in _WITHIN_ANCHORS
 
 
 def _read_corner(element: Element, part: XmlPart) -> tuple[int, int] | None:
@@ -289,6 +340,6 @@ def check_surroundings(
                 found.check_conditions(element)
             case "extLst":
                 found.check_extensions(element)
-            case "mc:AlternateContent":
+            case "mc:AlternateContent" | "picture" | "oleObjects" | "controls":
                 remarks.drawings.append(ALL)
     found.check_links(name)

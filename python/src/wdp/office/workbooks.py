@@ -28,7 +28,7 @@ from wdp.office.cells import (
 from wdp.office.faults import quote
 from wdp.office.formats import GENERAL, MOST_SHOWN, NumberFormat
 from wdp.office.layout import IN_COLLAPSED_GROUP, MOST_CELLS, Layout, RowLook
-from wdp.office.looks import INDEX, NUMBER, Look, Palette, Styles, is_on
+from wdp.office.looks import INDEX, NUMBER, Font, Look, Palette, Styles, is_on
 from wdp.office.remarks import Remarks
 from wdp.office.sheet_parts import check_surroundings
 from wdp.office.sheets import NOT_STORED, File
@@ -37,6 +37,7 @@ from wdp.texts.tables import TableRow
 _LONGEST_NAME = 31  # characters of a sheet's name
 _MOST_SHEETS = 1_000
 _MOST_TEXTS = 100_000  # that cells share
+_MOST_PIECES = 10_000  # of texts, with fonts of their own
 _MOST_SHEETS_NAMED = 9  # in a message
 _MOST_OF_A_TITLE = 20  # rows of another sheet, of which one may be the first row of a form
 
@@ -66,16 +67,12 @@ class _Sheet:
     is_hidden: bool
 
 
-def _join_text(element: Element, part: XmlPart) -> str:
-    """The text of a cell, without what only says how it is pronounced."""
-    pieces = []
-    for each in element:
-        name = part.name(each.tag)
-        if name == "t":
-            pieces.append(each.text or "")
-        elif name == "r":
-            pieces.append(_join_text(each, part))
-    return "".join(pieces)
+@dataclass(frozen=True)
+class _Text:
+    """A text of a cell, and the fonts of those of its pieces that have their own."""
+
+    value: str
+    fonts: Sequence[Font] = ()
 
 
 class _Workbook:
@@ -89,6 +86,7 @@ class _Workbook:
         self.links = self.archive.links(name)
         self.is_of_1904 = False
         self.sheets: list[_Sheet] = []
+        self.count = 0  # of all sheets, those of other kinds, too
         self._taken: set[str] = set()
         part = self.archive.parse(name)
         root = part.read()
@@ -101,8 +99,9 @@ class _Workbook:
                     raise BadWorkbook(f"it has more than {_MOST_SHEETS:,} sheets")
                 for sheet in element:
                     self._add_sheet({part.attribute(key): value for key, value in sheet.items()})
-        self.texts = self._read_texts()
         self.styles = self._read_styles()
+        self.pieces = 0
+        self.texts = self._read_texts()
 
     def _add_sheet(self, attributes: Mapping[str, str]) -> None:
         """Adds what the workbook says of a sheet, if that is one of cells."""
@@ -117,11 +116,31 @@ class _Workbook:
         if f"part {link.part.lower()}" in self._taken:
             raise BadWorkbook(f"its sheet {quote(name)} is another one, too")
         self._taken |= {f"name {name.lower()}", f"part {link.part.lower()}"}
+        self.count += 1
         if link.kind == "worksheet":
             is_hidden = attributes.get("state", "visible") != "visible"
             self.sheets.append(_Sheet(name, link.part, is_hidden=is_hidden))
 
-    def _read_texts(self) -> list[str]:
+    def read_text(self, element: Element, part: XmlPart) -> _Text:
+        """The text of a cell, without what only says how it is pronounced."""
+        names = {part.name(each.tag) for each in element}
+        if {"t", "r"} <= names:
+            raise BadWorkbook("a text of its cells has pieces, and a text beside them")
+        values = []
+        fonts = []
+        for each in element:
+            match part.name(each.tag):
+                case "t":
+                    values.append(each.text or "")
+                case "r":
+                    values += (piece.text or "" for piece in each if part.name(piece.tag) == "t")
+                    fonts += [piece for piece in each if part.name(piece.tag) == "rPr"]
+        self.pieces += len(fonts)
+        if self.pieces > _MOST_PIECES:
+            raise BadWorkbook(f"its texts have more than {_MOST_PIECES:,} fonts of their own")
+        return _Text("".join(values), [self.styles.read_font(font, part) for font in fonts])
+
+    def _read_texts(self) -> list[_Text]:
         """The texts that cells name by their numbers."""
         name = find_part(self.links, "sharedStrings")
         if name is None:
@@ -130,7 +149,7 @@ class _Workbook:
         texts = []
         for text in part.iterate(None, "si"):
             part.check(text)
-            texts.append(_join_text(text, part))
+            texts.append(self.read_text(text, part))
             if len(texts) > _MOST_TEXTS:
                 raise BadWorkbook(f"it has more than {_MOST_TEXTS:,} texts")
         part.check(part.root)
@@ -154,6 +173,7 @@ class _Usual:
     look: Look
     least: int = 0
     beyond: int = 0
+    rooms: Sequence[int] = ()
 
 
 @dataclass(slots=True)
@@ -166,6 +186,7 @@ class _Cell:
     style: str | None
     value: str | None = None
     is_formula: bool = False
+    fonts: Sequence[Font] = ()  # of the pieces of its text
 
     def take_value(self, text: str, *, is_inline: bool) -> None:
         """Takes the value."""
@@ -321,8 +342,10 @@ class _SheetReader:
             known = usual[key] = self._judge_usual(column, style)
         text = element[-1].text or ""
         number, digits = _parse_whole(text) if len(text) <= _LONGEST_NUMBER else (-1, "")
-        room = self.layout.rooms[column]
-        if not known.least <= number < known.beyond or not room:
+        if not known.least <= number < known.beyond:
+            return None
+        room = known.rooms[column]
+        if not room:
             return None
         if number >= room:
             self.remarks.narrow.append(place)
@@ -367,7 +390,12 @@ class _SheetReader:
             return _Usual(Look(NumberFormat(GENERAL)))
         ranges = [look.shown for look in looks]
         least = max(each.start for each in ranges)
-        return _Usual(looks[0], least, min(each.stop for each in ranges))
+        rooms = self.layout.list_rooms(self._find_scale(looks[0]))
+        return _Usual(looks[0], least, min(each.stop for each in ranges), rooms)
+
+    def _find_scale(self, look: Look) -> float:
+        """How many times as wide as the digits of the usual font those of a look are."""
+        return look.size / self.book.styles.usual_size
 
     def _read_cell(self, element: Element) -> str | None:
         """The value of a cell of the row, or None if it has nothing."""
@@ -402,7 +430,9 @@ class _SheetReader:
                 case "v":
                     cell.take_value(each.text or "", is_inline=False)
                 case "is":
-                    cell.take_value(_join_text(each, self.part), is_inline=True)
+                    text = self.book.read_text(each, self.part)
+                    cell.take_value(text.value, is_inline=True)
+                    cell.fonts = text.fonts
         return cell if cell.value is not None or cell.is_formula else None
 
     def _parse_place(self, name: str) -> int:
@@ -444,11 +474,15 @@ class _SheetReader:
             why = f"{quote(value)} is a text; turn it into a number"
             self.remarks.add_fault(cell.place, why, kind=_TEXT)
         reason = self.layout.find_reason(cell.column, look) or look.find_reason(number)
+        reason = reason or next(
+            filter(None, (font.find_reason(look.fills) for font in cell.fonts)), ""
+        )
         if reason:
             self.remarks.add_fault(cell.place, reason)
         is_number = number is not None and cell.kind not in _TEXTS
         self.odd += bool(reason) or not is_head and not is_number and value != ""
-        if number is not None and number >= self.layout.find_room(cell.column):
+        room = self.layout.find_room(cell.column, self._find_scale(look))
+        if number is not None and number >= room:
             self.remarks.narrow.append(cell.place)
         self.values.columns[cell.column].add(self.row, look)
 
@@ -466,7 +500,9 @@ class _SheetReader:
                 is_exact = number.is_integer() and abs(number) < 2**53
                 return str(int(number)) if is_exact else str(number), number
             case "s" if INDEX.fullmatch(value) and int(value) < len(self.book.texts):
-                return self.book.texts[int(value)], None
+                text = self.book.texts[int(value)]
+                cell.fonts = text.fonts
+                return text.value, None
             case "b" if value in _TRUTHS:
                 return _TRUTHS[value], None
             case "e" if _ERROR.fullmatch(value):
@@ -585,7 +621,7 @@ def _fill_from_sheet(file: File, most: int, name: str | None, heads: Collection[
     book = _Workbook(file.data)
     sheet = _choose_sheet(book, name, file.path, heads)
     reader = _SheetReader(book, sheet, file)
-    others = f", of {len(book.sheets)} sheets" if len(book.sheets) > 1 else ""
+    others = f", of {book.count} sheets" if book.count > 1 else ""
     file.changes.append(f"read from sheet {sheet.name}{others}")
     with _name_sheet(file.path, sheet):
         file.fill(reader.rows(), most)

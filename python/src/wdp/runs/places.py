@@ -11,6 +11,7 @@ from wdp import audits, files
 from wdp.folder import INPUT, Folder
 from wdp.office.explaining import explain
 from wdp.publish.judging import judge
+from wdp.runs import messages
 from wdp.runs.contents import TIES, name_file
 from wdp.runs.origin import Origin
 from wdp.runs.processes import Processes
@@ -107,13 +108,16 @@ def _run_for_award(run: Run, award: int) -> int:
     left_out = explain(program, data, with_bids=True).bids
     audits.check_first(award, report.awards, left_out, are_all=report.has_all_awards)
     audit = audits.put_first(run.contents.format_audit(with_prices=False), award)
-    folder = Folder(run.folder.path(AWARDS) / str(award), replaces=run.folder.replaces)
+    where = run.folder.path(AWARDS) / str(award)
+    folder = Folder(where, replaces=run.folder.replaces, is_derived=True)
     run_of_award = replace(run, folder=folder, is_named=False, page=Page())
     with files.map_errors(str(folder.where)):
         folder.where.mkdir(parents=True, exist_ok=True)
     with folder.lock(alone=True), folder.scratch():
+        _forget_missing(run_of_award)
         if folder.has(_UNPRICED) and folder.read(_UNPRICED) != audit:
             folder.clear()
+        folder.leave(INPUT, data)
         if not folder.has(_UNPRICED) or _lacks_part(folder, audit):
             take_audit(run_of_award, audit)
             folder.leave(_UNPRICED, audit)
@@ -123,6 +127,18 @@ def _run_for_award(run: Run, award: int) -> int:
             raise Refused(f"{folder.path(AUDIT)} hasn't award {award} first: delete {folder.where}")
         run.means.reporter.say(f"award {award} is the first of {folder.path(AUDIT)}")
     return status
+
+
+def _forget_missing(run: Run) -> None:
+    """Forgets what isn't in the run's folder any more, and what it replaces. Refused if a file isn't
+    as it was left.
+    """
+    missing = run.folder.check()
+    if missing:
+        paths = [str(run.folder.path(name)) for name in missing]
+        run.means.reporter.say(messages.format_made_again(paths))
+    for name in missing:
+        run.folder.forget(name)
 
 
 def _lacks_part(folder: Folder, audit: bytes) -> bool:
