@@ -9,7 +9,8 @@ cells, ignored: as many cells as are read; cells with attributes that may be ign
 narrow, spaced, digits: such a form whose numbers are wider than their columns; whose cells and values have an attribute that shows
   nothing; whose numbers have many zeros after the point.
 floats, blanks, words, gaps: a form of numbers with a fraction of 0; of formulas without a value; of words; of every second cell.
-links: a sheet that is linked to one part many times.
+links, tables: a sheet that is linked to one part many times; to many tables.
+pieces: texts of many pieces, each with a font of its own, as far as they are read.
 long_name, wide: rows with one cell far to the right, in a sheet with a long name; and with an ordinary one.
 sheets: so many sheets as an archive may have files.
 long_format, long_formats: a long format of many cells; and of many rules of a condition.
@@ -121,6 +122,21 @@ def make_ignored():
     return book.change(SHEET, "<worksheet ", f"<worksheet {root} ").bytes()
 
 
+def make_tables():
+    """Tables over cells of many colours, more than are read."""
+    table = f'<table xmlns="{workbooks.MAIN}" ref="A1:XFD1048576"><tableStyleInfo name="TableStyleLight1"/></table>'
+    book = workbooks.RawWorkbook(("Bids", make_full()), formats=["0"])
+    book.parts["xl/styles.xml"] = make_looks(1_024)
+    links = [(f"rId{number}", "table", "../table1.xml") for number in range(4_000)]
+    book.parts |= {"xl/worksheets/_rels/sheet1.xml.rels": book.links(links), "xl/table1.xml": table}
+    return book.bytes()
+
+
+def make_pieces():
+    fonts = "<r><rPr><b/><i/><u/><strike/><color rgb='FF000000'/><sz val='11'/><rFont val='Calibri'/></rPr><t>x</t></r>"
+    return workbooks.RawWorkbook(("Bids", make_full()), texts=f"<si>{fonts * 99}</si>" * 101 + f"<si>{fonts}</si>" * 9).bytes()
+
+
 def make_rows(count, cells):
     return "<sheetData>" + "".join(f'<row r="{row}">{cells % {"row": row}}</row>' for row in range(1, count + 1)) + "</sheetData>"
 
@@ -217,6 +233,8 @@ KINDS = {
     "cells": lambda: workbooks.make_one(make_rows(4_001, '<c r="A%(row)d"><v>1</v></c>' + "<c><v>1</v></c>" * 59)),
     "ignored": make_ignored,
     "links": lambda: make_linked("vmlDrawing", "drawing1.vml", "x" * 16_000_000, 4_000, small),
+    "tables": make_tables,
+    "pieces": make_pieces,
     "long_name": lambda: workbooks.RawWorkbook(("n" * 60_000, make_rows(300, '<c r="ALL%(row)d"><v>1</v></c>'))).bytes(),
     "wide": lambda: workbooks.make_one(make_rows(4_001, '<c r="IV%(row)d"><v>1</v></c>')),
     "sheets": lambda: workbooks.RawWorkbook(*((f"s{number}", make_rows(9, "<c><v>1</v></c>")) for number in range(4_000))).bytes(),

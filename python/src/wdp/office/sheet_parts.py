@@ -4,6 +4,7 @@ windows, merged cells, filters, conditions, tables, comments and drawings.
 import re
 from collections.abc import Sequence
 from dataclasses import dataclass
+from functools import cached_property
 from xml.etree.ElementTree import Element
 
 from wdp.office.archives import Archive, BadWorkbook, XmlPart
@@ -22,7 +23,7 @@ from wdp.office.looks import (
 )
 from wdp.office.remarks import Remarks
 
-_MOST_AREAS = 500  # merged, of conditions, or under drawings
+_MOST_AREAS = 500  # merged, of conditions or of tables, or under drawings
 _MOST_RULES = 500  # of conditions
 _MOST_COMMENTS = 10_000
 _MOST_COMPARED = 200_000  # colours of conditions with colours of fonts
@@ -82,6 +83,11 @@ class _Surroundings:
     areas: int = 0
     rules: int = 0
     compared: int = 0
+
+    @cached_property
+    def light_fonts(self) -> frozenset[Colour]:
+        """The colours of fonts that may be as light as what a table puts behind them."""
+        return frozenset(font for font in self.values.fonts if max(font) > _DARKEST)
 
     def parse_areas(self, text: str, what: str) -> list[Area]:
         """The areas of a text, which are separated by spaces."""
@@ -272,8 +278,10 @@ class _Surroundings:
             if not is_plain or element.get("name", "").lower() in self.styles.table_styles:
                 why = f"its table has the style {quote(element.get('name', ''))}"
                 raise BadWorkbook(f"{why}, which may colour it", self.values.find_first(area))
-            light = frozenset(font for font in self.values.fonts if max(font) > _DARKEST)
-            if self.values.find_font(area, light):
+            self.areas += 1
+            if self.areas > _MOST_AREAS:
+                raise BadWorkbook("its tables are too many")
+            if self.values.find_font(area, self.light_fonts):
                 self.remarks.conditions.append(area)
 
 
