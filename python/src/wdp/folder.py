@@ -37,6 +37,7 @@ _OURS = re.compile(
     r"|programs/(?:names|added)\.txt"
     r"|(?:inequalities|ties|prices|award|format|report|report\.uncertified|audit|unpriced)\.txt"
 )
+_REPORTS = ("report.txt", "report.uncertified.txt")
 _SUM = re.compile(rb"[0-9a-f]{64}  (.+)\n")
 
 
@@ -161,6 +162,10 @@ class Folder:
             names = os.listdir(where) if where.is_dir() else []
             paths = (f"{folder}/{name}".lstrip("/") for name in names)
             yield from filter(_OURS.fullmatch, paths)
+        # (an earlier version left results without their sums, and with a report)
+        where = self.path(RESULTS)
+        if where.is_dir() and not any(map(self.has, _REPORTS)):
+            yield from (f"{RESULTS}/{name}" for name in os.listdir(where))
 
     def make_log(self, name: str) -> Path:
         """A new file for what a solver prints, in a folder that is made for it."""
