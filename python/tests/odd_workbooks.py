@@ -244,6 +244,9 @@ ODD: dict[str, tuple[Odd, str]] = {
     "currency by name": (styled(code="#,##0&quot; EUR&quot;"), TAKEN),
     "language of other digits": (styled(code="[$-2000401]0"), FORMAT.format("'[$-2000401]0'")),
     "currency of a language": (styled(code="[$£-809]#,##0.00"), TAKEN),
+    "language after a currency": (styled(code="£[$-809]0"), FORMAT.format("'£[$-809]0'")),
+    "language after the digits": (styled(code="0[$-809]"), FORMAT.format("'0[$-809]'")),
+    "language of the usual digits": (styled(code="[$-809]#,##0"), TAKEN),
     "colour in a format": (styled(code="[White]0"), FORMAT.format("'[White]0'")),
     "colour below zero": (styled(code="0;[Red]-0"), TAKEN),
     "condition in a format": (
@@ -263,6 +266,18 @@ ODD: dict[str, tuple[Odd, str]] = {
     "built-in with separators": (styled(xf="numFmtId='3'"), TAKEN),
     "dots for thousands": (styled(code="0\\.0"), FORMAT.format("'0\\.0'")),
     "fractions": (styled(code="# ?/?"), TAKEN),
+    "fractions after a currency": (
+        styled(code="[$£-809]# ?/?"),
+        FORMAT.format("'[$£-809]# ?/?'"),
+    ),
+    "a large number with a fraction": (
+        Odd(
+            cell='s="1"',
+            styles=make_styles(code="# ?/?"),
+            changes=[(SHEET, "<v>9900</v>", "<v>9900000000</v>")],
+        ),
+        "A3: its format '# ?/?' isn't known to show it as it is",
+    ),
     "fractions of eight": (styled(code="# ?/8"), FORMAT.format("'# ?/8'")),
     "accounting": (styled(code="_-* #,##0_-;-* #,##0_-;_-* &quot;-&quot;_-;_-@_-"), TAKEN),
     "a style without a number, below a cell without a style": (

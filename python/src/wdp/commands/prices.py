@@ -13,14 +13,13 @@ import argparse
 from functools import partial
 from pathlib import Path
 
-from wdp import files
-from wdp.audits import MOST_OF_AUDIT
+from wdp import audits, files
 from wdp.commands.auction import add_shared_arguments, make_run
 from wdp.reporter import TableReporter
 from wdp.runs.contents import Goals
 from wdp.runs.places import run_in_folder, run_without_folder, take_audit
 from wdp.runs.reports import AUDIT
-from wdp.texts.refusals import WrongArgument
+from wdp.texts.refusals import Refused, WrongArgument
 
 
 def add_arguments(parser: argparse.ArgumentParser) -> None:
@@ -51,7 +50,9 @@ def run(options: argparse.Namespace) -> int:
             raise WrongArgument("--output goes with an audit; a folder keeps its own")
         return run_in_folder(whole)
     files.check_free(options.output, replaces=options.replaces)
-    audit = files.read(str(options.award), MOST_OF_AUDIT)
+    audit = files.read(str(options.award), audits.MOST_OF_AUDIT)
+    if not audits.is_audit(audit):
+        raise Refused(f"{options.award}: it has no certificates, so it is no audit")
     name = AUDIT if options.output else None
     take = partial(take_audit, whole, audit)
     return run_without_folder(whole, take, name=name, path=options.output)

@@ -31,6 +31,7 @@ _DATE_NUMBERS = (*range(14, 23), *range(27, 37), *range(45, 48), *range(50, 59))
 # which of them a workbook may say itself, since they differ by language
 OF_LANGUAGE = _CURRENCIES | {str(number): "yyyy-mm-dd" for number in _DATE_NUMBERS}
 _MOST_IN_GENERAL = 10**11  # from which on General shows the first digits alone
+_MOST_BEFORE_FRACTION = 10**9  # from which on not every spreadsheet shows one with a fraction
 MOST_SHOWN = 10**15  # from which on any format shows the first 15 digits alone
 
 # languages that write numbers with the digits 0 to 9, as words and as the numbers of Windows
@@ -46,24 +47,34 @@ _ISO += "|SEK|SGD|TRY|UAH|USD|ZAR"
 _WORDS = "pounds?|euros?|dollars?|sterling"
 _CURRENCY = f"(?:{_SIGNS}|{_ISO}|{_WORDS})"
 _BLANK = "[ \u00a0\u202f]"
+# what may come first: a language alone, which some spreadsheets show as it is written if something
+# is before it
+_FIRST = rf"(?:\[\${_LANGUAGE}\])?"
 # what may be before and after a number: a currency, blanks, room for a character, and a fill of
 # blanks
 _BESIDE = rf"""(?:
-    "{_BLANK}*{_CURRENCY}?{_BLANK}*" | \[\${_BLANK}*{_CURRENCY}?{_BLANK}*(?:{_LANGUAGE})?\]
+    "{_BLANK}*{_CURRENCY}?{_BLANK}*" | \[\${_BLANK}*{_CURRENCY}{_BLANK}*(?:{_LANGUAGE})?\]
     | \\?[$£€¥] | \\?{_BLANK} | _. | \*{_BLANK}
 )*"""
 # (with three places for a fraction it would look as if it had thousands)
 _DIGITS = r"""(?:
-    General | (?: [#?0]+ | (?:[#?]+,)+[#?]*0{0,3} ) (?:\.(?![#?0]{3}(?![#?0]))[#?0]*)? | \#[ ]\?{1,3}/\?{1,3}
+    General | (?: [#?0]+ | (?:[#?]+,)+[#?]*0{0,3} ) (?:\.(?![#?0]{3}(?![#?0]))[#?0]*)?
 )"""
-_NUMBER = re.compile(f"{_BESIDE}{_DIGITS}{_BESIDE}", re.VERBOSE | re.DOTALL)
+_NUMBER = re.compile(f"{_FIRST}{_BESIDE}{_DIGITS}{_BESIDE}", re.VERBOSE | re.DOTALL)
+# some spreadsheets show 1/2 for 12 if something is before it
+_FRACTION = re.compile(r"# \?{1,3}/\?{1,3}")
 # how accountants write 0
-_ZERO = re.compile(rf'{_BESIDE}(?:"[-–—]?"|\\?[-–—])?\?*{_BESIDE}', re.VERBOSE | re.DOTALL)
-_TEXT = re.compile(f"{_BESIDE}(?:@|General){_BESIDE}", re.VERBOSE | re.DOTALL)
+_ZERO = re.compile(rf'{_FIRST}{_BESIDE}(?:"[-–—]?"|\\?[-–—])?\?*{_BESIDE}', re.VERBOSE | re.DOTALL)
+_TEXT = re.compile(f"{_FIRST}{_BESIDE}(?:@|General){_BESIDE}", re.VERBOSE | re.DOTALL)
 # what is shown as it is written there, what is in brackets, what leaves room or fills it
 _PIECE = re.compile(r'"[^"]*"|\\.|[_*].|\[(?P<bracket>[^\]]*)\]|(?P<sign>.)', re.DOTALL)
 _ELAPSED = re.compile("h+|m+|s+", re.IGNORECASE)
 _OF_DATES = re.compile("[dmyhs]", re.IGNORECASE)
+
+
+def _shows_digits(section: str) -> bool:
+    """Whether a section of a format shows a number by its digits."""
+    return bool(_NUMBER.fullmatch(section) or _FRACTION.fullmatch(section))
 
 
 class NumberFormat:
@@ -92,8 +103,12 @@ class NumberFormat:
         """The whole numbers that it is known to show as they are."""
         if not self._shows_numbers:
             return range(0)
-        is_general = GENERAL in self.code or "@" in self.code
-        return range(0 if self._shows_zero else 1, _MOST_IN_GENERAL if is_general else MOST_SHOWN)
+        most = MOST_SHOWN
+        if GENERAL in self.code or "@" in self.code:
+            most = _MOST_IN_GENERAL
+        elif _FRACTION.fullmatch(self._sections[0]):
+            most = _MOST_BEFORE_FRACTION
+        return range(0 if self._shows_zero else 1, most)
 
     @cached_property
     def shows_texts(self) -> bool:
@@ -126,11 +141,12 @@ class NumberFormat:
         if self.code in (GENERAL, "@"):
             return True
         is_short = len(self.code) <= _LONGEST and len(self._sections) <= 4
-        return is_short and bool(_NUMBER.fullmatch(self._sections[0]))
+        return is_short and _shows_digits(self._sections[0])
 
     @cached_property
     def _shows_zero(self) -> bool:
         if len(self._sections) < 3:
             return self._shows_numbers
         section = self._sections[2]
-        return self._shows_numbers and bool(_NUMBER.fullmatch(section) or _ZERO.fullmatch(section))
+        is_shown = _shows_digits(section) or bool(_ZERO.fullmatch(section))
+        return self._shows_numbers and is_shown
