@@ -17,6 +17,8 @@ XM = "http://schemas.microsoft.com/office/excel/2006/main"
 SHEET = "xl/worksheets/sheet1.xml"
 STYLES = "xl/styles.xml"
 BOOK = "xl/workbook.xml"
+RELS = "xl/_rels/workbook.xml.rels"
+OTHER_OFFICE = "http://purl.oclc.org/ooxml/officeDocument/relationships"
 PLAIN_FONT = "<font><sz val='11'/><name val='Calibri'/></font>"
 
 
@@ -150,7 +152,7 @@ def themed(face: str) -> dict[str, Any]:
         "cell": 's="1"',
         "styles": make_styles(font=font),
         "parts": {"xl/theme1.xml": root},
-        "changes": [("xl/_rels/workbook.xml.rels", "</Relationships>", link)],
+        "changes": [(RELS, "</Relationships>", link)],
     }
 
 
@@ -515,6 +517,34 @@ ODD: dict[str, tuple[Odd, str]] = {
     "an id of no namespace": (
         Odd(changes=[(BOOK, BOOK_OLD, f'{BOOK_OLD} id="rId9"')]),
         "its 'sheet' has the attribute 'id', which isn't understood",
+    ),
+    "a link by two namespaces": (
+        Odd(
+            changes=[
+                (BOOK, "<workbook ", f'<workbook xmlns:q="{OTHER_OFFICE}" '),
+                (BOOK, BOOK_OLD, f'{BOOK_OLD} q:id="rId9"'),
+            ]
+        ),
+        "its 'sheet' has the attribute 'r:id' twice",
+    ),
+    "a part by another case": (
+        Odd(changes=[(RELS, "worksheets/sheet1.xml", "worksheets/Sheet1.xml")]),
+        "it has no part 'xl/worksheets/Sheet1.xml'",
+    ),
+    "a part by a way round": (
+        Odd(changes=[(RELS, "worksheets/sheet1.xml", "worksheets/../worksheets/sheet1.xml")]),
+        "it has no part 'worksheets/../worksheets/sheet1.xml'",
+    ),
+    "a part by the number of a character": (
+        Odd(
+            parts={"xl/worksheets/sheet%31.xml": ""},
+            changes=[(RELS, "worksheets/sheet1.xml", "worksheets/sheet%31.xml")],
+        ),
+        "it has no part 'xl/worksheets/sheet%31.xml'",
+    ),
+    "a part from the root": (
+        Odd(changes=[(RELS, "worksheets/sheet1.xml", "/xl/worksheets/sheet1.xml")]),
+        TAKEN,
     ),
     "sheets in an extension": (
         Odd(

@@ -9,7 +9,14 @@ from commands import EXAMPLES, ROOT, read_text, make_environment, run_program, p
 
 BENCH = ROOT / "bench"
 # what isn't run: modules that scripts import, and what `hostile` compiles
-PARTS = {"README.md", "measuring.py", "hostile_texts", "desk_trials", "colliding_names.c", "__pycache__"}
+PARTS = {
+    "README.md",
+    "measuring.py",
+    "hostile_texts",
+    "desk_trials",
+    "colliding_names.c",
+    "__pycache__",
+}
 # what needs LibreOffice
 PARTS |= {"shown_workbooks"}
 
@@ -74,6 +81,7 @@ MEASURING = {
     "solve": ["--solver", "@solve", "--wdp", "@", "--ties", "--cbc", EXAMPLES / "worked.txt"],
     "many_workbooks": ["2", "--bids", "3", "--before", ROOT],
     "mutated_workbooks": ["20"],
+    "damaged_folders": ["--replace", "report.txt cut"],
     "bare_machine": ["--list"],
 }
 SHOWN = {
@@ -89,6 +97,7 @@ SHOWN = {
     "solve": r"\| worked\.txt \| \d+ \| 4 \| [\d.]+ \| \d+ \| 0 \| [\d.]+ \|\n$",
     "many_workbooks": r"(?s).*\n\| 2 (\| [\d.]+ \| [\d.]+ \| \d+ ){2}\|\n$",
     "mutated_workbooks": r"\d+ read, \d+ refused, 0 in tracebacks\n$",
+    "damaged_folders": r"awards/2/report\.txt cut: refused\nreport\.txt cut: refused\n0 made again, 2 refused, 0 not needed, 0 wrong\n$",
     "bare_machine": r"(?s)README.md:\n  \./wdp text examples/one_form\.txt\n.*docs/OFFICE.md:\n  apt-get .*docs/PYTHON.md:\n  apt-get .*"
     r"installs:\n  make install && wdp --version\n",
 }
@@ -121,13 +130,18 @@ def test_trials_of_a_desk(wdp: str, wdp_desk: str, words: str, shown: str) -> No
 
 def test_outcomes_measures_the_step_of_each_group(wdp: str) -> None:
     printed = run_script(wdp, ["outcomes", "--groups", EXAMPLES / "worked.txt"])
-    rows = "".join(rf"  {row}: [\d.]+ s, cbc [\d.]+ s(, beyond)?\n" for row in ["1 -", "2 Alpha", "3 Beta", "4 Beta\\+Gamma"])
+    rows = "".join(
+        rf"  {row}: [\d.]+ s, cbc [\d.]+ s(, beyond)?\n"
+        for row in ["1 -", "2 Alpha", "3 Beta", "4 Beta\\+Gamma"]
+    )
     assert re.search(rows + r"  \d groups are within three times cbc's time or 3 s\n$", printed)
 
 
 def test_outcomes_stops_a_run(wdp: str) -> None:
     printed = run_script(wdp, ["outcomes", "--stop", "0.01", EXAMPLES / "worked.txt"])
-    assert re.search(r"\n  now: [\d.]+ s, \d+ MB, status -?\d+, no audit, 0 certificates\n$", printed)
+    assert re.search(
+        r"\n  now: [\d.]+ s, \d+ MB, status -?\d+, no audit, 0 certificates\n$", printed
+    )
 
 
 def test_each_script_is_run() -> None:

@@ -53,6 +53,7 @@ _BEGINNING = 1024  # bytes that it gets at once until the root begins
 _DIRECTORY_ENTRY = b"PK\x01\x02"
 _DIRECTORY_END = b"PK\x05\x06"
 _END = struct.Struct("<12xIIH")  # size and place of an archive's directory, and size of a comment
+_ROUNDABOUT = re.compile(r"(?:^|/)\./|[^./][^/]*/\.\.?(?:/|$)|.//")
 _ENCODING = re.compile(rb"""<\?xml[^>]*?encoding\s*=\s*["']([^"']*)["']""")
 _ENCODINGS = (b"utf-8", b"us-ascii", b"ascii")
 
@@ -362,6 +363,15 @@ def _find_kind(text: str) -> str:
     return kind if namespace in _LINKS else text
 
 
+def _find_target(folder: str, text: str) -> str:
+    """The name of the part that a link of a part in a folder leads to. One that goes up after it went
+    down, or stays where it is, leads to none: not every spreadsheet finds the part.
+    """
+    if _ROUNDABOUT.search(text):
+        return text
+    return posixpath.normpath(posixpath.join("/", folder, text)).lstrip("/")
+
+
 class Archive:
     """The parts of a workbook's archive by their names."""
 
@@ -384,7 +394,8 @@ class Archive:
     def read(self, name: str) -> bytes:
         """The bytes of a part."""
         entry = self.entries.get(name.lower())
-        if entry is None:
+        # (spreadsheets differ in whether another case, or what % begins, is the same name)
+        if entry is None or entry.filename.lstrip("/") != name or "%" in name:
             raise BadWorkbook(f"{NO_WORKBOOK}: it has no part {quote(name)}")
         if entry.flag_bits & 1:
             raise BadWorkbook("its archive has a password; save the workbook without one")
@@ -415,9 +426,8 @@ class Archive:
             link = element.get("Id", "")
             if link in links:
                 raise BadWorkbook(f"its archive has the link {quote(link)} twice")
-            path = posixpath.join("/", folder, element.get("Target", ""))
             is_outside = element.get("TargetMode") == "External"
-            target = "" if is_outside else posixpath.normpath(path).lstrip("/")
+            target = "" if is_outside else _find_target(folder, element.get("Target", ""))
             links[link] = Link(kind=_find_kind(element.get("Type", "")), part=target)
         return links
 

@@ -240,10 +240,16 @@ def find_unknown(
 
 
 def find_unknown_attributes(element: Element, part: PartNames) -> Iterator[str]:
-    """Which attributes of an element aren't in the table."""
+    """Which attributes of an element aren't in the table, or are there twice, since two namespaces
+    have the same prefix here.
+    """
     within = part.name(element.tag)
+    seen: set[str] = set()
     for attribute in element.keys():
         name = part.attribute(attribute)
+        if name in seen:
+            yield f"its {within!r} has the attribute {_show(name)} twice{HINT}"
+        seen.add(name)
         if name not in KNOWN[within].attributes and not part.is_ignorable(attribute):
             why = f"its {within!r} has the attribute {_show(name)}, which isn't understood"
             yield why + HINT
