@@ -99,10 +99,12 @@ def gradient(first: str, last: str) -> str:
     return f"<fill><gradientFill>{''.join(made)}</gradientFill></fill>"
 
 
-def table(style: str) -> dict[str, Any]:
+def table(style: str, more: str = "") -> dict[str, Any]:
     """A table of all bids in a style."""
     inner = f"<tableStyleInfo name='{style}' showRowStripes='1'/>"
-    root = f"<table xmlns='{MAIN}' id='1' name='T' displayName='T' ref='A1:C4'>{inner}</table>"
+    root = (
+        f"<table xmlns='{MAIN}' id='1' name='T' displayName='T' ref='A1:C4' {more}>{inner}</table>"
+    )
     return linked("table", "table1.xml", root)
 
 
@@ -459,7 +461,7 @@ ODD: dict[str, tuple[Odd, str]] = {
     "a row lower than its digits": (Odd(row='ht="3"'), "A3: its row is hidden"),
     "a large font in a low row": (
         Odd(cell='s="1"', styles=LARGE, row='ht="15"'),
-        "A3: its row is lower than half its font",
+        "A3: its row is lower than its font",
     ),
     "a number wider than its column": (
         Odd(before="<cols><col min='1' max='1' width='3'/></cols>"),
@@ -667,6 +669,15 @@ ODD: dict[str, tuple[Odd, str]] = {
             before="<sheetViews><sheetView workbookViewId='0'><pane ySplit='300' state='frozen'/></sheetView></sheetViews>"
         ),
         "its window is frozen beyond the first 20 rows or columns",
+    ),
+    "a table of another source": (
+        Odd(**table("TableStyleLight1", "tableType='queryTable'")),
+        "its table may get other values from elsewhere",
+    ),
+    "a row as high as its font": (Odd(row='ht="11"'), TAKEN),
+    "a row a little lower than its font": (
+        Odd(row='ht="10.5"'),
+        "A3: its row is lower than its font",
     ),
     "a table of a style of its own": (
         Odd(styles=make_styles(more=OWN_STYLE), **table("TableStyleLight1")),

@@ -124,6 +124,31 @@ def test_a_file_that_is_missing_is_made_again(folder: AuctionFolder, name: str) 
     assert is_whole or is_text or f"{name} isn't there any more" in seen.err or "lost/" in name
 
 
+@pytest.mark.parametrize(
+    "words", ["auction --ties", "lost", "letters", "letters --receipts", "prices"]
+)
+def test_a_title_that_is_missing_is_said_again(folder: AuctionFolder, words: str) -> None:
+    """Nothing else has it, and what has no title needs none."""
+    assert run_in(folder, "auction --ties --title Bands").status == 0
+    assert run_in(folder, "lost").status == 0
+    before = read_files(folder)
+    (folder.where / "page.json").unlink()
+    seen = run_in(folder, words)
+    assert seen.status == 1, seen
+    why = "isn't there any more, which has the title and the currency"
+    assert f"{folder.where}/page.json {why}" in seen.err
+    assert run_in(folder, "auction --ties --title Bands").status == 0
+    assert read_files(folder) == before
+
+
+def test_no_title_is_made_again(folder: AuctionFolder) -> None:
+    before = read_files(folder)
+    (folder.where / "page.json").unlink()
+    seen = run_in(folder, "letters")
+    assert seen.status == 0, seen
+    assert read_files(folder) == before
+
+
 @pytest.mark.parametrize("name", UNNEEDED)
 def test_a_file_that_is_missing_and_that_nobody_needs(folder: AuctionFolder, name: str) -> None:
     before = read_files(folder)
@@ -297,10 +322,12 @@ def test_groups_that_were_added_for_another_award(folder: AuctionFolder) -> None
     assert (second / "audit.txt").read_bytes() == before[second / "audit.txt"]
 
 
-OF_AN_AWARD = "award.txt audit.txt prices.txt report.txt ties.txt unpriced.txt certificates/1.txt certificates/2.txt"
+OF_AN_AWARD = "award.txt audit.txt input.txt prices.txt report.txt ties.txt unpriced.txt certificates/1.txt certificates/2.txt"
 
 
-@pytest.mark.parametrize("name", [*OF_AN_AWARD.split(), "programs/1.mps", "solutions/1.txt", "solutions/3.txt"])
+@pytest.mark.parametrize(
+    "name", [*OF_AN_AWARD.split(), "programs/1.mps", "solutions/1.txt", "solutions/3.txt"]
+)
 def test_an_award_of_which_a_file_is_missing(folder: AuctionFolder, name: str) -> None:
     """It is made again as this award, and not as another one that ties with it."""
     assert run_in(folder, "auction --award 2").status == 0
@@ -311,6 +338,28 @@ def test_an_award_of_which_a_file_is_missing(folder: AuctionFolder, name: str) -
     after = read_files(folder)
     others = {key: text for key, text in after.items() if "/logs/" not in key}
     assert others == {key: text for key, text in before.items() if "/logs/" not in key}
+
+
+OF_ITS_AUDIT = ["certificates/1.txt", "input.txt", "solutions/1.txt", "ties.txt", "unpriced.txt"]
+
+
+@pytest.mark.parametrize("name", OF_ITS_AUDIT)
+def test_an_award_of_which_a_file_is_replaced(folder: AuctionFolder, name: str) -> None:
+    """It is made again as this award."""
+    assert run_in(folder, "auction --award 2").status == 0
+    before = read_files(folder)
+    folder.put(f"awards/2/{name}", b"mine\n")
+    seen = run_in(folder, "auction --award 2")
+    assert seen.status == 1, seen
+    assert (
+        f"awards/2/{name} isn't what was left there: put that back, or wdp-office auction"
+        in seen.err
+    )
+    assert folder.read(f"awards/2/{name}") == b"mine\n"
+    seen = run_in(folder, "auction --award 2 --replace")
+    assert seen.status == 0, seen
+    after = {key: text for key, text in read_files(folder).items() if "/logs/" not in key}
+    assert after == {key: text for key, text in before.items() if "/logs/" not in key}
 
 
 def test_an_award_of_which_a_file_was_changed(folder: AuctionFolder) -> None:

@@ -366,6 +366,26 @@ def test_a_changed_file_of_the_old_folder_is_refused(office: Office) -> None:
     assert not (office.folder / "from damaged/report.txt").exists()
 
 
+def test_a_changed_page_of_the_old_folder_is_refused(office: Office) -> None:
+    office.begin("renamed", INPUT)
+    path = office.folder / "renamed/page.json"
+    path.write_bytes(b'{"title": "Mine", "currency": null}\n')
+    seen = office.run("from renamed", "--from", office.folder / "renamed", "--without", "Gamma")
+    assert seen.status == 1
+    assert f"{path} isn't what was left there" in seen.err
+    path.unlink()
+    seen = office.run("from renamed", "--from", office.folder / "renamed", "--without", "Gamma")
+    assert (seen.status, str(path) in seen.err) == (1, True)
+
+
+def test_a_missing_file_of_the_old_folder_is_named(office: Office) -> None:
+    office.begin("cut", INPUT)
+    path = office.folder / "cut/audit.txt"
+    path.unlink()
+    seen = office.run("from cut", "--from", office.folder / "cut", "--without", "Gamma")
+    assert (seen.status, f"{path} isn't there" in seen.err) == (1, True)
+
+
 @pytest.fixture(scope="module")
 def before() -> package.Auction:
     return package.Auction.from_text(INPUT)

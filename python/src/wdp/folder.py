@@ -70,6 +70,13 @@ class Folder:
         """The line with a file's SHA-256, as it was left."""
         return files.read(str(self.sum_path(name)), _MOST_OF_SUM, regular=True)
 
+    def knows(self, name: str, data: bytes) -> bool:
+        """Whether these bytes are those of a file that was left, whether it is there or not; also
+        if none was.
+        """
+        has_sum = os.path.lexists(self.sum_path(name))
+        return not has_sum or self.read_sum(name) == _format_sum(name, data)
+
     def read(self, name: str) -> bytes:
         """The bytes that a step left; Refused if they are others, or it isn't a file."""
         data = self._read_any(name)

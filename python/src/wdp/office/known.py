@@ -160,7 +160,8 @@ tableParts | tablePart* | read by its link: a table
 tablePart | @r:id | its link
 table | autoFilter sortState tableColumns tableStyleInfo extLst | read: a filter; its columns, style
 table | @mc:Ignorable | read: what is newer
-table | @id @name @displayName @comment @ref @tableType @headerRowCount | its name and place
+table | @tableType | read: whether its values are of the sheet
+table | @id @name @displayName @comment @ref @headerRowCount | its name and place
 table | @insertRow @insertRowShift @totalsRowCount @totalsRowShown @published | which rows it has
 table | @headerRowDxfId @dataDxfId @totalsRowDxfId | what it gave to cells
 table | @headerRowBorderDxfId @tableBorderDxfId @totalsRowBorderDxfId | its lines

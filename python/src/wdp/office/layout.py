@@ -114,8 +114,8 @@ class Layout:
         height = self.row.height
         if self.row.is_hidden or height is not None and height < _LOWEST:
             return f"its row is hidden; {_HINT}"
-        if height is not None and height < look.size / 2:
-            return f"its row is lower than half its font; {_HINT}"
+        if height is not None and height < look.size:
+            return f"its row is lower than its font; {_HINT}"
         return ""
 
     def _find_reason_of_column(self, column: int) -> str:

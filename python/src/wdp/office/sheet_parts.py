@@ -266,6 +266,8 @@ class _Surroundings:
             if part.name(element.tag) == "autoFilter":
                 self.check_filter(element, part)
         part.check(root)
+        if root.get("tableType", "worksheet") != "worksheet":
+            raise BadWorkbook("its table may get other values from elsewhere when it is opened")
         for element in root:
             if part.name(element.tag) != "tableStyleInfo" or "name" not in element.keys():
                 continue

@@ -42,8 +42,8 @@ class Origin:
         folder = Folder(where)
         if not where.is_dir():
             raise Refused(f"{where} is no folder")
-        if not folder.has(REPORT) or not folder.has(AUDIT):
-            path = folder.path(REPORT)
+        if missing := [name for name in (REPORT, AUDIT) if not folder.has(name)]:
+            path = folder.path(missing[0])
             raise Refused(f"{where} has no award: {path} isn't there, which certificates come with")
         return cls(folder, withdrawn=(), forms={})
 
@@ -102,13 +102,20 @@ class Origin:
             raise Refused(f"{new} isn't empty; name a new folder")
 
     def copy_kept(self, new: Folder) -> None:
-        """Copies what the office said of the page, unless the new folder has that."""
+        """Copies what the office said of the page, unless the new folder has that. Refused if it
+        isn't as it was left.
+        """
         for name in KEPT:
             old_path = self.folder.path(name)
             new_path = new.path(name)
-            if old_path.exists() and not new_path.exists():
+            is_left = os.path.lexists(self.folder.sum_path(name))
+            if new_path.exists() or not is_left and not old_path.exists():
+                continue
+            if is_left:
+                text = self.folder.read(name)
+            else:
                 text = files.read(str(old_path), _MOST_OF_KEPT, regular=True)
-                files.write_all({str(new_path): text})
+            files.write_all({str(new_path): text})
 
     def read_report(self, program: str) -> Report:
         """What `wdp verify` says of the award; Refused if it refuses the audit."""

@@ -38,16 +38,23 @@ class Page:
 
     def keep(self, folder: Folder) -> "Page":
         """Keeps title and currency in a folder, and takes from it what nothing is said of; the page
-        with both.
+        with both. Refused if nothing is said, and what was kept isn't there any more.
         """
         kept = _read_page(folder)
         page = Page(
             title=self.title or kept.title,
             currency=self.currency or kept.currency,
         )
+        text = (json.dumps(vars(page)) + "\n").encode()
+        if page == Page() and not folder.replaces and not folder.knows(PAGE, text):
+            path = folder.path(PAGE)
+            if not os.path.lexists(path):
+                again = f"auction {folder.where} --title TITLE --currency UNIT"
+                why = "which has the title and the currency"
+                raise Refused(f"{path} isn't there any more, {why}: wdp-office {again} makes it")
         if page != kept or not folder.has(PAGE):
             folder.forget(PAGE)
-            folder.leave(PAGE, (json.dumps(vars(page)) + "\n").encode())
+            folder.leave(PAGE, text)
         return page
 
 
