@@ -149,6 +149,16 @@ def test_no_title_is_made_again(folder: AuctionFolder) -> None:
     assert read_files(folder) == before
 
 
+@pytest.mark.parametrize("words", ["auction", "prices"])
+def test_ties_that_are_missing_are_found_again(folder: AuctionFolder, words: str) -> None:
+    """Whoever misses them, so that the audit shows no less than it did."""
+    before = read_files(folder)
+    (folder.where / "ties.txt").unlink()
+    seen = run_in(folder, words)
+    assert seen.status == 0, seen
+    assert read_files(folder) == before
+
+
 @pytest.mark.parametrize("name", UNNEEDED)
 def test_a_file_that_is_missing_and_that_nobody_needs(folder: AuctionFolder, name: str) -> None:
     before = read_files(folder)

@@ -237,10 +237,16 @@ def test_an_award_that_is_made_the_first(three: AuctionFolder, number: int) -> N
     assert audits.list_numbers(audit) == [number, *sorted({1, 2, 3} - {number})]
 
 
+def forget(folder: AuctionFolder, *names: str) -> None:
+    """Takes files away as if they had never been left."""
+    for name in names:
+        (folder.where / name).unlink()
+        (folder.where / f"sums/{name}.sha256").unlink()
+
+
 def test_prices_are_found_without_a_search_for_ties(three: AuctionFolder) -> None:
     """Only the winners and what they pay are printed."""
-    for name in ("ties.txt", "ties/1.txt", "ties/2.txt"):
-        (three.where / name).unlink()
+    forget(three, "ties.txt", "ties/1.txt", "ties/2.txt")
     result = run("prices", three.where, "--quiet", env=three.make_environment())
     assert result.status == 0
     assert [line.split()[0] for line in result.out.splitlines()][0::3] == ["Winner", "All"]
@@ -313,8 +319,7 @@ def test_more_awards_than_an_audit_lists(tmp_path: Path, wdp: str) -> None:
 
 
 def test_awards_of_a_search_that_did_not_end_may_not_be_all(three: AuctionFolder) -> None:
-    (three.where / "ties.txt").unlink()
-    (three.where / "ties/2.txt").unlink()
+    forget(three, "ties.txt", "ties/2.txt")
     messages = three.read_messages()
     audit = three.read("audit.txt")
     at_least = "at least these 2 awards reach the total of group 1: don't draw from these alone"

@@ -1,6 +1,6 @@
 """A run in a folder: what is asked for, in processes of their own, and how it ends."""
 import shlex
-from dataclasses import dataclass
+from dataclasses import dataclass, replace
 from functools import cached_property, partial
 from pathlib import Path
 
@@ -56,8 +56,16 @@ class Run:
         if not self.goals.is_certified and self.folder.has(REPORT):
             path = self.folder.path(REPORT)
             raise Refused(f"{path} is certified; --no-certify needs another folder")
-        if missing := self.folder.check():
+        missing = self.folder.check()
+        if missing:
             self.means.reporter.say(messages.format_made_again(missing))
+        if TIES in missing:
+            # (else the audit would show less than it did)
+            return replace(self, goals=replace(self.goals, finds_ties=True))._run_all()
+        return self._run_all()
+
+    def _run_all(self) -> int:
+        """Does all that isn't done yet in a folder that was checked."""
         page = self.page.keep(self.folder) if self.is_named else self.page
         publisher = Publisher(
             self.folder,
