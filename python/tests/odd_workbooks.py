@@ -313,6 +313,14 @@ ODD: dict[str, tuple[Odd, str]] = {
         styled(font="<font><sz val='1'/></font>"),
         "A2: its font has '1' points, not 6 to 72",
     ),
+    "no points": (
+        styled(font="<font><sz val='x'/></font>"),
+        "A2: its font has 'x' points, not 6 to 72",
+    ),
+    "more points than there are": (
+        styled(font="<font><sz val='1e9999'/></font>"),
+        "A2: its font has '1e9999' points, not 6 to 72",
+    ),
     "eight points": (styled(font="<font><sz val='8'/></font>"), TAKEN),
     "superscript": (
         styled(font="<font><vertAlign val='superscript'/></font>"),

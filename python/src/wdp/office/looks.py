@@ -313,7 +313,7 @@ class Styles:
             self.table_styles = {name.lower() for name in styles}
         usual = self.named[0].get("fontId", "0") if self.named else "0"
         # that of the digits by which columns are measured
-        self.usual_size = (_pick(self.fonts, usual) or self.fonts[0]).size or _USUAL_SIZE
+        self.usual_size = (_pick(self.fonts, usual) or self.fonts[0]).size
 
     def find(self, style: str) -> Look | None:
         """The look of a style of cells, by its number; None if there is no such style."""
@@ -340,6 +340,7 @@ class Styles:
         points = float(size) if NUMBER.fullmatch(size) else 0.0
         if not _SMALLEST_FONT <= points <= _LARGEST_FONT:
             hides = f"its font has {quote(size)} points, not {_SMALLEST_FONT} to {_LARGEST_FONT}"
+            points = _USUAL_SIZE
         name = texts.get("name", texts.get("rFont", ""))
         # (spreadsheets differ in which of the two they show)
         names = [name, *self.palette.fonts.get(texts.get("scheme", ""), ())]
