@@ -4,7 +4,7 @@ import random
 import re
 import zipfile
 
-_ATTRIBUTE = re.compile(rb'="[^"]*"')
+_ATTRIBUTE = re.compile(rb"""=(?:"[^"]*"|'[^']*')""")
 _ODD = [
     b"",
     b"0",

@@ -141,15 +141,15 @@ def bordered(ends: str, style: str) -> str:
     )
 
 
-def themed(face: str) -> dict[str, Any]:
-    """Amounts in the font of a theme."""
-    colours = "<a:dk1><a:sysClr val='windowText'/></a:dk1><a:lt1><a:sysClr val='window'/></a:lt1>"
+def themed(face: str, text: str = "windowText") -> dict[str, Any]:
+    """Amounts in the font of a theme, and in its colour of texts."""
+    colours = f"<a:dk1><a:sysClr val='{text}'/></a:dk1><a:lt1><a:sysClr val='window'/></a:lt1>"
     scheme = f"<a:clrScheme name='Office'>{colours}</a:clrScheme>"
     fonts = f"<a:minorFont><a:latin typeface='{face}'/></a:minorFont>"
     scheme += f"<a:fontScheme name='Office'>{fonts}</a:fontScheme>"
     root = f"<a:theme xmlns:a='{ART}'><a:themeElements>{scheme}</a:themeElements></a:theme>"
     link = f'<Relationship Id="rId9" Type="{OFFICE}/theme" Target="theme1.xml"/></Relationships>'
-    font = "<font><name val='Calibri'/><scheme val='minor'/></font>"
+    font = "<font><color theme='1'/><name val='Calibri'/><scheme val='minor'/></font>"
     return {
         "cell": 's="1"',
         "styles": make_styles(font=font),
@@ -662,6 +662,10 @@ ODD: dict[str, tuple[Odd, str]] = {
     "signs for digits by the theme": (
         Odd(**themed("Wingdings")),
         "A2: its font 'Wingdings' may have other signs",
+    ),
+    "a colour of the system that isn't known": (
+        Odd(**themed("Calibri", "menu")),
+        "A2: the colour of its font isn't known",
     ),
     "the font of the theme": (Odd(**themed("Calibri")), TAKEN),
     "signs for digits in a list of fonts": (

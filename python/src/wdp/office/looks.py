@@ -253,7 +253,8 @@ def _read_theme_colour(element: Element, part: XmlPart) -> Colour | None:
         return None
     if kind == "sysClr":
         text = _OF_SYSTEM.get(element.get("val", ""), "")
-        return _parse_colour(text) if element.get("lastClr", text).upper() == text else None
+        is_usual = text and element.get("lastClr", text).upper() == text
+        return _parse_colour(text) if is_usual else None
     text = element.get("val", "")
     return _parse_colour(text) if kind == "srgbClr" and _RGB.fullmatch("00" + text) else None
 
