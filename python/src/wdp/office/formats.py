@@ -104,10 +104,10 @@ class NumberFormat:
         if not self._shows_numbers:
             return range(0)
         most = MOST_SHOWN
-        if GENERAL in self.code or "@" in self.code:
-            most = _MOST_IN_GENERAL
-        elif _FRACTION.fullmatch(self._sections[0]):
+        if _FRACTION.fullmatch(self._sections[0]):
             most = _MOST_BEFORE_FRACTION
+        elif GENERAL in self.code or "@" in self.code:
+            most = _MOST_IN_GENERAL
         return range(0 if self._shows_zero else 1, most)
 
     @cached_property
