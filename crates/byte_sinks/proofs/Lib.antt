@@ -1,3 +1,4 @@
 pub mod KnownByteFacts
 pub mod AddingFacts
 pub mod JsonFacts
+pub mod ObjectFacts
