@@ -8,4 +8,5 @@ pub mod Costs
 pub mod Ties
 pub mod Following
 pub mod Others
+pub mod Outcome
 pub mod inside

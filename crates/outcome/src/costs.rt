@@ -56,7 +56,7 @@ fn worth_left(book: &ClosedBook, choices: &[Choice]) -> u128
 }
 
 /// The sum of the amounts.
-fn amounts_of(book: &ClosedBook, choices: &[Choice]) -> u128
+pub fn amounts_of(book: &ClosedBook, choices: &[Choice]) -> u128
     ensures sum { result ≡ sum_by (amount_of (book_of book.now)) choices.now }
     ensures small { result ≤ length choices.now * 2 ^ 64 }
 {
@@ -85,7 +85,7 @@ pub fn total(book: &ClosedBook, allocation: &Allocation) -> u128
 }
 
 /// The sum of the amounts of the group's bidders.
-fn amounts_in(book: &ClosedBook, group: &Group, choices: &[Choice]) -> u128
+pub fn amounts_in(book: &ClosedBook, group: &Group, choices: &[Choice]) -> u128
     ensures sum { result ≡ amounts_of_group (book_of book.now) group.now choices.now }
     ensures small { result ≤ length choices.now * 2 ^ 64 }
 {

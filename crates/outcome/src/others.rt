@@ -37,13 +37,15 @@ impl OtherAwards {
         OtherAwards { awards, further }
     }
 
-    fn awards(&self) -> &[Allocation]
+    /// The awards, in the order in which they are printed.
+    pub fn awards(&self) -> &[Allocation]
         ensures { result.now ≡ self.now.awards }
     {
         self.awards.as_slice()
     }
 
-    fn further(&self) -> Further
+    /// Whether there are more.
+    pub fn further(&self) -> Further
         ensures { result ≡ self.now.further }
     {
         self.further

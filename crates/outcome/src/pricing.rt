@@ -37,27 +37,30 @@ impl Pricing {
         }
     }
 
-    fn parts(&self) -> u64
+    /// How many parts make a pound.
+    pub fn parts(&self) -> u64
         ensures parts { result ≡ self.now.parts }
         ensures some { 1 ≤ result }
     {
         self.parts
     }
 
-    fn prices(&self) -> &[u64]
+    /// The price of each bidder in parts of a pound, bidder 1's first and 0 for one that wins nothing.
+    pub fn prices(&self) -> &[u64]
         ensures { result.now ≡ self.now.prices }
     {
         self.prices.as_slice()
     }
 
-    fn by_rule(&self) -> bool
+    /// Whether these are the prices of the rule.
+    pub fn by_rule(&self) -> bool
         ensures { result ≡ self.now.by_rule }
     {
         self.by_rule
     }
 
     /// What a bidder pays: its price, rounded up to whole pounds.
-    fn pounds(&self, bidder: u16) -> u64
+    pub fn pounds(&self, bidder: u16) -> u64
         ensures { result ≡ in_pounds self.now.parts (price_in self.now.prices) bidder }
     {
         price_of(self.prices(), bidder).div_ceil(self.parts())
@@ -104,7 +107,7 @@ pub fn paid(prices: &[u64], choices: &[Choice]) -> u128
 }
 
 /// The sum of what the winners pay in whole pounds.
-fn paid_in_pounds(pricing: &Pricing, choices: &[Choice]) -> u128
+pub fn paid_in_pounds(pricing: &Pricing, choices: &[Choice]) -> u128
     ensures sum { result ≡ of_prices.paid (in_pounds pricing.now.parts (price_in pricing.now.prices))
         choices.now }
     ensures small { result ≤ length choices.now * 2 ^ 64 }
@@ -117,7 +120,7 @@ fn paid_in_pounds(pricing: &Pricing, choices: &[Choice]) -> u128
 }
 
 /// Whether that many pounds are that many parts.
-fn is_exact(parts: u64, pounds: u128, exact: u128) -> bool
+pub fn is_exact(parts: u64, pounds: u128, exact: u128) -> bool
     requires { 1 ≤ parts }
     ensures { result ≡ (parts * pounds == exact) }
 {
