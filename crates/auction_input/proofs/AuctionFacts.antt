@@ -31,7 +31,7 @@ use Rattle.auction_input.specs.declared.form_texts.AnotherForm.{AnotherForm}
 use Rattle.auction_input.specs.declared.part_kind.PartKind.{PartKind}
 use Rattle.auction_input.specs.declared.parts.Part as declared
 use Rattle.auction_input.specs.declared.refusal.Refusal.TheVariants as refusal
-use Rattle.auction_input.specs.declared.request.Request.TheVariants as request
+use Rattle.auction_input.specs.Requests.{ReadsAuction}
 use Rattle.auction_input.specs.declared.request.Request.{Request}
 use Rattle.auction_input.specs.declared.round.RoundFault.{RoundFault}
 use Rattle.auction_input.specs.declared.round.RoundFault.TheVariants as round
@@ -167,12 +167,11 @@ module _ (asked : Request) (input : Input) (last_wins : Bool) (same : input.last
   parsed-is t forms groups parsed = auction-is t parsed.rules forms parsed.each parsed.alone groups parsed.known parsed.accepted
 
   -- a round that leaves no book leaves no auction
-  pub run-refused : asked ≢ request.Check → asked ≢ request.Forms → (r : Refusal) → RefusesRun last_wins parts r → RefusesAuction asked input r
-  run-refused reads formless r (inl refused) = inl (refused asked input same cut)
-  run-refused reads formless r (inr unanswered) =
+  pub run-refused : ReadsAuction asked → (r : Refusal) → RefusesRun last_wins parts r → RefusesAuction asked input r
+  run-refused reads r (inl refused) = inl (refused asked input same cut)
+  run-refused reads r (inr unanswered) =
       inr (
         reads,
-        formless,
         auction_of unanswered.t unanswered.forms unanswered.groups (rest_in
             parts),
         parsed-is unanswered.t unanswered.forms unanswered.groups unanswered.parsed,

@@ -57,7 +57,7 @@ abbrev others : List (List ℕ)
 others = drop 4 (names_for None)
 
 -- what names a part to a command names it to all
-names-all : (command : Option Target) (name : List ℕ) → list_any (bytes_eq name) (names_for command) ≡ true → list_any (bytes_eq name) (names_for None) ≡ true
+pub names-all : (command : Option Target) (name : List ℕ) → list_any (bytes_eq name) (names_for command) ≡ true → list_any (bytes_eq name) (names_for None) ≡ true
 names-all None name is = is
 names-all (Some target.Verify) name is = is
 names-all (Some target.Text) name is = any-front (bytes_eq name) (names_for (Some target.Text)) others is

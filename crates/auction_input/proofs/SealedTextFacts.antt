@@ -17,10 +17,11 @@ use Rattle.auction_input.specs.Submissions.{forms_of}
 use Rattle.auction_input.specs.declared.refusal.Refusal.{Refusal}
 use Rattle.auction_input.specs.declared.refusal.Refusal.TheVariants as refusal
 use Rattle.auction_input.specs.declared.request.Request.{Request}
-use Rattle.auction_input.specs.declared.request.Request.TheVariants.{Forms, Verify}
+use Rattle.auction_input.specs.Requests.{target_of}
+use Rattle.auction_input.specs.declared.request.Request.TheVariants.{Forms}
 use Rattle.auction_input.proofs.AnswerFacts.{ok-after, ok-refused_as, unless-ok}
 use Rattle.auction_input.proofs.StageFacts.{next}
-use Rattle.auction_input.proofs.BookFacts.{describes, last-is}
+use Rattle.auction_input.proofs.BookFacts.{describes, last-is, names-all}
 use Rattle.auction_input.proofs.DescribedFacts.{few-none, forms-read, parts-read, read-parts, rules-read, together-read}
 use Rattle.auction_input.proofs.SameFormFacts.{ok-same, one-sale, rules-same}
 use Rattle.auction_terms.specs.FirstFault.{first_fault}
@@ -81,17 +82,17 @@ read-is asked input auction d read parsed =
     (subst (λ (u : Terms). each_in_turn (parsed_form u) 1 texts ≡ Ok each) rules each_is) (forms-read auction.rules 1 texts d.forms d.forms_are.each) in
     sym is ∙ ap₂ (λ (u : Terms) (fs : List Offers). read_of input u fs) rules (sym kept ∙ described)
 
--- the rules and the forms of an input that describes an auction to `verify` are read
-pub forms-of-verified : (workers : ℕ) (input : Input) (auction : Auction) → Describes (Verify workers) input auction
+-- the rules and the forms of an input that describes an auction are read
+pub forms-of-described : (asked : Request) (input : Input) (auction : Auction) → Describes asked input auction
     → (read : FormParts) × (parsed_forms input ≡ Ok read)
-forms-of-verified workers input auction d =
+forms-of-described asked input auction d =
     let t = auction.rules in
     let forms = d.forms in
     let parts = input_parts input in
     let numbers = text_numbers (codes "%form") parts in
     let has : HasPartsFor Forms input = record {
       whole = d.parts.whole;
-      known = d.parts.known;
+      known = λ place none within. names-all (target_of asked) _ (d.parts.known place none within);
       one_of_rules = d.parts.one_of_rules;
       others_taken = refl;
     } in

@@ -9,7 +9,7 @@ use Rattle.auction_input.specs.Submissions.{AreSubmitted}
 use Rattle.auction_input.specs.declared.auction.Auction as declared
 use Rattle.auction_input.specs.declared.refusal.Refusal.TheVariants as refusal
 use Rattle.auction_input.specs.declared.refusal.Refusal.{Refusal}
-use Rattle.auction_input.specs.declared.request.Request.TheVariants as request
+use Rattle.auction_input.specs.Requests.{ReadsAuction}
 use Rattle.auction_input.specs.declared.request.Request.{Request}
 use Rattle.auction_input.specs.declared.round.RoundFault.TheVariants as round
 use Rattle.bid_desk.specs.Closing.{Closing}
@@ -35,10 +35,10 @@ held auction = record {
   rule_texts = bytes_of auction.rule_texts.items;
 }
 
--- the auction, which the request reads (`check` and `forms` read none), is accepted, and yet a wrong answer of the desk is reported: that it
+-- the auction, if the request reads one, is accepted, and yet a wrong answer of the desk is reported: that it
 -- gave one isn't said, since nothing is known of what a lock gives
 abbrev pub IsUnsettled : Request → Input → Refusal → Type 0
-IsUnsettled asked input r = (asked ≢ request.Check) × (asked ≢ request.Forms) × (auction : Auction) × (parsed_auction asked input ≡ Ok auction) × (r ≡ refusal.Round round.WrongAnswer)
+IsUnsettled asked input r = ReadsAuction asked × (auction : Auction) × (parsed_auction asked input ≡ Ok auction) × (r ≡ refusal.Round round.WrongAnswer)
 
 -- why an input leaves no settled auction
 abbrev pub RefusesAuction : Request → Input → Refusal → Type 0

@@ -1,6 +1,7 @@
 //! The auction that an input describes.
 
-ghost use Rattle.std.specs.Prelude.{◌≡◌, ◌≢◌, All, IfErr, IfOk, None, Ok, OnOk, codes, length};
+ghost use Rattle.auction_input.specs.Requests.{ReadsAuction};
+ghost use Rattle.std.specs.Prelude.{◌≡◌, All, IfErr, IfOk, None, Ok, OnOk, codes, length};
 ghost use Rattle.auction_input.specs.Auction.{parsed_auction};
 ghost use Rattle.auction_input.specs.Refused.{Refuses};
 ghost use Rattle.auction_input.specs.Settled.{HoldsForms, RefusesAuction, held};
@@ -200,8 +201,7 @@ pub fn read_auction<'t, R: Threads + Wait + Sync + AllocGlobal>(
     request: &Request,
     input: &'t Input,
 ) -> Result<Auction<'t>, Refusal>
-    requires auction { request.now ≢ Request.Check }
-    requires not_forms { request.now ≢ Request.Forms }
+    requires reads { ReadsAuction request.now }
     ensures parsed { IfOk result (λ auction. parsed_auction request.now input.now ≡ Ok (held auction)) }
     ensures submitted { IfOk result (λ auction. HoldsForms input.now auction.book) }
     ensures sold { IfOk result (λ auction. IsSold request.now input.now (held auction)) }

@@ -54,7 +54,7 @@ pub use price_names::Known;
 pub use price_reading::{GivenPrice, GivenPrices, price_given, prices_in_parts, read_prices};
 pub use reading::{miscounted, only_text};
 pub use refusal::Refusal;
-pub use request::{ExplainOptions, Request, Target};
+pub use request::{ExplainOptions, Objects, Request, Target};
 pub use round::RoundFault;
 pub use rule_reading::read_rule_lines;
 pub use rule_weights::{

@@ -42,6 +42,17 @@ pub struct ExplainOptions {
     pub format: Format,
 }
 
+/// What is printed as objects of JSON.
+#[derive(Clone, Copy)]
+pub enum Objects {
+    /// What `Request::Forms` asks for.
+    Forms,
+    /// What `Objects::Forms` asks for, and after it what solutions of all groups win.
+    Report { workers: usize },
+    /// What `Objects::Forms` asks for, and after it what solutions of all groups win, where certificates show that nobody wins more.
+    Verify { workers: usize },
+}
+
 /// A command with its options.
 #[derive(Clone, Copy)]
 pub enum Request {
@@ -64,6 +75,8 @@ pub enum Request {
     VerifyWithForms { workers: usize },
     /// The digests of the texts of the rules and of each bidder's last form.
     Forms,
+    /// Objects of JSON in place of words.
+    Objects(Objects),
 }
 
 impl Request {
@@ -74,14 +87,16 @@ impl Request {
     {
         match *self {
             Request::Text => Some(Target::Text),
-            Request::Check | Request::Forms => None,
+            Request::Check | Request::Forms | Request::Objects(Objects::Forms) => None,
             Request::Compile { workers: _ } => Some(Target::Compile),
             Request::Explain(options) => options.target,
             Request::Map { group: _ } => Some(Target::Map),
-            Request::Report { workers: _ } => Some(Target::Report),
-            Request::Verify { workers: _ } | Request::VerifyWithForms { workers: _ } => {
-                Some(Target::Verify)
+            Request::Report { workers: _ } | Request::Objects(Objects::Report { workers: _ }) => {
+                Some(Target::Report)
             }
+            Request::Verify { workers: _ }
+            | Request::VerifyWithForms { workers: _ }
+            | Request::Objects(Objects::Verify { workers: _ }) => Some(Target::Verify),
         }
     }
 
@@ -98,7 +113,8 @@ impl Request {
             | Request::Report { workers: _ }
             | Request::Verify { workers: _ }
             | Request::VerifyWithForms { workers: _ }
-            | Request::Forms => Format::Words,
+            | Request::Forms
+            | Request::Objects(_) => Format::Words,
         }
     }
 
@@ -106,6 +122,6 @@ impl Request {
     pub fn ignores_others(&self) -> bool
         ensures { result ≡ ignores_others self.now }
     {
-        matches!(self, Request::Forms)
+        matches!(self, Request::Forms | Request::Objects(Objects::Forms))
     }
 }

@@ -34,7 +34,7 @@ returns-in_err-book-clause-refuses g c =
     let r = c.in_err-book.field-0.0 in
     let refused = subst (λ (xs : Parts). RefusesRun c.last_wins.result (parts_held xs) r) c.as_slice-2.ensures.value c.in_err-book.ensures.refuses in
     if-err-of (RefusesAuction asked input) c.from_residual-in_err-book.result r c.from_residual-in_err-book.ensures.1
-    (run-refused asked input _ (sym c.last_wins.ensures) (parts_held c.in_ok-parts.parts.items) c.in_ok-parts.ensures.parsed c.requires.auction c.requires.not_forms r refused)
+    (run-refused asked input _ (sym c.last_wins.ensures) (parts_held c.in_ok-parts.parts.items) c.in_ok-parts.ensures.parsed c.requires.reads r refused)
 
 pub returns-clause-parsed : goal.returns-clause-parsed
 returns-clause-parsed g c =
