@@ -6,6 +6,7 @@ use Rattle.answers.specs.Exact.{Ends, IsUnwritten, MeetsLimit, Writes, by_refusa
 use Rattle.byte_sinks.specs.Sinks.{Outlet}
 use Rattle.answers.specs.Sold.{HasSold, HasSoldTo}
 use Rattle.answers.specs.Output.{IsBeyondLimit, IsWithoutOutput}
+use Rattle.answers.specs.inside.ByAuction.{IsByAuction}
 use Rattle.answers.proofs.FaithfulFacts.{faithful-without}
 use Rattle.auction_input.specs.Auction.{Auction, parsed_auction}
 use Rattle.auction_input.specs.Settled.{RefusesAuction}
@@ -14,16 +15,49 @@ use Rattle.auction_input.specs.declared.refusal.Refusal.{Refusal}
 use Rattle.auction_input.proofs.DescribedFacts.{described-auction}
 use Rattle.auction_input.proofs.StageFacts.{refuses-as, stop}
 use Rattle.auction_terms.specs.Stages.{and_then}
+use Rattle.auction_input.specs.Requests.{ReadsAuction}
+use Rattle.auction_input.specs.declared.request.Objects.{Objects}
 use Rattle.auction_input.specs.declared.request.Request.{Request}
 use Rattle.auction_input.specs.declared.request.Request.TheVariants as request
 
--- every command but `check`, `forms` and `verify --forms` answers by the auction alone
-by-auction : (asked : Request) (input : Input) → asked ≢ request.Check → asked ≢ request.Forms → ((workers : ℕ) → asked ≢ request.VerifyWithForms workers)
-    → answer asked input ≡ and_then (parsed_auction asked input) (output_of asked)
-by-auction request.Check input some settled bare = absurd (some refl)
-by-auction request.Forms input some settled bare = absurd (settled refl)
-by-auction (request.VerifyWithForms workers) input some settled bare = absurd (bare workers refl)
-by-auction asked input some settled bare = refl
+-- which requests are answered by the auction alone
+pub of-auction : (asked : Request) → asked ≢ request.Check → asked ≢ request.Forms → ((workers : ℕ) → asked ≢ request.VerifyWithForms workers)
+    → ((of : Objects) → asked ≢ request.Objects of) → IsByAuction asked
+of-auction request.Check some settled bare worded = absurd (some refl)
+of-auction request.Forms some settled bare worded = absurd (settled refl)
+of-auction (request.VerifyWithForms workers) some settled bare worded = absurd (bare workers refl)
+of-auction (request.Objects of) some settled bare worded = absurd (worded of refl)
+of-auction request.Text some settled bare worded = tt
+of-auction (request.Compile workers) some settled bare worded = tt
+of-auction (request.Explain options) some settled bare worded = tt
+of-auction (request.Map group) some settled bare worded = tt
+of-auction (request.Report workers) some settled bare worded = tt
+of-auction (request.Verify workers) some settled bare worded = tt
+
+-- these read one
+pub reads-auction : (asked : Request) → IsByAuction asked → ReadsAuction asked
+reads-auction request.Check of = absurd of
+reads-auction request.Forms of = absurd of
+reads-auction (request.VerifyWithForms workers) of = absurd of
+reads-auction (request.Objects objects) of = absurd of
+reads-auction request.Text of = tt
+reads-auction (request.Compile workers) of = tt
+reads-auction (request.Explain options) of = tt
+reads-auction (request.Map group) of = tt
+reads-auction (request.Report workers) of = tt
+reads-auction (request.Verify workers) of = tt
+
+by-auction : (asked : Request) (input : Input) → IsByAuction asked → answer asked input ≡ and_then (parsed_auction asked input) (output_of asked)
+by-auction request.Check input of = absurd of
+by-auction request.Forms input of = absurd of
+by-auction (request.VerifyWithForms workers) input of = absurd of
+by-auction (request.Objects objects) input of = absurd of
+by-auction request.Text input of = refl
+by-auction (request.Compile workers) input of = refl
+by-auction (request.Explain options) input of = refl
+by-auction (request.Map group) input of = refl
+by-auction (request.Report workers) input of = refl
+by-auction (request.Verify workers) input of = refl
 
 meets-limit : (asked : Request) (input : Input) (auction : Auction) (r : Refusal) → parsed_auction asked input ≡ Ok auction
     → IsBeyondLimit asked auction r → MeetsLimit asked input r
@@ -34,25 +68,29 @@ meets-limit asked input auction r parsed beyond = absurd beyond
 pub has-sold-to : (asked : Request) (input : Input) (auction : Auction) → IsSold asked input auction → HasSoldTo asked input
 has-sold-to asked input auction sold = (auction, sold, faithful-without asked input auction ((described-auction asked input auction).1 sold.described))
 
-pub has-sold : (asked : Request) (input : Input) (auction : Auction) → ((workers : ℕ) → asked ≢ request.VerifyWithForms workers) → IsSold asked input auction
-    → HasSold asked input
-has-sold request.Check input auction bare sold = tt
-has-sold request.Forms input auction bare sold = tt
-has-sold (request.VerifyWithForms workers) input auction bare sold = absurd (bare workers refl)
-has-sold asked input auction bare sold = has-sold-to asked input auction sold
+pub has-sold : (asked : Request) (input : Input) (auction : Auction) → IsByAuction asked → IsSold asked input auction → HasSold asked input
+has-sold request.Check input auction of sold = absurd of
+has-sold request.Forms input auction of sold = absurd of
+has-sold (request.VerifyWithForms workers) input auction of sold = absurd of
+has-sold (request.Objects objects) input auction of sold = absurd of
+has-sold request.Text input auction of sold = has-sold-to request.Text input auction sold
+has-sold (request.Compile workers) input auction of sold = has-sold-to (request.Compile workers) input auction sold
+has-sold (request.Explain options) input auction of sold = has-sold-to (request.Explain options) input auction sold
+has-sold (request.Map group) input auction of sold = has-sold-to (request.Map group) input auction sold
+has-sold (request.Report workers) input auction of sold = has-sold-to (request.Report workers) input auction sold
+has-sold (request.Verify workers) input auction of sold = has-sold-to (request.Verify workers) input auction sold
 
-module _ (asked : Request) (input : Input) (some : asked ≢ request.Check) (settled : asked ≢ request.Forms)
-    (bare : (workers : ℕ) → asked ≢ request.VerifyWithForms workers) where
+module _ (asked : Request) (input : Input) (of : IsByAuction asked) where
   -- the auction isn't there
   pub no-auction : (before : Outlet) (r : Refusal) → RefusesAuction asked input r → IsUnwritten asked input before before r
   no-auction before r (inl refused) =
-      inl (by_refusal (refuses-as _ _ r (by-auction asked input some settled bare) (stop (parsed_auction asked input) (output_of asked) r refused)) refl)
+      inl (by_refusal (refuses-as _ _ r (by-auction asked input of) (stop (parsed_auction asked input) (output_of asked) r refused)) refl)
   no-auction before r (inr unsettled) = inr (inl unsettled, refl)
 
   -- it is, and what is reported of it is what the input describes
   module _ (auction : Auction) (parsed : parsed_auction asked input ≡ Ok auction) where
     is-parsed : answer asked input ≡ output_of asked auction
-    is-parsed = by-auction asked input some settled bare ∙ ap (λ (t : Result Auction Refusal). and_then t (output_of asked)) parsed
+    is-parsed = by-auction asked input of ∙ ap (λ (t : Result Auction Refusal). and_then t (output_of asked)) parsed
 
     pub written : {T E : Type 0} (result : Result T E) (before after : Outlet)
         → OnOk result (Writes (output_of asked auction) before after) → OnOk result (Writes (answer asked input) before after)

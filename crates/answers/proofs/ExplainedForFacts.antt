@@ -5,16 +5,16 @@ use Rattle.std.specs.Prelude.{⊤, if◌then◌else◌, nat_le, slice_index_or}
 use Rattle.std.specs.List.{zip}
 use Rattle.std.specs.Option.{option_map, option_or}
 use Rattle.byte_sinks.specs.Sinks.{Outlet}
-use Rattle.answers.specs.Answer.{answer, output_of}
+use Rattle.answers.specs.Answer.{answer, output_of, reported_objects, shown_objects, shown_outcome}
 use Rattle.answers.specs.Exact.{Writes}
 use Rattle.answers.specs.ExplainedFor.{ExplainsFor, IsOfParts, IsRefusedBy, IsTakenBy, RefusesSo}
 use Rattle.answers.specs.Runs.{IsTakenFor}
-use Rattle.answers.specs.Forms.{forms_text}
+use Rattle.answers.specs.Forms.{forms_objects, forms_text}
 use Rattle.auction_input.specs.LastForms.{FormParts, parsed_forms}
 use Rattle.auction_input.proofs.AnswerFacts.{ok-after}
 use Rattle.auction_input.proofs.DescribedFacts.{described-auction}
 use Rattle.auction_input.proofs.PartCountFacts.{failed-after}
-use Rattle.auction_input.proofs.SealedTextFacts.{forms-of-verified}
+use Rattle.auction_input.proofs.SealedTextFacts.{forms-of-described}
 use Rattle.auction_input.specs.Auction.{Auction, parsed_auction}
 use Rattle.auction_input.specs.Input.{Input}
 use Rattle.auction_input.specs.PartCounts.{claim_wants, has_certificates, numbers_of, pricing_wants, proof_wants}
@@ -46,12 +46,14 @@ use Rattle.prices.specs.declared.rule.RuleFault.{RuleFault}
 use Rattle.prices.specs.declared.rule.RuleFault.TheVariants as unshown
 use Rattle.answers.specs.Programs.{program_for}
 use Rattle.answers.specs.SolutionWinners.{solution_refused, winners_by, winners_of_groups}
-use Rattle.outcome.specs.Pricing.{Priced, pricing_text}
+use Rattle.award_objects.specs.Objects.{objects_shown, objects_unshown}
+use Rattle.outcome.specs.Outcome.{Outcome, outcome_report}
+use Rattle.outcome.specs.Pricing.{Priced}
 use Rattle.outcome.specs.Report.{allocation_text, report_text}
 use Rattle.optimality.specs.OnlyPoints.{only_fault}
 use Rattle.auction_input.specs.declared.tie_fault.TieFault.{TieFault}
 use Rattle.outcome.specs.Solution.{solution}
-use Rattle.outcome.specs.Others.{Others, others_text}
+use Rattle.outcome.specs.Others.{Others}
 use Rattle.outcome.specs.PointAllocation.{allocation_of}
 use Rattle.auction_input.specs.ParsedParts.{only_text}
 use Rattle.auction_terms.specs.Allocations.{amount_of, weighed_choice}
@@ -64,7 +66,8 @@ use Rattle.program_rows.specs.declared.solution_fault.SolutionFault.{SolutionFau
 use Rattle.program_rows.specs.Program.{Table}
 use Rattle.auction_input.specs.Requests.{target_of}
 use Rattle.auction_input.specs.declared.request.ExplainOptions.{ExplainOptions}
-use Rattle.auction_input.specs.declared.request.Request.TheVariants.{Check, Compile, Explain, Forms, Map, Report, Text, Verify, VerifyWithForms}
+use Rattle.auction_input.specs.declared.request.Request.TheVariants.{Check, Compile, Explain, Forms, Map, Objects, Report, Text, Verify, VerifyWithForms}
+use Rattle.auction_input.specs.declared.request.Objects.TheVariants as objects
 use Rattle.auction_input.specs.declared.request.Request.{Request}
 use Rattle.auction_input.specs.declared.request.Target.TheVariants as target
 use Rattle.auction_input.specs.declared.request.Target.{Target}
@@ -270,11 +273,15 @@ abbrev each_won : Auction → Result (List (List Choice)) Refusal
 each_won auction = each_in_turn (λ number (item : List ℕ × List ℕ). winners_by (program_for auction.sale item.0) number item.1) 1
     (zip auction.groups auction.solutions)
 
-report-so : (workers : ℕ) (parsed : Result Auction Refusal) (r : Refusal) → with_wanted (Some target.Report) parsed ≡ Err r
-    → and_then parsed (output_of (Report workers)) ≡ Err r
-report-so workers (Err f) r is = ap (λ (e : Refusal). Err e) (err-is f r is)
-report-so workers (Ok auction) r is =
-    ap (λ (o : Option Refusal). and_then (unless o (each_won auction)) (λ won. Ok (report_text auction.sale auction.groups won)))
+-- what is said of allocations that are won
+abbrev say_won : (Auction → List (List Choice) → List ℕ) → Auction → Result (List ℕ) Refusal
+say_won say auction = and_then (winners_of_groups auction) (λ won. Ok (say auction won))
+
+report-so : (say : Auction → List (List Choice) → List ℕ) (parsed : Result Auction Refusal) (r : Refusal) → with_wanted (Some target.Report) parsed ≡ Err r
+    → and_then parsed (say_won say) ≡ Err r
+report-so say (Err f) r is = ap (λ (e : Refusal). Err e) (err-is f r is)
+report-so say (Ok auction) r is =
+    ap (λ (o : Option Refusal). and_then (unless o (each_won auction)) (λ won. Ok (say auction won)))
     (unless-err (first_failed (refused_unless (solution_wants (numbers_of auction)))) auction r is)
 
 -- this refusal, or before it one that isn't for parts
@@ -287,14 +294,13 @@ first-then (Ok x) next r free after = after x refl
 first-then (Err f) next r free after = (f, refl, inr free)
 
 -- what comes after prices, claims and certificates
-abbrev after_pricing : Auction → List (List Choice) → Others → Option Priced → Result (List ℕ) Refusal
-after_pricing auction won others pricing = Ok (report_text auction.sale auction.groups won ++
-    (pricing_text auction.sale (slice_index_or won 0 []) pricing ++ others_text auction.sale others))
+abbrev after_pricing : Auction → List (List Choice) → Others → Option Priced → Result Outcome Refusal
+after_pricing auction won others pricing = Ok (record { won = won; pricing = pricing; others = others })
 
-abbrev after_claims : Auction → List (List Choice) → Others → Result (List ℕ) Refusal
+abbrev after_claims : Auction → List (List Choice) → Others → Result Outcome Refusal
 after_claims auction won others = and_then (parsed_pricing auction won) (after_pricing auction won others)
 
-abbrev after_certified : Auction → List (List Choice) → Result (List ℕ) Refusal
+abbrev after_certified : Auction → List (List Choice) → Result Outcome Refusal
 after_certified auction won = and_then (parsed_claims auction (slice_index_or won 0 [])) (after_claims auction won)
 
 module _ (auction : Auction) (r : Refusal) where
@@ -343,13 +349,25 @@ module _ (auction : Auction) (r : Refusal) where
   solutions-so (Some s) is = (s, refl, inl (some-is s r is))
   solutions-so None is = won-so (each_won auction) (free-groups auction) is
 
-verify-so : (workers : ℕ) (parsed : Result Auction Refusal) (r : Refusal) → with_wanted (Some target.Verify) parsed ≡ Err r
-    → RefusesFirst (and_then parsed (output_of (Verify workers))) r
-verify-so workers (Err f) r is = (f, refl, inl (err-is f r is))
-verify-so workers (Ok auction) r is =
-    solutions-so auction r (first_failed (refused_unless (solution_wants (numbers_of auction))))
+-- what is said of an outcome that is shown
+abbrev say_of : (Auction → Outcome → List ℕ) → Auction → Result (List ℕ) Refusal
+say_of say auction = and_then (shown_outcome auction) (λ o. Ok (say auction o))
+
+verify-so : (say : Auction → Outcome → List ℕ) (parsed : Result Auction Refusal) (r : Refusal) → with_wanted (Some target.Verify) parsed ≡ Err r
+    → RefusesFirst (and_then parsed (say_of say)) r
+verify-so say (Err f) r is = (f, refl, inl (err-is f r is))
+verify-so say (Ok auction) r is =
+    let (first, shows, other) = solutions-so auction r (first_failed (refused_unless (solution_wants (numbers_of auction))))
     (sym (failed-after (solution_wants (numbers_of auction)) (proof_wants (numbers_of auction))) ∙ unless-err
-    (first_failed (refused_unless (wants (Some target.Verify) (numbers_of auction)))) auction r is)
+    (first_failed (refused_unless (wants (Some target.Verify) (numbers_of auction)))) auction r is) in
+    (first, ap (λ (t : Result Outcome Refusal). and_then t (λ o. Ok (say auction o))) shows, other)
+
+-- the two things that are said of it
+abbrev in_words : Auction → Outcome → List ℕ
+in_words auction o = outcome_report auction.sale auction.groups o
+
+abbrev in_objects : Auction → Outcome → List ℕ
+in_objects auction o = objects_shown auction.rules auction.sale auction.groups o
 
 -- the lines of bids, where they are asked for
 abbrev lines_of : ExplainOptions → Auction → Result (List ℕ) Refusal
@@ -376,12 +394,22 @@ refuses-so (Compile workers) command input r is parsed = stopped (output_of (Com
     (sym (onto-all (parsed_auction (Compile workers) input)) ∙ parsed)
 refuses-so (Map group) command input r is parsed =
     stopped (output_of (Map group)) (parsed_auction (Map group) input) r (sym (onto-all (parsed_auction (Map group) input)) ∙ parsed)
-refuses-so (Report workers) command input r is parsed = report-so workers (parsed_auction (Report workers) input) r parsed
-refuses-so (Verify workers) command input r is parsed = verify-so workers (parsed_auction (Verify workers) input) r parsed
+refuses-so (Report workers) command input r is parsed = report-so (λ auction won. report_text auction.sale auction.groups won) (parsed_auction (Report workers) input) r parsed
+refuses-so (Verify workers) command input r is parsed = verify-so in_words (parsed_auction (Verify workers) input) r parsed
 refuses-so (VerifyWithForms workers) command input r is parsed =
-    let (first, answered, other) = verify-so workers (parsed_auction (Verify workers) input) r parsed in (
+    let (first, answered, other) = verify-so in_words (parsed_auction (Verify workers) input) r parsed in (
       first,
       ap (λ (t : Result (List ℕ) Refusal). and_then t (λ report. and_then (parsed_forms input) (λ read. Ok (forms_text read ++ report)))) answered,
+      other,
+    )
+refuses-so (Objects objects.Forms) command input r is parsed = cc
+refuses-so (Objects (objects.Report workers)) command input r is parsed =
+    ap (λ (t : Result (List ℕ) Refusal). and_then t (λ said. and_then (parsed_forms input) (λ read. Ok (forms_objects read ++ said))))
+    (report-so (λ auction won. objects_unshown auction.rules auction.sale auction.groups won) (parsed_auction (Report workers) input) r parsed)
+refuses-so (Objects (objects.Verify workers)) command input r is parsed =
+    let (first, answered, other) = verify-so in_objects (parsed_auction (Verify workers) input) r parsed in (
+      first,
+      ap (λ (t : Result (List ℕ) Refusal). and_then t (λ said. and_then (parsed_forms input) (λ read. Ok (forms_objects read ++ said)))) answered,
       other,
     )
 refuses-so (Explain options) command input r is parsed = explain-so options options.target (parsed_auction (Explain options) input) r parsed
@@ -408,9 +436,9 @@ met-so (Some r) x y is = cc
 report-taken : (auction : Auction) → first_failed (refused_unless (solution_wants (numbers_of auction))) ≡ None → IsFree (winners_of_groups auction)
 report-taken auction none = subst (λ (o : Option Refusal). IsFree (unless o (each_won auction))) (sym none) (free-groups auction)
 
-verify-taken : (workers : ℕ) (auction : Auction) → first_failed (refused_unless (wants (Some target.Verify) (numbers_of auction))) ≡ None
-    → IsFree (output_of (Verify workers) auction)
-verify-taken workers auction none =
+-- what is shown of an auction that has what is wanted
+outcome-taken : (auction : Auction) → first_failed (refused_unless (wants (Some target.Verify) (numbers_of auction))) ≡ None → IsFree (shown_outcome auction)
+outcome-taken auction none =
     let (solved, proved) = neither (first_failed (refused_unless (solution_wants (numbers_of auction))))
     (first_failed (refused_unless (proof_wants (numbers_of auction))))
     (sym (failed-after (solution_wants (numbers_of auction)) (proof_wants (numbers_of auction))) ∙ none) in
@@ -429,6 +457,10 @@ verify-taken workers auction none =
     (subst (λ (o : Option Refusal). IsFree (unless o (priced_by auction won auction.prices auction.covers))) (sym priced)
     (free-priced-by auction won auction.prices auction.covers)) (λ pricing is. tt)))
 
+verify-taken : (say : Auction → Outcome → List ℕ) (auction : Auction) → first_failed (refused_unless (wants (Some target.Verify) (numbers_of auction))) ≡ None
+    → IsFree (say_of say auction)
+verify-taken say auction none = free-then (shown_outcome auction) _ (outcome-taken auction none) (λ o is. tt)
+
 explain-taken : (options : ExplainOptions) (command : Option Target) (found auction : Auction) → with_wanted command (Ok found) ≡ Ok auction
     → IsFree (told_of options command (Ok found))
 explain-taken options None found auction is = tt
@@ -446,6 +478,7 @@ taken-so asked (Err r) auction is = absurd (by (target_of asked) is)
 taken-so Check (Ok found) auction is = tt
 taken-so Forms (Ok found) auction is = tt
 taken-so (VerifyWithForms workers) (Ok found) auction is = tt
+taken-so (Objects of) (Ok found) auction is = tt
 taken-so Text (Ok found) auction is = tt
 taken-so (Compile workers) (Ok found) auction is = tt
 taken-so (Map group) (Ok found) auction is =
@@ -456,7 +489,7 @@ taken-so (Map group) (Ok found) auction is =
 taken-so (Report workers) (Ok found) auction is = free-then (winners_of_groups found) _
     (report-taken found (met-so (first_failed (refused_unless (solution_wants (numbers_of found)))) found auction is)) (λ won is. tt)
 taken-so (Verify workers) (Ok found) auction is =
-    verify-taken workers found (met-so (first_failed (refused_unless (wants (Some target.Verify) (numbers_of found)))) found auction is)
+    verify-taken in_words found (met-so (first_failed (refused_unless (wants (Some target.Verify) (numbers_of found)))) found auction is)
 taken-so (Explain options) (Ok found) auction is = explain-taken options options.target found auction is
 
 -- ---- the law
@@ -476,22 +509,48 @@ parsed-for options (Map group) command input for is = ap (taken_as options input
 parsed-for options (Report workers) command input for is = ap (taken_as options input) (is ∙ sym for)
 parsed-for options (Verify workers) command input for is = ap (taken_as options input) (is ∙ sym for)
 parsed-for options (VerifyWithForms workers) command input for is = ap (taken_as options input) (is ∙ sym for)
+parsed-for options (Objects objects.Forms) command input for is = cc
+parsed-for options (Objects (objects.Report workers)) command input for is = ap (taken_as options input) (is ∙ sym for)
+parsed-for options (Objects (objects.Verify workers)) command input for is = ap (taken_as options input) (is ∙ sym for)
 parsed-for options (Explain others) command input for is = ap (taken_as options input) (is ∙ sym for)
 
--- the forms of an input that is verified are read
-free-forms : (workers : ℕ) (input : Input) (report : List ℕ) → answer (Verify workers) input ≡ Ok report → IsFree (parsed_forms input)
-free-forms workers input report answered =
-    let (auction, auction_is, written) = ok-after (parsed_auction (Verify workers) input) (output_of (Verify workers)) report answered in
-    let (read, read_as) = forms-of-verified workers input auction ((described-auction (Verify workers) input auction).0 auction_is) in
+-- the forms of an input that describes an auction are read
+free-forms : (asked : Request) (say : Auction → Result (List ℕ) Refusal) (input : Input) (said : List ℕ) → and_then (parsed_auction asked input) say ≡ Ok said
+    → IsFree (parsed_forms input)
+free-forms asked say input said answered =
+    let (auction, auction_is, written) = ok-after (parsed_auction asked input) say said answered in
+    let (read, read_as) = forms-of-described asked input auction ((described-auction asked input auction).0 auction_is) in
     subst (λ (t : Result FormParts Refusal). IsFree t) (sym read_as) tt
+
+-- what is said of an auction after its forms
+free-after : (asked : Request) (say : Auction → Result (List ℕ) Refusal) (lines : FormParts → List ℕ) (input : Input)
+    → IsFree (and_then (parsed_auction asked input) say)
+    → IsFree (and_then (and_then (parsed_auction asked input) say) (λ said. and_then (parsed_forms input) (λ read. Ok (lines read ++ said))))
+free-after asked say lines input free =
+    free-then (and_then (parsed_auction asked input) say) _ free
+    (λ said answered. free-then (parsed_forms input) _ (free-forms asked say input said answered) (λ read read_as. tt))
+
+-- what is said in objects of an auction that has what is wanted
+said-so : (command : Target) (say : Auction → Result (List ℕ) Refusal) (parsed : Result Auction Refusal) (auction : Auction)
+    → with_wanted (Some command) parsed ≡ Ok auction
+    → ((found : Auction) → first_failed (refused_unless (wants (Some command) (numbers_of found))) ≡ None → IsFree (say found)) → IsFree (and_then parsed say)
+said-so command say (Err r) auction is free = cc
+said-so command say (Ok found) auction is free = free found (met-so (first_failed (refused_unless (wants (Some command) (numbers_of found)))) found auction is)
 
 free-answer : (asked : Request) (command : Target) (input : Input) (auction : Auction) → target_of asked ≡ Some command
     → parsed_taken asked input ≡ Ok auction → IsFree (answer asked input)
 free-answer Check command input auction is parsed = cc
 free-answer Forms command input auction is parsed = cc
 free-answer (VerifyWithForms workers) command input auction is parsed =
-    free-then (answer (Verify workers) input) _ (taken-so (Verify workers) (parsed_auction (Verify workers) input) auction parsed)
-    (λ report answered. free-then (parsed_forms input) _ (free-forms workers input report answered) (λ read read_as. tt))
+    free-after (Verify workers) (output_of (Verify workers)) forms_text input (taken-so (Verify workers) (parsed_auction (Verify workers) input) auction parsed)
+free-answer (Objects objects.Forms) command input auction is parsed = cc
+free-answer (Objects (objects.Report workers)) command input auction is parsed =
+    free-after (Report workers) reported_objects forms_objects input
+    (said-so target.Report reported_objects (parsed_auction (Report workers) input) auction parsed
+    (λ found none. free-then (winners_of_groups found) _ (report-taken found none) (λ won won_is. tt)))
+free-answer (Objects (objects.Verify workers)) command input auction is parsed =
+    free-after (Verify workers) shown_objects forms_objects input
+    (said-so target.Verify shown_objects (parsed_auction (Verify workers) input) auction parsed (verify-taken in_objects))
 free-answer asked command input auction is parsed = taken-so asked (parsed_auction asked input) auction parsed
 
 if-err-at : {A : Type 0} (parsed : Result A Refusal) (r : Refusal) → IsFree parsed → parsed ≡ Err r → IsOther r
@@ -512,6 +571,9 @@ is-err parsed r is = subst (λ (t : Result _ Refusal). IsErr t) (sym is) refl
 refused-so : (asked : Request) (input : Input) (r : Refusal) → RefusesSo asked input r → IsErr (answer asked input)
 refused-so (Verify workers) input r (first, is, other) = is-err _ first is
 refused-so (VerifyWithForms workers) input r (first, is, other) = is-err _ first is
+refused-so (Objects (objects.Verify workers)) input r (first, is, other) = is-err _ first is
+refused-so (Objects (objects.Report workers)) input r is = is-err _ r is
+refused-so (Objects objects.Forms) input r is = is-err _ r is
 refused-so Check input r is = is-err _ r is
 refused-so Forms input r is = is-err _ r is
 refused-so Text input r is = is-err _ r is
@@ -564,3 +626,4 @@ taken-for (Map group) input before after writes = tt
 taken-for (Report workers) input before after writes = tt
 taken-for (Verify workers) input before after writes = tt
 taken-for (VerifyWithForms workers) input before after writes = tt
+taken-for (Objects of) input before after writes = tt

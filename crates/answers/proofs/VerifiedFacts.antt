@@ -31,13 +31,16 @@ use Rattle.auction_input.specs.Auction.{Auction, parsed_auction}
 use Rattle.byte_sinks.specs.Sinks.{Outlet}
 use Rattle.answers.specs.Programs.{program_for}
 use Rattle.answers.specs.Certified.{Bound, bound_of, bounds_of, certified, shown}
-use Rattle.answers.specs.Answer.{answer, output_of}
+use Rattle.answers.specs.Answer.{answer, output_of, shown_outcome}
 use Rattle.auction_terms.specs.Stages.{and_then, each_in_turn, refused_as}
 use Rattle.answers.specs.Exact.{Writes}
 use Rattle.answers.specs.Claimed.{parsed_claims}
 use Rattle.answers.specs.Pricing.{parsed_pricing}
 use Rattle.answers.specs.Verified.{AreTruePrices, IsGreatestWithout, IsOwnCost}
 use Rattle.answers.specs.Verified.{IsTrueReport, NoOtherIsSo, UniqueIsOnly}
+use Rattle.answers.specs.VerifiedObjects.{AreTrueObjects}
+use Rattle.award_objects.specs.Objects.{objects_shown}
+use Rattle.outcome.specs.Outcome.{Outcome, outcome_report}
 use Rattle.answers.specs.VerifiedInputs.{VerifiedIsTrue, WritesTrueReportOn}
 use Rattle.answers.specs.SolutionWinners.{solution_refused, winners_by, winners_of_groups}
 use Rattle.answers.specs.inside.SolutionWinners.{winners}
@@ -152,75 +155,73 @@ first-rises sale text a within parsed =
     subst HasRisingBidders same (solutions_come_back sale.lots sale.book (has []) text point within parsed_point).rising
 
 -- what `verify` goes by: these allocations, certified, and what comes of the claim and of the prices
-pub record Verdicts (auction : Auction) (out : List ℕ) : Type 0 where
-  pub won : List (List Choice)
-  pub others : Others
-  pub pricing : Option Priced
-  pub wins : winners_of_groups auction ≡ Ok won
-  pub certifies : certified auction won ≡ Ok won
-  pub claims : parsed_claims auction (slice_index_or won 0 []) ≡ Ok others
-  pub prices : parsed_pricing auction won ≡ Ok pricing
-  pub text : out ≡ report_text auction.sale auction.groups won ++ (pricing_text auction.sale (slice_index_or won 0 []) pricing ++
-      others_text auction.sale others)
+pub record Verdicts (auction : Auction) (o : Outcome) : Type 0 where
+  pub wins : winners_of_groups auction ≡ Ok o.won
+  pub certifies : certified auction o.won ≡ Ok o.won
+  pub claims : parsed_claims auction (slice_index_or o.won 0 []) ≡ Ok o.others
+  pub prices : parsed_pricing auction o.won ≡ Ok o.pricing
 
-pub verdicts : (workers : ℕ) (auction : Auction) (out : List ℕ) → output_of (request.Verify workers) auction ≡ Ok out → Verdicts auction out
-verdicts workers auction out parsed =
-    let (won, won_is, later) = ok-after (and_then (winners_of_groups auction) (certified auction)) _ out parsed in
-    let (others, others_are, after) = ok-after (parsed_claims auction (slice_index_or won 0 [])) _ out later in
-    let (pricing, pricing_is, written) = ok-after (parsed_pricing auction won) _ out after in
+pub verdicts : (auction : Auction) (o : Outcome) → shown_outcome auction ≡ Ok o → Verdicts auction o
+verdicts auction o shows =
+    let (won, won_is, later) = ok-after (and_then (winners_of_groups auction) (certified auction)) _ o shows in
+    let (others, others_are, after) = ok-after (parsed_claims auction (slice_index_or won 0 [])) _ o later in
+    let (pricing, pricing_is, written) = ok-after (parsed_pricing auction won) _ o after in
     let (allocations, wins, certifies) = ok-after (winners_of_groups auction) (certified auction) won won_is in
     let is = as-won auction allocations won certifies in
-    record {
-      won = won;
-      others = others;
-      pricing = pricing;
+    let verdict : Verdicts auction (record { won = won; pricing = pricing; others = others }) = record {
       wins = subst (λ (xs : List (List Choice)). winners_of_groups auction ≡ Ok xs) is wins;
       certifies = subst (λ (xs : List (List Choice)). certified auction xs ≡ Ok won) is certifies;
       claims = others_are;
       prices = pricing_is;
-      text = sym (ok-is _ (report_text auction.sale auction.groups won ++
-          (pricing_text auction.sale (slice_index_or won 0 []) pricing ++ others_text auction.sale others)) out refl written);
-    }
+    } in
+    subst (Verdicts auction) (ok-is _ (record { won = won; pricing = pricing; others = others }) o refl written) verdict
 
-module _ (auction : Auction) (out : List ℕ) (within : IsBook auction.sale.lots auction.sale.book)
-    (sized : length auction.sale.book ≡ length auction.rules.bidders) (v : Verdicts auction out) where
-  greatest : AllZip (IsGreatestWithout auction.sale) auction.groups v.won
-  greatest = certified-greatest auction v.won within v.wins v.certifies
+module _ (auction : Auction) (o : Outcome) (within : IsBook auction.sale.lots auction.sale.book)
+    (sized : length auction.sale.book ≡ length auction.rules.bidders) (v : Verdicts auction o) where
+  greatest : AllZip (IsGreatestWithout auction.sale) auction.groups o.won
+  greatest = certified-greatest auction o.won within v.wins v.certifies
 
-  first : IsGreatest auction.sale.lots auction.sale.book (λ b. false) (slice_index_or v.won 0 [])
-  first = first-greatest auction.sale auction.groups v.won (wins-first auction v.won v.wins).0 greatest
+  first : IsGreatest auction.sale.lots auction.sale.book (λ b. false) (slice_index_or o.won 0 [])
+  first = first-greatest auction.sale auction.groups o.won (wins-first auction o.won v.wins).0 greatest
 
-  priced : IfSome v.pricing (AreTruePrices auction (slice_index_or v.won 0 [])) × (v.pricing ≡ None → auction.prices ≡ [])
-  priced = pricing-holds auction within sized v.won first greatest v.pricing v.prices
+  priced : IfSome o.pricing (AreTruePrices auction (slice_index_or o.won 0 [])) × (o.pricing ≡ None → auction.prices ≡ [])
+  priced = pricing-holds auction within sized o.won first greatest o.pricing v.prices
 
-  rises : HasRisingBidders (slice_index_or v.won 0 [])
-  rises = first-rises auction.sale (slice_index_or auction.solutions 0 []) (slice_index_or v.won 0 []) within (wins-first auction v.won v.wins).3
+  rises : HasRisingBidders (slice_index_or o.won 0 [])
+  rises = first-rises auction.sale (slice_index_or auction.solutions 0 []) (slice_index_or o.won 0 []) within (wins-first auction o.won v.wins).3
 
-  pub true-report : IsTrueReport auction out
+  pub true-report : IsTrueReport auction (outcome_report auction.sale auction.groups o)
   true-report = record {
-    won = v.won;
-    pricing = v.pricing;
-    others = v.others;
-    text = v.text;
+    won = o.won;
+    pricing = o.pricing;
+    others = o.others;
+    text = refl;
     book = within;
-    starts = (wins-first auction v.won v.wins).0;
+    starts = (wins-first auction o.won v.wins).0;
     greatest = greatest;
     rising = rises;
-    costs = own-costs auction.sale (slice_index_or v.won 0 []) first auction.groups v.won greatest;
+    costs = own-costs auction.sale (slice_index_or o.won 0 []) first auction.groups o.won greatest;
     prices = priced.0;
     unpriced = priced.1;
-    others_true = claims-hold auction within (slice_index_or v.won 0 []) first rises (wins-first auction v.won v.wins).3 v.others v.claims;
+    others_true = claims-hold auction within (slice_index_or o.won 0 []) first rises (wins-first auction o.won v.wins).3 o.others v.claims;
   }
+
+  -- and the objects say the same
+  pub true-objects : AreTrueObjects auction (objects_shown auction.rules auction.sale auction.groups o)
+  unfolding true-report
+  true-objects = record { report = outcome_report auction.sale auction.groups o; is_true = true-report; text = refl }
 
 -- ---- an input
 
 pub verified-is-true : VerifiedIsTrue
 verified-is-true workers input out parsed =
-    let (auction, auction_is, text) = ok-after (parsed_auction (request.Verify workers) input) (output_of (request.Verify workers)) out parsed in (
+    let (auction, auction_is, text) = ok-after (parsed_auction (request.Verify workers) input) (output_of (request.Verify workers)) out parsed in
+    let (o, shows, written) = ok-after (shown_outcome auction) _ out text in (
       auction,
       (described-auction (request.Verify workers) input auction).0 auction_is,
-      true-report auction out (auction-within (request.Verify workers) input auction auction_is).1 (auction-sized
-          (request.Verify workers) input auction auction_is) (verdicts workers auction out text),
+      subst (IsTrueReport auction) (ok-is _ (outcome_report auction.sale auction.groups o) out refl written)
+          (true-report auction o (auction-within (request.Verify workers) input auction auction_is).1 (auction-sized
+          (request.Verify workers) input auction auction_is) (verdicts auction o shows)),
     )
 
 -- some group has a report

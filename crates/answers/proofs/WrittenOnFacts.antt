@@ -11,7 +11,10 @@ use Rattle.answers.specs.FeasibleAnswers.{WritesFeasibleReportOn, WritesFeasible
 use Rattle.answers.specs.VerifiedInputs.{WritesTrueReportOn}
 use Rattle.answers.proofs.FaithfulFacts.{compiled-is-faithful, text-is-faithful}
 use Rattle.answers.proofs.FeasibleFacts.{mapped-is-feasible, reported-is-feasible}
+use Rattle.answers.proofs.FormsFirstFacts.{writes-objects}
 use Rattle.answers.proofs.VerifiedFacts.{verified-is-true}
+use Rattle.answers.specs.VerifiedObjects.{WritesTrueObjectsOn}
+use Rattle.auction_input.specs.declared.request.Objects.TheVariants as objects
 
 module _ {T E : Type 0} (asked : Request) (input : Input) (result : Result T E) (before after : Outlet)
     (written : OnOk result (Writes (answer asked input) before after)) where
@@ -56,3 +59,7 @@ module _ {T E : Type 0} (asked : Request) (input : Input) (result : Result T E) 
       let (out, answered, sent) = writes in
       let (auction, describes, true_report) = verified-is-true workers input out (subst (λ (r : Request). answer r input ≡ Ok out) is answered) in
       (auction, describes, record { out = out; is_true = true_report; sent = sent.taken }))
+
+  pub objects-on : (workers : ℕ) → asked ≡ request.Objects (objects.Verify workers) → IsSo (WritesTrueObjectsOn workers input)
+  objects-on workers is = of-answer (WritesTrueObjectsOn workers input) (λ writes.
+      writes-objects workers input before after (subst (λ (r : Request). Writes (answer r input) before after) is writes))

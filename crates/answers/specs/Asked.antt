@@ -7,6 +7,8 @@ use Rattle.std.specs.Str.Parse.{digits_value, without_leading_plus}
 use Rattle.std.specs.Vec.Iter.{into_iter_items}
 use Rattle.std.specs.declared.vec.IntoIter.{IntoIter}
 use Rattle.auction_input.specs.declared.request.ExplainOptions.{ExplainOptions}
+use Rattle.auction_input.specs.declared.request.Objects.{Objects}
+use Rattle.auction_input.specs.declared.request.Objects.TheVariants as objects
 use Rattle.auction_input.specs.declared.request.Request.TheVariants as request
 use Rattle.auction_input.specs.declared.request.Request.{Request}
 use Rattle.auction_input.specs.declared.request.Target.TheVariants as target
@@ -87,10 +89,10 @@ commands =
     for_forms (with_rule (new_app (codes "compile")) workers) ∷
     for_text (new_app (codes "check")) ∷
     for_forms (with_rule (new_app (codes "map")) group) ∷
-    for_forms (with_rule (new_app (codes "report")) workers) ∷
-    for_forms (with_rule (with_rule (new_app (codes "verify")) workers) with_forms) ∷
+    for_forms (with_rule (with_rule (new_app (codes "report")) workers) json) ∷
+    for_forms (with_rule (with_rule (with_rule (new_app (codes "verify")) workers) with_forms) json) ∷
     for_forms (with_rule (with_rule (with_rule (new_app (codes "explain")) bids) explained_for) json) ∷
-    for_forms (new_app (codes "forms")) ∷
+    for_forms (with_rule (new_app (codes "forms")) json) ∷
     new_app (codes "help") ∷ []
 
 -- the program's own words: a version, and the commands
@@ -132,6 +134,11 @@ verify_named rows =
     if option_flag (codes "forms") rows then request.VerifyWithForms (option_number (codes "workers") MOST_WORKERS rows)
     else request.Verify (option_number (codes "workers") MOST_WORKERS rows)
 
+-- a request, or what takes its place where objects of JSON are asked for
+abbrev pub in_format : Format → Request → Objects → Request
+in_format format.Words asked of = asked
+in_format format.Json asked of = request.Objects of
+
 -- the request of the command that is named, with its options
 abbrev pub request_named : Option (Text × List Row) → Request
 request_named None = request.Text
@@ -139,10 +146,12 @@ request_named (Some (name, rows)) =
     if bytes_eq name (codes "compile") then request.Compile (option_number (codes "workers") MOST_WORKERS rows)
     else if bytes_eq name (codes "check") then request.Check
     else if bytes_eq name (codes "map") then request.Map (option_number (codes "group") MOST_GROUPS rows)
-    else if bytes_eq name (codes "report") then request.Report (option_number (codes "workers") MOST_WORKERS rows)
-    else if bytes_eq name (codes "verify") then verify_named rows
+    else if bytes_eq name (codes "report") then in_format (option_format (codes "json") rows)
+    (request.Report (option_number (codes "workers") MOST_WORKERS rows)) (objects.Report (option_number (codes "workers") MOST_WORKERS rows))
+    else if bytes_eq name (codes "verify") then in_format (option_format (codes "json") rows) (verify_named rows)
+    (objects.Verify (option_number (codes "workers") MOST_WORKERS rows))
     else if bytes_eq name (codes "explain") then request.Explain (explain_options rows)
-    else if bytes_eq name (codes "forms") then request.Forms
+    else if bytes_eq name (codes "forms") then in_format (option_format (codes "json") rows) request.Forms objects.Forms
     else request.Text
 
 -- what a command line asks for: a request, whether the last form of a bidder counts in whichever file it is, the files that it

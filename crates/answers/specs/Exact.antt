@@ -6,6 +6,7 @@ use Rattle.auction_input.specs.Refused.{Refuses}
 use Rattle.auction_input.specs.declared.refusal.Refusal.{Refusal}
 use Rattle.auction_input.specs.Settled.{IsUnsettled}
 use Rattle.auction_input.specs.declared.refusal.Refusal.TheVariants as refusal
+use Rattle.auction_input.specs.declared.request.Objects.TheVariants as objects
 use Rattle.auction_input.specs.declared.request.Request.TheVariants as request
 use Rattle.auction_input.specs.declared.request.Request.{Request}
 use Rattle.auction_terms.specs.declared.bids.Choice.{Choice}
@@ -41,6 +42,8 @@ IsBeyondSums auction r =
 abbrev pub MeetsLimit : Request → Input → Refusal → Type 0
 MeetsLimit (request.Verify workers) input r = (auction : Auction) × (parsed_auction (request.Verify workers) input ≡ Ok auction) × IsBeyondSums auction r
 MeetsLimit (request.VerifyWithForms workers) input r =
+    (auction : Auction) × (parsed_auction (request.Verify workers) input ≡ Ok auction) × IsBeyondSums auction r
+MeetsLimit (request.Objects (objects.Verify workers)) input r =
     (auction : Auction) × (parsed_auction (request.Verify workers) input ≡ Ok auction) × IsBeyondSums auction r
 MeetsLimit asked input r = ⊥
 

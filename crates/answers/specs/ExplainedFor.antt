@@ -8,7 +8,8 @@ use Rattle.auction_input.specs.declared.refusal.Refusal.TheVariants as refusal
 use Rattle.auction_input.specs.declared.refusal.Refusal.{Refusal}
 use Rattle.auction_input.specs.Requests.{target_of}
 use Rattle.auction_input.specs.declared.request.ExplainOptions.{ExplainOptions}
-use Rattle.auction_input.specs.declared.request.Request.TheVariants.{Explain, Verify, VerifyWithForms}
+use Rattle.auction_input.specs.declared.request.Request.TheVariants.{Explain, Objects, Verify, VerifyWithForms}
+use Rattle.auction_input.specs.declared.request.Objects.TheVariants as objects
 use Rattle.auction_input.specs.declared.request.Request.{Request}
 use Rattle.auction_input.specs.declared.request.Target.{Target}
 
@@ -37,6 +38,8 @@ abbrev pub RefusesSo : Request → Input → Refusal → Type 0
 RefusesSo (Verify workers) input r = (first : Refusal) × (answer (Verify workers) input ≡ Err first) × ((first ≡ r) ⊎ (IsOfParts first → ⊥))
 RefusesSo (VerifyWithForms workers) input r =
     (first : Refusal) × (answer (VerifyWithForms workers) input ≡ Err first) × ((first ≡ r) ⊎ (IsOfParts first → ⊥))
+RefusesSo (Objects (objects.Verify workers)) input r =
+    (first : Refusal) × (answer (Objects (objects.Verify workers)) input ≡ Err first) × ((first ≡ r) ⊎ (IsOfParts first → ⊥))
 RefusesSo asked input r = answer asked input ≡ Err r
 
 -- what `explain` prints for a command is what the command does

@@ -22,5 +22,6 @@ pub mod Sizes
 pub mod Verified
 pub mod FollowsFromForms
 pub mod VerifiedForms
+pub mod VerifiedObjects
 pub mod VerifiedInputs
 pub mod inside

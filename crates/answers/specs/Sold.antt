@@ -3,7 +3,8 @@ use Rattle.std.specs.Prelude.{⊤, ℕ, List}
 use Rattle.auction_input.specs.Input.{Input}
 use Rattle.auction_input.specs.Auction.{Auction}
 use Rattle.auction_input.specs.Sold.{IsSold}
-use Rattle.auction_input.specs.declared.request.Request.TheVariants.{Check, Forms, Verify, VerifyWithForms}
+use Rattle.auction_input.specs.declared.request.Request.TheVariants.{Check, Forms, Objects, Report, Verify, VerifyWithForms}
+use Rattle.auction_input.specs.declared.request.Objects.TheVariants as objects
 use Rattle.auction_input.specs.declared.request.Request.{Request}
 use Rattle.answers.specs.FaithfulAnswers.{IsFaithfulToSale}
 
@@ -16,4 +17,7 @@ abbrev pub HasSold : Request → Input → Type 0
 HasSold Check input = ⊤
 HasSold Forms input = ⊤
 HasSold (VerifyWithForms workers) input = HasSoldTo (Verify workers) input
+HasSold (Objects objects.Forms) input = ⊤
+HasSold (Objects (objects.Report workers)) input = HasSoldTo (Report workers) input
+HasSold (Objects (objects.Verify workers)) input = HasSoldTo (Verify workers) input
 HasSold asked input = HasSoldTo asked input

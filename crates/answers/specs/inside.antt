@@ -1,3 +1,4 @@
+pub mod ByAuction
 pub mod Claiming
 pub mod Forms
 pub mod Judging

@@ -8,12 +8,12 @@ ghost use Rattle.clap.specs.ValueTests.{is_unsigned_in};
 ghost use Rattle.clap.specs.Words.{FailsBy, HasKind, Row, fault_of, first_of, found_of, rows_of, kind_of, subcommand_of, subcommand_rows_of};
 ghost use Rattle.clap.specs.declared.error.kind.ErrorKind.TheVariants as kind;
 ghost use Rattle.answers.specs.Asked as asked;
-ghost use Rattle.answers.specs.Asked.{by_fault, command_line_of, faults_of, for_answer, command_fault, named, option_flag};
+ghost use Rattle.answers.specs.Asked.{by_fault, command_line_of, faults_of, for_answer, command_fault, in_format, named, option_flag};
 ghost use Rattle.answers.specs.Asked.{explain_options, option_number, option_target, option_texts, request_named, target_fault, text_of, wdp};
 ghost use Rattle.auction_input.specs.Requests.{IsRequestWithinLimits};
 
 use crate::parser::parser;
-use auction_input::{ExplainOptions, Request, Target};
+use auction_input::{ExplainOptions, Objects, Request, Target};
 use auction_terms::{MOST_GROUPS, MOST_WORKERS};
 use byte_sinks::Format;
 use clap::error::ErrorKind;
@@ -127,6 +127,33 @@ fn output_of(alloc: Global, matches: &ArgMatches<'_>) -> Result<Option<String>, 
     }
 }
 
+// A request, or what takes its place where objects of JSON are asked for.
+fn in_format(format: Format, asked: Request, objects: Objects) -> Request
+    requires asked { IsRequestWithinLimits asked }
+    requires objects { IsRequestWithinLimits (Request.Objects objects) }
+    ensures request { result ≡ in_format format asked objects }
+    ensures limits { IsRequestWithinLimits result }
+{
+    match format {
+        Format::Words => asked,
+        Format::Json => Request::Objects(objects),
+    }
+}
+
+// What `verify` is asked.
+fn verify_by(with_forms: bool, workers: usize) -> Request
+    requires some { 1 ≤ workers }
+    requires few { workers ≤ MOST_WORKERS }
+    ensures request { result ≡ (if with_forms then Request.VerifyWithForms workers
+        else Request.Verify workers) }
+    ensures limits { IsRequestWithinLimits result }
+{
+    if with_forms {
+        return Request::VerifyWithForms { workers };
+    }
+    Request::Verify { workers }
+}
+
 // The request of the command of this name, with what the options say.
 fn request_by(
     name: &str,
@@ -149,11 +176,18 @@ fn request_by(
         "compile" => Request::Compile { workers },
         "check" => Request::Check,
         "map" => Request::Map { group },
-        "report" => Request::Report { workers },
-        "verify" if with_forms => Request::VerifyWithForms { workers },
-        "verify" => Request::Verify { workers },
+        "report" => in_format(
+            options.format,
+            Request::Report { workers },
+            Objects::Report { workers },
+        ),
+        "verify" => in_format(
+            options.format,
+            verify_by(with_forms, workers),
+            Objects::Verify { workers },
+        ),
         "explain" => Request::Explain(options),
-        "forms" => Request::Forms,
+        "forms" => in_format(options.format, Request::Forms, Objects::Forms),
         _ => Request::Text,
     }
 }

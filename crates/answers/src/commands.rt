@@ -10,8 +10,11 @@ ghost use Rattle.answers.specs.Runs.{AsksAnswer};
 ghost use Rattle.auction_input.specs.Requests.{IsRequestWithinLimits};
 ghost use Rattle.answers.specs.Sold.{HasSold};
 ghost use Rattle.answers.specs.Output.{IsWithoutOutput};
+ghost use Rattle.answers.specs.inside.ByAuction.{IsByAuction};
 ghost use Rattle.answers.specs.VerifiedForms.{WritesVerifiedWithForms};
 ghost use Rattle.answers.specs.VerifiedInputs.{WritesTrueReportOn};
+ghost use Rattle.answers.specs.VerifiedObjects.{WritesTrueObjectsOn};
+ghost use Rattle.auction_input.specs.declared.request.Objects.TheVariants as objects;
 ghost use Rattle.auction_input.specs.Settled.{held};
 
 pub mod check;
@@ -19,6 +22,7 @@ pub mod compile;
 mod explain;
 mod forms;
 mod map;
+pub mod objects;
 mod report;
 mod text;
 pub mod verify;
@@ -28,11 +32,12 @@ use crate::commands::compile::write_programs_of;
 use crate::commands::explain::write_bids_of;
 use crate::commands::forms::write_forms;
 use crate::commands::map::write_winners;
+use crate::commands::objects::write_objects;
 use crate::commands::report::write_costs;
 use crate::commands::text::write_program_of_all;
 use crate::commands::verify::{verify_with_forms, write_verified};
 use auction_input::{Auction, Input, Refusal, Request, read_auction};
-use byte_sinks::Sink;
+use byte_sinks::{Format, Sink};
 pub use explain::explain_input;
 use std::sync::Wait;
 use std::thread::Threads;
@@ -69,13 +74,17 @@ pub fn answer<R: Threads + Wait + Sync + AllocGlobal, S: Sink>(
     ensures verified_with_forms { (workers : ℕ) → request ≡ Request.VerifyWithForms workers
         → OnOk result (WritesVerifiedWithForms workers input.now (S.state out.old).taken
         (S.state out.new).taken) }
+    ensures verified_as_objects { (workers : ℕ) → request ≡ Request.Objects (objects.Verify workers)
+        → OnOk result (WritesTrueObjectsOn workers input.now (S.state out.old).taken
+        (S.state out.new).taken) }
     ensures asks { AsksAnswer request input.now }
     ensures refused { IfErr result (IsUnwritten request input.now
         (S.state out.old) (S.state out.new)) }
 {
     match request {
         Request::Check => check(rt.alloc(), input, out),
-        Request::Forms => write_forms(rt, input, out),
+        Request::Forms => write_forms(rt, Format::Words, input, out),
+        Request::Objects(objects) => write_objects(rt, objects, input, out),
         Request::VerifyWithForms { workers } => verify_with_forms(rt, input, workers, out),
         request => answer_auction(rt, &request, input, out),
     }
@@ -90,9 +99,7 @@ fn answer_auction<R: Threads + Wait + Sync + AllocGlobal, S: Sink>(
     out: &mut S,
 ) -> Result<(), Refusal>
     requires limits { IsRequestWithinLimits request.now }
-    requires auction { request.now ≢ Request.Check }
-    requires not_forms { request.now ≢ Request.Forms }
-    requires without_forms { (workers : ℕ) → request.now ≢ Request.VerifyWithForms workers }
+    requires of_auction { IsByAuction request.now }
     ensures written { OnOk result (Writes (answer request.now input.now) (S.state out.old)
         (S.state out.new)) }
     ensures sold { OnOk result (HasSold request.now input.now) }
@@ -112,9 +119,7 @@ fn write_output<R: Threads + Sync + AllocGlobal, S: Sink>(
     out: &mut S,
 ) -> Result<(), Refusal>
     requires limits { IsRequestWithinLimits request.now }
-    requires auction { request.now ≢ Request.Check }
-    requires not_forms { request.now ≢ Request.Forms }
-    requires without_forms { (workers : ℕ) → request.now ≢ Request.VerifyWithForms workers }
+    requires of_auction { IsByAuction request.now }
     ensures written { OnOk result (Writes (output_of request.now (held auction.now))
         (S.state out.old) (S.state out.new)) }
     ensures refused { IfErr result (IsWithoutOutput request.now (held auction.now)
@@ -127,6 +132,9 @@ fn write_output<R: Threads + Sync + AllocGlobal, S: Sink>(
         Request::Report { workers } => write_costs(rt, auction, workers, out),
         Request::Verify { workers } => write_verified(rt, auction, workers, out),
         Request::Explain(options) => write_bids_of(rt, auction, options, out),
-        Request::Check | Request::Forms | Request::VerifyWithForms { workers: _ } => unreachable!(),
+        Request::Check
+        | Request::Forms
+        | Request::VerifyWithForms { workers: _ }
+        | Request::Objects(_) => unreachable!(),
     }
 }

@@ -8,6 +8,7 @@ ghost use Rattle.answers.specs.FeasibleAnswers.{MappedIsFeasible, ReportedIsFeas
 ghost use Rattle.answers.specs.FollowsFromForms.{AwardFollowsFromForms};
 ghost use Rattle.answers.specs.Verified.{AwardFollows, AwardsFollow, NoOtherIsSo, UniqueIsOnly};
 ghost use Rattle.answers.specs.VerifiedForms.{AwardFollowsFromDigests, VerifiedWithFormsIsTrue};
+ghost use Rattle.answers.specs.VerifiedObjects.{VerifiedObjectsAreTrue};
 ghost use Rattle.answers.specs.VerifiedInputs.{VerifiedIsTrue};
 
 /// What `text` answers of an input is a text that is faithful to the auction that the input describes: each 0-1 point of its
@@ -43,6 +44,12 @@ pub fn a_verified_report_is_true()
 /// describes.
 pub fn a_report_after_its_forms_is_true()
     ensures { VerifiedWithFormsIsTrue }
+{}
+
+/// What `verify --json` answers of an input is the objects of its rules and last forms, and objects that say what a true report on the
+/// auction says that the input describes.
+pub fn objects_after_their_forms_are_true()
+    ensures { VerifiedObjectsAreTrue }
 {}
 
 /// Where a true report ends with the line `unique`, no other feasible allocation of the auction has as great a total; and so the

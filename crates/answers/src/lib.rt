@@ -25,6 +25,7 @@ pub use command_line::{Command, command_of};
 pub use commands::answer;
 pub use commands::check::write_sizes;
 pub use commands::compile::{run_compile, write_programs};
+pub use commands::objects::{report_as_objects, verify_as_objects};
 pub use commands::verify::{verify, verify_with_forms, write_verified};
 pub use file_lines::{print_file_line, print_file_refusal, print_unread};
 pub use group_texts::{RunFault, write_joined};

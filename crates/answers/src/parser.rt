@@ -145,15 +145,28 @@ fn add_with<'a>(
     add(list, for_forms(alloc, command)?)
 }
 
+// Adds `report`.
+fn add_report<'a>(list: &mut Vec<Command<'a>>, alloc: Global) -> Result<(), AllocError>
+    ensures { OnOk result (map app_of list.new.items
+        ≡ map app_of list.old.items ++ asked.for_forms (with_rule (with_rule
+        (new_app (codes "report")) asked.workers) asked.json) ∷ []) }
+{
+    let command = described(alloc, REPORT)
+        .arg(workers(alloc))?
+        .arg(json(alloc))?;
+    add(list, for_forms(alloc, command)?)
+}
+
 // Adds `verify`.
 fn add_verify<'a>(list: &mut Vec<Command<'a>>, alloc: Global) -> Result<(), AllocError>
     ensures { OnOk result (map app_of list.new.items
-        ≡ map app_of list.old.items ++ asked.for_forms (with_rule (with_rule
-        (new_app (codes "verify")) asked.workers) asked.with_forms) ∷ []) }
+        ≡ map app_of list.old.items ++ asked.for_forms (with_rule (with_rule (with_rule
+        (new_app (codes "verify")) asked.workers) asked.with_forms) asked.json) ∷ []) }
 {
     let command = described(alloc, VERIFY)
         .arg(workers(alloc))?
-        .arg(with_forms(alloc))?;
+        .arg(with_forms(alloc))?
+        .arg(json(alloc))?;
     add(list, for_forms(alloc, command)?)
 }
 
@@ -179,10 +192,10 @@ fn add_all<'a>(list: &mut Vec<Command<'a>>, alloc: Global) -> Result<(), AllocEr
     add_with(list, alloc, COMPILE, workers(alloc))?;
     add(list, for_text(alloc, described(alloc, CHECK))?)?;
     add_with(list, alloc, MAP, group(alloc))?;
-    add_with(list, alloc, REPORT, workers(alloc))?;
+    add_report(list, alloc)?;
     add_verify(list, alloc)?;
     add_explain(list, alloc)?;
-    add(list, for_forms(alloc, described(alloc, FORMS))?)?;
+    add_with(list, alloc, FORMS, json(alloc))?;
     add(list, help_command(alloc))?;
     Ok(())
 }

@@ -2,15 +2,16 @@
 //! and what is known of other awards.
 
 ghost use Rattle.std.specs.Prelude.{◌≡◌, ◌++◌, ◌≤◌, IfErr, IfOk, Ok, OnOk, length, true};
+ghost use Rattle.byte_sinks.specs.declared.json.Format.TheVariants as format;
 ghost use Rattle.auction_terms.specs.declared.limits.TheConstants.{MOST_WORKERS};
-ghost use Rattle.answers.specs.Answer.{answer, output_of};
+ghost use Rattle.answers.specs.Answer.{answer, output_of, shown_outcome};
 ghost use Rattle.auction_input.specs.Settled.{held};
 ghost use Rattle.answers.specs.Exact.{IsUnwritten, Writes};
 ghost use Rattle.answers.specs.Sold.{HasSold};
 ghost use Rattle.answers.specs.Verified.{WritesTrueReport};
 ghost use Rattle.answers.specs.VerifiedForms.{WritesVerifiedWithForms};
-ghost use Rattle.answers.specs.inside.Forms.{held_text};
-ghost use Rattle.answers.specs.inside.Proved.{IsUnproved, proved_text};
+ghost use Rattle.answers.specs.inside.Forms.{held_as};
+ghost use Rattle.answers.specs.inside.Proved.{IsUnproved, outcome_held, proved_text};
 ghost use Rattle.auction_terms.specs.Groups.{starts_empty};
 ghost use Rattle.byte_sinks.specs.Sinks.{Sends};
 ghost use Rattle.answers.specs.VerifiedInputs.{WritesTrueReportOn};
@@ -19,11 +20,11 @@ ghost use Rattle.answers.specs.Output.{IsWithoutOutput};
 use crate::certified::check_certificates;
 use crate::claimed::claim_of;
 use crate::commands::answer_auction;
-use crate::commands::forms::add_lines;
+use crate::commands::forms::add_forms;
 use crate::pricing::pricing_of;
 use crate::report_run::{check_counts, won_by_groups};
 use auction_input::{Auction, FormParts, Input, Refusal, Request, read_auction, read_last_forms};
-use byte_sinks::{Sink, WriteFault, Writer};
+use byte_sinks::{Format, Sink, WriteFault, Writer};
 use group_compiler::Compiler;
 use outcome::{Allocation, OtherAwards, Pricing, add_report_with, report_with};
 use std::alloc::Global;
@@ -54,25 +55,25 @@ pub fn verify<R: Threads + Wait + Sync + AllocGlobal, S: Sink>(
 
 // What texts of solutions, certificates, claims and prices show of an auction.
 #[derive(Drop)]
-struct Proved {
-    won: Vec<Allocation>,
-    others: OtherAwards,
-    pricing: Option<Pricing>,
+pub(crate) struct Proved {
+    pub won: Vec<Allocation>,
+    pub others: OtherAwards,
+    pub pricing: Option<Pricing>,
 }
 
 // What the texts of an auction show, if they do.
-fn proved_of<R: Threads + Sync + AllocGlobal>(
+pub(crate) fn proved_of<R: Threads + Sync + AllocGlobal>(
     rt: &R,
     auction: &Auction<'_>,
     workers: usize,
 ) -> Result<Proved, Refusal>
     requires some { 1 ≤ workers }
     requires few { workers ≤ MOST_WORKERS }
-    ensures shown { IfOk result (λ proved. output_of (Request.Verify workers) (held auction.now)
-        ≡ Ok (proved_text auction.now proved)) }
+    ensures shown { IfOk result (λ proved. shown_outcome (held auction.now)
+        ≡ Ok (outcome_held proved)) }
     ensures count { IfOk result (λ proved. length auction.now.groups ≡ length proved.won.items) }
     ensures first { IfOk result (λ _. starts_empty auction.now.groups ≡ true) }
-    ensures refused { IfErr result (IsUnproved workers (held auction.now)) }
+    ensures refused { IfErr result (IsUnproved (held auction.now)) }
 {
     check_counts(auction)?;
     let alloc: Global = rt.alloc();
@@ -131,10 +132,10 @@ fn write_after_forms<S: Sink>(
     requires count { length auction.now.groups ≡ length proved.now.won.items }
     requires first { starts_empty auction.now.groups ≡ true }
     ensures { Sends (S.state out.old) (S.state out.new) result
-        (held_text parts.now ++ proved_text auction.now proved.now) }
+        (held_as format.Words parts.now ++ proved_text auction.now proved.now) }
 {
     let mut writer = Writer::new(out);
-    add_lines(&mut writer, parts);
+    add_forms(&mut writer, Format::Words, parts);
     add_report_with(
         &mut writer,
         &auction.book,

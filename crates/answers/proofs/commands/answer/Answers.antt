@@ -1,6 +1,9 @@
-use Rattle.std.proofs.Common.{◌≡◌, ℕ, OnOk, subst}
+use Rattle.std.proofs.Common.{◌≡◌, ◌∙◌, ℕ, OnOk, subst, sym}
+use Rattle.auction_input.specs.declared.request.Request.TheVariants as request
 use Rattle.answers.specs.VerifiedForms.{WritesVerifiedWithForms}
-use Rattle.answers.proofs.WrittenOnFacts.{compiled-on, mapped-on, reported-on, text-on, verified-on}
+use Rattle.answers.proofs.AnswerFacts.{of-auction}
+use Rattle.auction_input.specs.declared.request.Objects.TheVariants as objects
+use Rattle.answers.proofs.WrittenOnFacts.{compiled-on, mapped-on, objects-on, reported-on, text-on, verified-on}
 use Rattle.answers.proofs.commands.answer.Goals as goal
 
 pub returns-in-Check-clause-text : goal.returns-in-Check-clause-text
@@ -88,3 +91,42 @@ returns-in_default-clause-verified g c =
 
 pub returns-in_default-clause-verified_with_forms : goal.returns-in_default-clause-verified_with_forms
 returns-in_default-clause-verified_with_forms g c workers is = absurd (c.in_default.not-VerifyWithForms workers is)
+
+pub returns-in-Objects-clause-text : goal.returns-in-Objects-clause-text
+returns-in-Objects-clause-text g c is = (let other = c.in-Objects.is in absurd (cc))
+
+pub returns-in-Objects-clause-compiled : goal.returns-in-Objects-clause-compiled
+returns-in-Objects-clause-compiled g c workers is = (let other = c.in-Objects.is in absurd (cc))
+
+pub returns-in-Objects-clause-mapped : goal.returns-in-Objects-clause-mapped
+returns-in-Objects-clause-mapped g c group is = (let other = c.in-Objects.is in absurd (cc))
+
+pub returns-in-Objects-clause-reported : goal.returns-in-Objects-clause-reported
+returns-in-Objects-clause-reported g c workers is = (let other = c.in-Objects.is in absurd (cc))
+
+pub returns-in-Objects-clause-verified : goal.returns-in-Objects-clause-verified
+returns-in-Objects-clause-verified g c workers is = (let other = c.in-Objects.is in absurd (cc))
+
+pub returns-in-Objects-clause-verified_with_forms : goal.returns-in-Objects-clause-verified_with_forms
+returns-in-Objects-clause-verified_with_forms g c workers is = (let other = c.in-Objects.is in absurd (cc))
+
+pub returns-in-Objects-clause-verified_as_objects : goal.returns-in-Objects-clause-verified_as_objects
+returns-in-Objects-clause-verified_as_objects g c workers is =
+    objects-on (request.Objects c.in-Objects.objects) c.args.input.now c.write_objects.result (g.S.Sink.state c.args.out.now)
+    (g.S.Sink.state c.write_objects.new.out) c.write_objects.ensures.written workers (sym c.in-Objects.is ∙ is)
+
+pub returns-in-Check-clause-verified_as_objects : goal.returns-in-Check-clause-verified_as_objects
+returns-in-Check-clause-verified_as_objects g c workers is = (let other = c.in-Check.is in absurd (cc))
+
+pub returns-in-Forms-clause-verified_as_objects : goal.returns-in-Forms-clause-verified_as_objects
+returns-in-Forms-clause-verified_as_objects g c workers is = (let other = c.in-Forms.is in absurd (cc))
+
+pub returns-in-VerifyWithForms-clause-verified_as_objects : goal.returns-in-VerifyWithForms-clause-verified_as_objects
+returns-in-VerifyWithForms-clause-verified_as_objects g c workers is = (let other = c.in-VerifyWithForms.is in absurd (cc))
+
+pub returns-in_default-clause-verified_as_objects : goal.returns-in_default-clause-verified_as_objects
+returns-in_default-clause-verified_as_objects g c workers is = absurd (c.in_default.not-Objects (objects.Verify workers) is)
+
+pub answer_auction-requires-clause-of_auction : goal.answer_auction-requires-clause-of_auction
+answer_auction-requires-clause-of_auction g c κs within =
+    of-auction c.args.request c.in_default.not-Check c.in_default.not-Forms c.in_default.not-VerifyWithForms c.in_default.not-Objects

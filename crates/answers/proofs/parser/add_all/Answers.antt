@@ -17,11 +17,9 @@ returns c =
     refl in
     let map_back = then-added _ _ _ _ _ c.in_ok-add_with-2.ensures check
     (ap (λ (r : Rule). for_forms (with_rule (new_app (codes "map")) r)) c.group.ensures.rule) in
-    let report = then-added _ _ _ _ _ c.in_ok-add_with-3.ensures map_back
-    (ap (λ (r : Rule). for_forms (with_rule (new_app (codes "report")) r)) c.workers-2.ensures.rule) in
+    let report = then-added _ _ _ _ _ c.in_ok-add_report.ensures map_back refl in
     let verify = then-added _ _ _ _ _ c.in_ok-add_verify.ensures report refl in
     let explain = then-added _ _ _ _ _ c.in_ok-add_explain.ensures verify refl in
-    let forms = then-added _ _ _ _ (for_forms (new_app (codes "forms")))
-    (pushed _ _ c.in_ok-for_forms-2.field-0 _ c.in_ok-add-3.ensures (c.in_ok-for_forms-2.ensures ∙ ap for_forms c.described-3.ensures)) explain
-    refl in
-    then-added _ _ _ _ _ (pushed _ _ c.help_command.result _ c.in_ok-add-4.ensures c.help_command.ensures) forms refl
+    let forms = then-added _ _ _ _ _ c.in_ok-add_with-3.ensures explain
+    (ap (λ (r : Rule). for_forms (with_rule (new_app (codes "forms")) r)) c.json.ensures.rule) in
+    then-added _ _ _ _ _ (pushed _ _ c.help_command.result _ c.in_ok-add-3.ensures c.help_command.ensures) forms refl

@@ -2,7 +2,7 @@ use Rattle.std.proofs.Common.{◌∙◌, ap}
 use Rattle.std.specs.Prelude.{codes}
 use Rattle.std.proofs.lemmas.Result.{on_ok_weaker}
 use Rattle.clap.specs.Words.{App, Rule, new_app, rule_of, with_rule}
-use Rattle.answers.specs.Asked.{for_forms, workers}
+use Rattle.answers.specs.Asked.{for_forms, with_forms, workers}
 use Rattle.answers.proofs.AskedFacts.{pushed}
 use Rattle.answers.proofs.parser.add_verify.Goals as goal
 
@@ -12,6 +12,9 @@ returns c =
     c.in_ok-arg.ensures.shape c.workers.ensures.local ∙ ap (λ (a : App). with_rule a (rule_of c.workers.result)) c.described.ensures
     ∙ ap (λ (r : Rule). with_rule (new_app (codes "verify")) r) c.workers.ensures.rule in
     let second =
-    c.in_ok-command.ensures.shape c.with_forms.ensures.local ∙ ap (λ (a : App). with_rule a (rule_of c.with_forms.result)) first
+    c.in_ok-arg-2.ensures.shape c.with_forms.ensures.local ∙ ap (λ (a : App). with_rule a (rule_of c.with_forms.result)) first
     ∙ ap (λ (r : Rule). with_rule (with_rule (new_app (codes "verify")) workers) r) c.with_forms.ensures.rule in
-    on_ok_weaker c.add.result (λ is. pushed _ _ c.in_ok-for_forms.field-0 _ is (c.in_ok-for_forms.ensures ∙ ap for_forms second)) c.add.ensures
+    let third =
+    c.in_ok-command.ensures.shape c.json.ensures.local ∙ ap (λ (a : App). with_rule a (rule_of c.json.result)) second
+    ∙ ap (λ (r : Rule). with_rule (with_rule (with_rule (new_app (codes "verify")) workers) with_forms) r) c.json.ensures.rule in
+    on_ok_weaker c.add.result (λ is. pushed _ _ c.in_ok-for_forms.field-0 _ is (c.in_ok-for_forms.ensures ∙ ap for_forms third)) c.add.ensures

@@ -1,9 +1,10 @@
-use Rattle.std.proofs.Common.{inl}
+use Rattle.std.proofs.Common.{inl, refl}
 use Rattle.auction_input.specs.Settled.{held}
 use Rattle.auction_input.specs.declared.refusal.Refusal.TheVariants as refusal
 use Rattle.auction_input.specs.declared.request.Request.TheVariants as request
 use Rattle.answers.specs.Output.{IsWithoutOutput}
-use Rattle.answers.specs.inside.Proved.{proved_text}
+use Rattle.answers.specs.inside.Proved.{outcome_held, proved_text}
+use Rattle.auction_input.proofs.StageFacts.{next}
 use Rattle.auction_input.proofs.StepFacts.{if-err-of}
 use Rattle.answers.proofs.CommandFacts.{cut-short}
 use Rattle.answers.proofs.VerifiedFacts.{true-report, verdicts}
@@ -13,18 +14,19 @@ use Rattle.answers.proofs.commands.verify.write_verified.Goals as goal
 pub returns-clause-written : goal.returns-clause-written
 returns-clause-written g c = (
   proved_text c.args.auction.now c.in_ok-proved.proved,
-  c.in_ok-proved.ensures.shown,
+  next _ (outcome_held c.in_ok-proved.proved) _ _ c.in_ok-proved.ensures.shown refl,
   rw c.as_slice.ensures.value at c.in_ok-report_with.ensures,
 )
 
 pub returns-clause-true_report : goal.returns-clause-true_report
 returns-clause-true_report g c =
     let auction = held c.args.auction.now in
+    let o = outcome_held c.in_ok-proved.proved in
     let out = proved_text c.args.auction.now c.in_ok-proved.proved in
     let limits = c.within_limits.ensures in
     record {
       out = out;
-      is_true = true-report auction out limits.book limits.bidders (verdicts c.args.workers auction out c.in_ok-proved.ensures.shown);
+      is_true = true-report auction o limits.book limits.bidders (verdicts auction o c.in_ok-proved.ensures.shown);
       sent = (rw c.as_slice.ensures.value at c.in_ok-report_with.ensures).taken;
     }
 
@@ -43,5 +45,5 @@ returns-in_err-report_with-clause-refused g c =
     let f = c.in_err-report_with.field-0.0 in
     if-err-of (IsWithoutOutput (request.Verify c.args.workers) (held c.args.auction.now) before after) c.from_residual-in_err-report_with.result
     (refusal.Write f) c.from_residual-in_err-report_with.ensures.1
-    (inl (cut-short _ (proved_text c.args.auction.now c.in_ok-proved.proved) before after f c.in_ok-proved.ensures.shown
-    (rw c.as_slice.ensures.value at c.in_err-report_with.ensures)))
+    (inl (cut-short _ (proved_text c.args.auction.now c.in_ok-proved.proved) before after f
+    (next _ (outcome_held c.in_ok-proved.proved) _ _ c.in_ok-proved.ensures.shown refl) (rw c.as_slice.ensures.value at c.in_err-report_with.ensures)))
