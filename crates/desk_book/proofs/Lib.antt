@@ -1,4 +1,7 @@
 mod Copies
 mod Extending
 mod Parts
+pub mod Reading
 mod Rewinding
+mod Standing
+mod WorkedCalls

@@ -4,11 +4,12 @@ use Rattle.std.proofs.Math.Seq.{take-length, take-append_seam}
 use Rattle.std.proofs.lemmas.List.{take-take}
 use Rattle.auction_terms.specs.declared.rules.Rules.{Rules}
 use Rattle.bid_book.specs.declared.records.Entry.{Entry}
-use Rattle.desk_line.specs.Fronts.{Step, AreSteps, Follows, IsFrontWithin, state_after}
+use Rattle.desk_line.specs.Fronts.{Step, AreSteps, Follows, state_after}
 use Rattle.desk_line.specs.declared.machine.Mark.{Mark}
 use Rattle.desk_book.specs.declared.commitment.Commitment.{Commitment}
 use Rattle.desk_book.specs.declared.desk.Desk.{Desk}
-use Rattle.desk_book.specs.Answers.{IsDeskAnswer}
+use Rattle.desk_book.specs.Answers.{IsDeskAnswer, IsDeskFront, IsTold}
+use Rattle.desk_book.specs.declared.calls.Call.{Call}
 use Rattle.desk_book.specs.inside.Marks.{mark_of}
 use Rattle.desk_book.specs.Recording.{IsRecordedAs, asked_by, book_call, made_by, reply_owed}
 use Rattle.desk_book.specs.declared.answer.Answer.{Answer}
@@ -37,10 +38,9 @@ module _ {J : Type 0} where
         book = ap (take (length m.book)) is.book ∙ take-append_seam m.book (e ∷ []);
       }
 
-  kept_answer : (faults : J → List ℕ → List ℕ → List ℕ) (m n : Desk J) (reply entry : List ℕ) → IsDeskAnswer faults m reply entry n → IsKept m n
-  kept_answer faults m n reply entry (inl is) = rw is.same (kept_self m)
-  kept_answer faults m n reply entry (inr (c, inl is)) = rw is.1.same (kept_self m)
-  kept_answer faults m n reply entry (inr (c, inr is)) = kept_recorded m n (asked_by c is.bids) is.told entry is.recorded
+  kept_told : (faults : J → List ℕ → List ℕ → List ℕ) (m n : Desk J) (c : Call) (reply entry : List ℕ) → IsTold faults m c reply entry n → IsKept m n
+  kept_told faults m n c reply entry (inl is) = rw is.1.same (kept_self m)
+  kept_told faults m n c reply entry (inr is) = kept_recorded m n (asked_by c is.bids) is.told entry is.recorded
 
   kept_both : (m n o : Desk J) → IsKept m n → IsKept n o → IsKept m o
   kept_both m n o a b = record {
@@ -52,15 +52,15 @@ module _ {J : Type 0} where
   }
 
   kept_steps : (faults : J → List ℕ → List ℕ → List ℕ) (m : Desk J) (steps : List (Step (Desk J)))
-      → AreSteps (λ _ bytes f. IsFrontWithin bytes f) (λ m call reply entry n. IsDeskAnswer faults m reply entry n) m steps
+      → AreSteps (λ m bytes f. IsDeskFront m bytes f) (λ m call reply entry n. IsDeskAnswer faults m call reply entry n) m steps
       → IsKept m (state_after m steps)
   kept_steps faults m [] are = kept_self m
   kept_steps faults m (s ∷ steps) are =
-      kept_both m s.next (state_after s.next steps) (kept_answer faults m s.next s.reply s.entry are.1) (kept_steps faults s.next steps are.2)
+      kept_both m s.next (state_after s.next steps) (kept_told faults m s.next are.1.call s.reply s.entry are.1.told) (kept_steps faults s.next steps are.2)
 
   -- the state that a mark was taken of
   pub rewound : (faults : J → List ℕ → List ℕ → List ℕ) (m n : Desk J) (mark : Mark) (b : List (Entry Commitment))
-      → Follows (λ _ bytes f. IsFrontWithin bytes f) (λ m call reply entry n. IsDeskAnswer faults m reply entry n) m n
+      → Follows (λ m bytes f. IsDeskFront m bytes f) (λ m call reply entry n. IsDeskAnswer faults m call reply entry n) m n
       → mark ≡ mark_of m → b ≡ take mark.entries n.book
       → record n { book = b; extent = mark.extent; durable = mark.durable; chain = mark.chain } ≡ m
   rewound faults m n mark b follows is taken =

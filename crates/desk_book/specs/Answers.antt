@@ -1,5 +1,7 @@
 -- What a desk makes of calls.
 use Rattle.std.specs.Prelude.{ℕ, List, [], ◌≡◌, ◌⊎◌, Bool, Option, Some, None, Result, Ok, Err, if◌then◌else◌, length}
+use Rattle.desk_line.specs.declared.machine.Front.{Front}
+use Rattle.desk_book.specs.Calls.{Whole, call_at, front_of, meant}
 use Rattle.desk_book.specs.Judging.{judged}
 use Rattle.desk_book.specs.Recording.{IsRecordedAs, answer_due, asked_by, has_room}
 use Rattle.desk_book.specs.Replies.{taken_line, untaken_line}
@@ -48,15 +50,15 @@ pub record IsCallTaken {J : Type 0} (m : Desk J) (c : Call) (line entry : List �
 abbrev pub IsTold : {J : Type 0} → (J → List ℕ → List ℕ → List ℕ) → Desk J → Call → List ℕ → List ℕ → Desk J → Type 0
 IsTold faults m c line entry n = ((entry ≡ []) × IsCallUntaken faults m c line n) ⊎ IsCallTaken m c line entry n
 
--- nothing is told, and nothing changes
-pub record IsNothing {J : Type 0} (m : Desk J) (reply entry : List ℕ) (n : Desk J) : Type 0 where
-  pub told : reply ≡ []
-  pub kept : entry ≡ []
-  pub same : n ≡ m
+-- what stands at the front of bytes
+abbrev pub IsDeskFront : {J : Type 0} → Desk J → List ℕ → Front → Type 0
+IsDeskFront m bytes f = f ≡ front_of (call_at m.rules bytes)
 
--- how bytes may be answered: as some call is, or not at all
-abbrev pub IsDeskAnswer : {J : Type 0} → (J → List ℕ → List ℕ → List ℕ) → Desk J → List ℕ → List ℕ → Desk J → Type 0
-IsDeskAnswer faults m reply entry n = IsNothing m reply entry n ⊎ ((c : Call) × IsTold faults m c reply entry n)
+-- the whole call that stands in bytes is answered
+pub record IsDeskAnswer {J : Type 0} (faults : J → List ℕ → List ℕ → List ℕ) (m : Desk J) (bytes reply entry : List ℕ) (n : Desk J) : Type 0 where
+  pub call : Call
+  pub stands : call_at m.rules bytes ≡ Whole (meant call) (length bytes)
+  pub told : IsTold faults m call reply entry n
 
 -- the state in which all that is in the journal is on the disk
 abbrev pub all_durable : {J : Type 0} → Desk J → Desk J

@@ -1,7 +1,7 @@
 pub mod Answers
+pub mod Calls
 pub mod Digests
 pub mod Entries
-pub mod Heads
 pub mod Judging
 pub mod Recording
 pub mod Replies

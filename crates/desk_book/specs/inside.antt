@@ -1,3 +1,6 @@
+pub mod CallLaws
+pub mod Fields
+pub mod Found
 pub mod Lines
 pub mod MachineLaws
 pub mod Marks

@@ -1,12 +1,16 @@
 //! Calls, and reading them.
 
-ghost use Rattle.std.specs.Prelude.{◌<◌, ◌≤◌, ◌^◌, IfSome, length};
-ghost use Rattle.desk_book.specs.Heads.{IfFound};
+ghost use Rattle.std.specs.Prelude.{◌≡◌, ◌≤◌, OnSome, IfSome, Some, option_map};
+ghost use Rattle.auction_terms.specs.declared.limits.TheConstants.{TEXT_LIMIT};
+ghost use Rattle.desk_book.specs.declared.limits.TheConstants.{SEALED_LIMIT};
+ghost use Rattle.desk_book.specs.Calls.{call_at, call_head, call_of_head, head_fields, head_of, session_named, sessions_given, stands_as};
+ghost use Rattle.desk_book.specs.inside.Fields.{behind_who, close_left, show_left, submit_left, who_left, withdraw_left};
+ghost use Rattle.desk_book.specs.inside.Found.{alone, of_form};
 
 use crate::fields::Fields;
 use crate::heads::{Line, find_line};
 use crate::limits::SEALED_LIMIT;
-use auction_terms::{Rules, TEXT_LIMIT};
+use auction_terms::{Rules, TEXT_LIMIT, number};
 
 /// Who makes a call, and when.
 #[derive(Clone, Copy)]
@@ -44,32 +48,61 @@ pub enum Found<'c> {
     Wrong,
 }
 
-// The next three fields: a bidder of the rules, one of its sessions, and the time.
-fn read_who(rules: &Rules, fields: &mut Fields<'_>) -> Option<Who> {
-    let bidder = rules.bidder_number(fields.next()?)?;
-    let session = fields.number()?;
-    let time = fields.number()?;
-    let place = usize::from(bidder).checked_sub(1)?;
-    let sessions = rules.bidders().get(place)?.sessions;
-    if session < 1 || session > u64::from(sessions) {
-        return None;
+// The head of a form that is handed in, with the numbers of bytes that follow it.
+#[derive(Clone, Copy)]
+struct FormHead {
+    who: Who,
+    over: Option<u32>,
+    salt: [u8; 64],
+    commit: [u8; 64],
+    text_len: usize,
+    sealed_len: usize,
+}
+
+// How many sessions a bidder has.
+fn sessions_of(rules: &Rules, bidder: u16) -> u8
+    ensures { result ≡ sessions_given rules.now bidder }
+{
+    match rules.bidders().get(usize::from(bidder).saturating_sub(1)) {
+        Some(bidder) => bidder.sessions,
+        None => 0,
     }
+}
+
+// The session of a bidder that a field names.
+fn session_of(rules: &Rules, bidder: u16, field: &[u8]) -> Option<u8>
+    ensures { result ≡ session_named rules.now bidder field.now }
+{
+    let session = number(field)?;
+    if 1 <= session && session <= u64::from(sessions_of(rules, bidder)) {
+        Some(session as u8)
+    } else {
+        None
+    }
+}
+
+// The next three fields: a bidder of the rules, one of its sessions, and the time.
+#[tactic(auto, unfolding(crate::specs::inside::Fields::who_left))]
+fn read_who(rules: &Rules, fields: &mut Fields<'_>) -> Option<Who>
+    ensures who { result ≡ who_left rules.now fields.old }
+    ensures rest { OnSome result (fields.new ≡ behind_who fields.old) }
+{
+    let bidder = rules.bidder_number(fields.next()?)?;
+    let session = session_of(rules, bidder, fields.next()?)?;
+    let time = fields.number()?;
     Some(Who {
         bidder,
-        session: session as u8,
+        session,
         time,
     })
 }
 
-// A submission whose head has these fields, with the bytes behind its head.
-fn find_submission<'c>(
-    rules: &Rules,
-    mut fields: Fields<'c>,
-    head_len: usize,
-    bytes: &'c [u8],
-) -> Option<Found<'c>>
-    requires { (0 < head_len) × (head_len < 2 ^ 32) }
-    ensures { IfSome result (λ f. IfFound f (λ n. (0 < n) × (n ≤ length bytes.now))) }
+// The head of a form that is handed in.
+#[tactic(auto, unfolding(crate::specs::inside::Fields::submit_left))]
+fn read_form_head(rules: &Rules, mut fields: Fields<'_>) -> Option<FormHead>
+    ensures head { option_map of_form result ≡ submit_left rules.now fields.entry }
+    ensures text { IfSome result (λ h. h.text_len ≤ TEXT_LIMIT) }
+    ensures sealed { IfSome result (λ h. h.sealed_len ≤ SEALED_LIMIT) }
 {
     let who = read_who(rules, &mut fields)?;
     let over = fields.change_if()?;
@@ -77,74 +110,132 @@ fn find_submission<'c>(
     let commit = fields.digest()?;
     let text_len = fields.number_to(TEXT_LIMIT)?;
     let sealed_len = fields.number_to(SEALED_LIMIT)?;
-    if !fields.is_done() {
-        return None;
+    if fields.is_done() {
+        Some(FormHead {
+            who,
+            over,
+            salt,
+            commit,
+            text_len,
+            sealed_len,
+        })
+    } else {
+        None
     }
-    let text_end = head_len + text_len;
-    let len = text_end + sealed_len;
-    if bytes.len() < len {
-        return Some(Found::Short);
+}
+
+#[tactic(auto, unfolding(crate::specs::inside::Fields::withdraw_left))]
+fn read_withdrawal<'c>(rules: &Rules, mut fields: Fields<'c>) -> Option<Call<'c>>
+    ensures { option_map alone result ≡ withdraw_left rules.now fields.entry }
+{
+    let who = read_who(rules, &mut fields)?;
+    let over = fields.change()?;
+    if fields.is_done() {
+        Some(Call::Withdraw { who, over })
+    } else {
+        None
     }
-    let submission = Submission {
-        who,
-        over,
-        salt,
-        commit,
-        text: &bytes[head_len..text_end],
-        sealed: &bytes[text_end..len],
-    };
-    Some(Found::Whole {
-        call: Call::Submit(submission),
-        len,
-    })
+}
+
+#[tactic(auto, unfolding(crate::specs::inside::Fields::show_left))]
+fn read_show<'c>(rules: &Rules, mut fields: Fields<'c>) -> Option<Call<'c>>
+    ensures { option_map alone result ≡ show_left rules.now fields.entry }
+{
+    let who = read_who(rules, &mut fields)?;
+    if fields.is_done() {
+        Some(Call::Show { who })
+    } else {
+        None
+    }
+}
+
+#[tactic(auto, unfolding(crate::specs::inside::Fields::close_left))]
+fn read_close<'c>(mut fields: Fields<'c>) -> Option<Call<'c>>
+    ensures { option_map alone result ≡ close_left fields.entry }
+{
+    let time = fields.number()?;
+    if fields.is_done() {
+        Some(Call::Close { time })
+    } else {
+        None
+    }
 }
 
 // A call that is its head alone.
-fn read_call<'c>(rules: &Rules, kind: &[u8], mut fields: Fields<'c>) -> Option<Call<'c>> {
-    let call = match kind {
-        b"%withdraw" => {
-            let who = read_who(rules, &mut fields)?;
-            let over = fields.change()?;
-            Call::Withdraw { who, over }
-        }
-        b"%show" => {
-            let who = read_who(rules, &mut fields)?;
-            Call::Show { who }
-        }
-        b"%close" => Call::Close {
-            time: fields.number()?,
-        },
-        _ => return None,
-    };
-    if fields.is_done() { Some(call) } else { None }
+#[tactic(auto, using(crate::proofs::Reading::withdraw_same, crate::proofs::Reading::show_same, crate::proofs::Reading::close_same))]
+fn read_call<'c>(rules: &Rules, kind: &[u8], fields: Fields<'c>) -> Option<Call<'c>>
+    ensures { option_map alone result ≡ call_head rules.now kind.now fields.entry }
+{
+    if kind == b"%withdraw".as_slice() {
+        read_withdrawal(rules, fields)
+    } else if kind == b"%show".as_slice() {
+        read_show(rules, fields)
+    } else if kind == b"%close".as_slice() {
+        read_close(fields)
+    } else {
+        None
+    }
 }
 
-// The call whose head line has this length without its end.
-fn find_call_of<'c>(rules: &Rules, bytes: &'c [u8], line_len: usize) -> Option<Found<'c>>
-    requires { (line_len < length bytes.now) × (line_len < 1024) }
-    ensures { IfSome result (λ f. IfFound f (λ n. (0 < n) × (n ≤ length bytes.now))) }
+// The call of a form's head line of so many bytes, behind which these stand.
+fn find_form<'c>(head: &FormHead, len: usize, behind: &'c [u8]) -> Found<'c>
+    requires text { head.now.text_len ≤ TEXT_LIMIT }
+    requires sealed { head.now.sealed_len ≤ SEALED_LIMIT }
+    requires len { len ≤ 1024 }
+    ensures { stands_as result ≡ call_of_head (Some (of_form head.now)) len behind.now }
 {
-    let mut fields = Fields::of_line(&bytes[..line_len]);
-    let kind = fields.next()?;
-    if kind == b"%submit".as_slice() {
-        return find_submission(rules, fields, line_len + 1, bytes);
+    let count = head.text_len + head.sealed_len;
+    if count <= behind.len() {
+        let (text, rest) = behind.split_at(head.text_len);
+        let submission = Submission {
+            who: head.who,
+            over: head.over,
+            salt: head.salt,
+            commit: head.commit,
+            text,
+            sealed: &rest[..head.sealed_len],
+        };
+        Found::Whole {
+            call: Call::Submit(submission),
+            len: len + count,
+        }
+    } else {
+        Found::Short
     }
-    let call = read_call(rules, kind, fields)?;
-    Some(Found::Whole {
-        call,
-        len: line_len + 1,
-    })
+}
+
+// The call that begins with this line, of so many bytes with its end, behind which these stand.
+#[tactic(auto, using(crate::proofs::Reading::submit_same))]
+fn find_call_of<'c>(rules: &Rules, line: &'c [u8], len: usize, behind: &'c [u8]) -> Found<'c>
+    requires { len ≤ 1024 }
+    ensures { stands_as result ≡ call_of_head (head_of rules.now (head_fields line.now)) len behind.now }
+{
+    let mut fields = Fields::of_line(line);
+    let Some(kind) = fields.next() else {
+        return Found::Wrong;
+    };
+    if kind == b"%submit".as_slice() {
+        return match read_form_head(rules, fields) {
+            Some(head) => find_form(&head, len, behind),
+            None => Found::Wrong,
+        };
+    }
+    match read_call(rules, kind, fields) {
+        Some(call) => Found::Whole { call, len },
+        None => Found::Wrong,
+    }
 }
 
 /// The call at the front of these bytes.
+#[tactic(auto, unfolding(crate::specs::Calls::call_at))]
 pub fn find_call<'c>(rules: &Rules, bytes: &'c [u8]) -> Found<'c>
-    ensures { IfFound result (λ n. (0 < n) × (n ≤ length bytes.now)) }
+    ensures { stands_as result ≡ call_at rules.now bytes.now }
 {
     match find_line(bytes) {
-        Line::Whole(len) => match find_call_of(rules, bytes, len) {
-            Some(found) => found,
-            None => Found::Wrong,
-        },
+        Line::Whole(end) => {
+            let (_, behind) = bytes.split_at(end + 1);
+            find_call_of(rules, &bytes[..end], end + 1, behind)
+        }
         Line::Short => Found::Short,
         Line::None => Found::Wrong,
     }

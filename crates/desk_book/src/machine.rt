@@ -1,20 +1,22 @@
 //! The desk as what answers the calls of a line.
 
-ghost use Rattle.std.specs.Prelude.{◌≡◌, ◌∷◌, ◌++◌, [], List, IfOk, OnOk, refl, take};
+ghost use Rattle.std.specs.Prelude.{◌≡◌, ◌∷◌, ◌++◌, [], List, IfOk, OnOk, length, refl, take};
 ghost use Rattle.std.specs.Io.KnownBytes.{Consumes};
 ghost use Rattle.bid_book.specs.History.{IsRightAfterBy, entry_value};
-ghost use Rattle.desk_line.specs.Fronts.{IsFrontWithin};
 ghost use Rattle.desk_line.specs.Served.{Batch, IsServed, calls_of};
-ghost use Rattle.desk_book.specs.Answers.{IsDeskAnswer, all_durable};
+ghost use Rattle.desk_book.specs.Answers.{IsDeskAnswer, IsDeskFront, all_durable};
+ghost use Rattle.desk_book.specs.Calls.{Whole, call_at, front_of, meant};
+ghost use Rattle.desk_line.specs.declared.machine.Front.TheVariants as front;
 ghost use Rattle.desk_book.specs.inside.Marks.{mark_of};
 ghost use Rattle.desk_book.specs.declared.desk.Desk.{Desk};
-ghost use Rattle.desk_book.specs.inside.MachineLaws.{whole_within, extent_after};
+ghost use Rattle.desk_book.specs.inside.MachineLaws.{extent_after, front_whole, front_within};
 
 use crate::answering::Told;
-use crate::calls::{Found, find_call};
+use crate::calls::{Call, Found, find_call};
 use crate::commitment::Commitment;
 use crate::desk::Desk;
 use crate::judge::Judge;
+use auction_terms::Rules;
 use bid_book::{Book, Entry};
 use desk_line::{Front, Left, Machine, Mark, Outside, Stop, serve};
 use std::alloc::{AllocError, Global};
@@ -22,9 +24,9 @@ use std::io::Read;
 use std::sync::Arc;
 
 impl<J: Judge + Drop> Machine for Desk<J> {
-    ghost fronts = { λ _ bytes f. IsFrontWithin bytes f };
+    ghost fronts = { λ m bytes f. IsDeskFront m bytes f };
 
-    ghost answers = { λ m call reply entry n. IsDeskAnswer J.faults m reply entry n };
+    ghost answers = { λ m call reply entry n. IsDeskAnswer J.faults m call reply entry n };
 
     ghost begun = { all_durable };
 
@@ -32,11 +34,11 @@ impl<J: Judge + Drop> Machine for Desk<J> {
 
     ghost mark_of = { mark_of };
 
-    ghost front_within = { λ m bytes f is. is };
+    ghost front_within = { λ m bytes f is. front_within m.rules bytes f is };
 
-    ghost front_whole = { λ m bytes more n is. whole_within bytes more n is };
+    ghost front_whole = { λ m bytes more n is. front_whole m.rules bytes more n is };
 
-    ghost extent_after = { λ m n call reply entry is. extent_after J.faults m n reply entry is };
+    ghost extent_after = { λ m n call reply entry is. extent_after J.faults m n call reply entry is };
 
     ghost extent_begun = { λ m. refl };
 
@@ -55,9 +57,7 @@ impl<J: Judge + Drop> Machine for Desk<J> {
         told: &mut Vec<u8>,
         kept: &mut Vec<u8>,
     ) -> Result<(), AllocError> {
-        let Found::Whole { call, .. } = find_call(&self.rules, call) else {
-            return Ok(());
-        };
+        let call = whole_call(&self.rules, call);
         let Told { line, entry } = self.answer(alloc, &call)?;
         told.extend_from_slice(line.as_slice())?;
         kept.extend_from_slice(entry.as_slice())
@@ -82,6 +82,18 @@ impl<J: Judge + Drop> Machine for Desk<J> {
         self.durable = mark.durable;
         self.chain = mark.chain;
         Ok(())
+    }
+}
+
+// The call that these bytes are.
+fn whole_call<'c>(rules: &Rules, bytes: &'c [u8]) -> Call<'c>
+    requires { front.Whole (length bytes.now) ≡ front_of (call_at rules.now bytes.now) }
+    ensures { call_at rules.now bytes.now ≡ Whole (meant result) (length bytes.now) }
+{
+    match find_call(rules, bytes) {
+        Found::Whole { call, .. } => call,
+        Found::Short => unreachable!(),
+        Found::Wrong => unreachable!(),
     }
 }
 
@@ -125,9 +137,9 @@ pub fn serve_calls<J: Judge + Drop, I: Read, O: Outside>(
     out: &mut O,
 ) -> Result<Left, Stop>
     requires { desk.old.extent ≡ O.extent out.old }
-    // What was told and kept is what batches of the calls that were read make of it, each as its state may answer it.
-    ensures { IfOk result (λ left. (batches : List (Batch (Desk J))) × IsServed (λ _ bytes f. IsFrontWithin bytes f)
-        (λ m call reply entry n. IsDeskAnswer J.faults m reply entry n) all_durable (λ m. m.extent) (record {
+    // What was told and kept is what batches of the calls that were read make of it, each as its state has to answer the call that stands in its bytes.
+    ensures { IfOk result (λ left. (batches : List (Batch (Desk J))) × IsServed (λ m bytes f. IsDeskFront m bytes f)
+        (λ m call reply entry n. IsDeskAnswer J.faults m call reply entry n) all_durable (λ m. m.extent) (record {
           state = desk.old;
           kept = O.durable out.old;
           extent = O.extent out.old;

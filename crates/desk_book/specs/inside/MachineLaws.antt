@@ -1,19 +1,43 @@
 -- Why a desk keeps the laws of what answers the calls of a line.
-use Rattle.std.proofs.Common.{◌≡◌, ◌<◌, ◌≤◌, ◌+◌, ◌++◌, ◌∙◌, ◌⊎◌, inl, inr, ℕ, List, [], ◌∷◌, length, take, ap, sym, arith, length-append}
-use Rattle.std.proofs.lemmas.List.{length-take-le}
+use Rattle.std.proofs.Common.{◌≡◌, ◌<◌, ◌≤◌, ◌+◌, ◌++◌, ◌∙◌, ◌⊎◌, inl, inr, ℕ, List, [], length, take, ap, refl, sym, subst, arith}
+use Rattle.auction_terms.specs.Terms.{Terms}
 use Rattle.desk_line.specs.Fronts.{IsFrontWithin}
-use Rattle.desk_line.specs.declared.machine.Front.TheVariants.{Whole}
+use Rattle.desk_line.specs.declared.machine.Front.{Front}
+use Rattle.desk_line.specs.declared.machine.Front.TheVariants as front
+use Rattle.desk_book.specs.Answers.{IsDeskAnswer, IsTold}
+use Rattle.desk_book.specs.Calls.{Means, Stands, Whole, Short, Wrong, call_at, front_of}
+use Rattle.desk_book.specs.declared.calls.Call.{Call}
 use Rattle.desk_book.specs.declared.desk.Desk.{Desk}
-use Rattle.desk_book.specs.Answers.{IsDeskAnswer}
+use Rattle.desk_book.specs.inside.CallLaws.{call-stays, call-within}
 
-pub whole_within : (bytes more : List ℕ) (n : ℕ) → IsFrontWithin bytes (Whole n) → IsFrontWithin (take n bytes ++ more) (Whole n)
-whole_within bytes more n is = (is.0, omega (arith, length-append (take n bytes) more, length-take-le n bytes is.1))
+module _ (rules : Terms) (bytes : List ℕ) where
+  stands_within : (s : Stands) → call_at rules bytes ≡ s → IsFrontWithin bytes (front_of s)
+  stands_within (Whole call n) is = call-within rules bytes call n is
+  stands_within Short is = tt
+  stands_within Wrong is = tt
 
-module _ {J : Type 0} (faults : J → List ℕ → List ℕ → List ℕ) (m n : Desk J) (reply entry : List ℕ) where
+  pub front_within : (f : Front) → f ≡ front_of (call_at rules bytes) → IsFrontWithin bytes f
+  front_within f is = subst (λ (g : Front). IsFrontWithin bytes g) (sym is) (stands_within (call_at rules bytes) refl)
+
+  stands_whole : (more : List ℕ) (n : ℕ) (s : Stands) → call_at rules bytes ≡ s → front.Whole n ≡ front_of s
+      → front.Whole n ≡ front_of (call_at rules (take n bytes ++ more))
+  stands_whole more n (Whole call m) is same =
+      let count : m ≡ n = cc in
+      sym (ap front_of (call-stays rules bytes more call n (is ∙ ap (Whole call) count)))
+  stands_whole more n Short is same = absurd cc
+  stands_whole more n Wrong is same = absurd cc
+
+  pub front_whole : (more : List ℕ) (n : ℕ) → front.Whole n ≡ front_of (call_at rules bytes)
+      → front.Whole n ≡ front_of (call_at rules (take n bytes ++ more))
+  front_whole more n is = stands_whole more n (call_at rules bytes) refl is
+
+module _ {J : Type 0} (faults : J → List ℕ → List ℕ → List ℕ) (m n : Desk J) (bytes reply entry : List ℕ) where
   same_extent : entry ≡ [] → n ≡ m → n.extent ≡ m.extent + length entry
   same_extent none same = ap (λ d. d.extent) same ∙ (let len : length entry ≡ 0 = ap length none in omega (arith, len))
 
-  pub extent_after : IsDeskAnswer faults m reply entry n → n.extent ≡ m.extent + length entry
-  extent_after (inl is) = same_extent is.kept is.same
-  extent_after (inr (c, inl is)) = same_extent is.0 is.1.same
-  extent_after (inr (c, inr is)) = is.recorded.extent
+  told_extent : (c : Call) → IsTold faults m c reply entry n → n.extent ≡ m.extent + length entry
+  told_extent c (inl is) = same_extent is.0 is.1.same
+  told_extent c (inr is) = is.recorded.extent
+
+  pub extent_after : IsDeskAnswer faults m bytes reply entry n → n.extent ≡ m.extent + length entry
+  extent_after is = told_extent is.call is.told

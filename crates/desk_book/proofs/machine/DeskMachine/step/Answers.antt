@@ -1,4 +1,4 @@
-use Rattle.std.proofs.Common.{rules, inr}
+use Rattle.std.proofs.Common.{rules}
 use Rattle.std.proofs.lemmas.Result.{on_ok_weaker}
 use Rattle.desk_book.proofs.Extending.{extended}
 use Rattle.desk_book.proofs.machine.DeskMachine.step.Goals as goal
@@ -9,7 +9,7 @@ returns g c =
     (λ kept. (
       c.in_ok-line.field-0.line.items,
       c.in_ok-line.field-0.entry.items,
-      inr (c.in-Whole.call, c.in_ok-line.ensures),
+      record { call = c.whole_call-call.result; stands = c.whole_call-call.ensures; told = c.in_ok-line.ensures },
       search rules,
       search (rules, kept),
     ))

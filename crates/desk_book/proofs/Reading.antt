@@ -1,0 +1,48 @@
+-- The fields of a head line, read one after the other, are those that it has to have.
+use Rattle.std.proofs.Common.{◌≡◌, ℕ, List, [], ◌∷◌, Option, Some, None, refl}
+use Rattle.std.specs.Option.{option_and_then}
+use Rattle.auction_terms.specs.Terms.{Terms}
+use Rattle.desk_book.specs.Calls.{close_head, show_head, submit_head, withdraw_head}
+use Rattle.desk_book.specs.inside.Fields.{close_left, show_left, submit_left, who_left, withdraw_left}
+
+-- nothing is made where nothing is made of whatever is there
+pub none_then : {X Y : Type 0} (o : Option X) → option_and_then {T = X} {U = Y} (λ x. None) o ≡ None
+none_then None = refl
+none_then (Some x) = refl
+
+module _ (rules : Terms) where
+  pub withdraw_same : (fields : List (List ℕ)) → withdraw_left rules fields ≡ withdraw_head rules fields
+  unfolding who_left withdraw_left
+  withdraw_same [] = refl
+  withdraw_same (a ∷ []) = simp none_then
+  withdraw_same (a ∷ b ∷ []) = simp none_then
+  withdraw_same (a ∷ b ∷ c ∷ []) = simp none_then
+  withdraw_same (a ∷ b ∷ c ∷ d ∷ []) = refl
+  withdraw_same (a ∷ b ∷ c ∷ d ∷ e ∷ more) = simp none_then
+
+  pub show_same : (fields : List (List ℕ)) → show_left rules fields ≡ show_head rules fields
+  unfolding who_left show_left
+  show_same [] = refl
+  show_same (a ∷ []) = simp none_then
+  show_same (a ∷ b ∷ []) = simp none_then
+  show_same (a ∷ b ∷ c ∷ []) = refl
+  show_same (a ∷ b ∷ c ∷ d ∷ more) = simp none_then
+
+  pub submit_same : (fields : List (List ℕ)) → submit_left rules fields ≡ submit_head rules fields
+  unfolding who_left submit_left
+  submit_same [] = refl
+  submit_same (a ∷ []) = simp none_then
+  submit_same (a ∷ b ∷ []) = simp none_then
+  submit_same (a ∷ b ∷ c ∷ []) = simp none_then
+  submit_same (a ∷ b ∷ c ∷ d ∷ []) = simp none_then
+  submit_same (a ∷ b ∷ c ∷ d ∷ e ∷ []) = simp none_then
+  submit_same (a ∷ b ∷ c ∷ d ∷ e ∷ f ∷ []) = simp none_then
+  submit_same (a ∷ b ∷ c ∷ d ∷ e ∷ f ∷ g ∷ []) = simp none_then
+  submit_same (a ∷ b ∷ c ∷ d ∷ e ∷ f ∷ g ∷ h ∷ []) = refl
+  submit_same (a ∷ b ∷ c ∷ d ∷ e ∷ f ∷ g ∷ h ∷ i ∷ more) = simp none_then
+
+pub close_same : (fields : List (List ℕ)) → close_left fields ≡ close_head fields
+unfolding close_left
+close_same [] = refl
+close_same (a ∷ []) = refl
+close_same (a ∷ b ∷ more) = simp none_then

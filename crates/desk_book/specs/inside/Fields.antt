@@ -1,0 +1,69 @@
+-- The fields that a line has left, one after the other.
+use Rattle.std.specs.Prelude.{ℕ, List, [], ◌∷◌, ◌==◌, Bool, true, false, Option, Some, None, drop, if◌then◌else◌, slice_get}
+use Rattle.std.specs.List.{slice_split}
+use Rattle.auction_terms.specs.Numbers.{number_of}
+use Rattle.auction_terms.specs.Terms.{Terms}
+use Rattle.auction_terms.specs.declared.limits.TheConstants.{TEXT_LIMIT}
+use Rattle.desk_book.specs.Calls.{Head, Alone, OfForm, Withdraw, Show, Close, ◌>>=◌, bidder_called, change_named, digest_named, number_up_to, over_named, session_named}
+use Rattle.desk_book.specs.declared.calls.Who.{Who}
+use Rattle.desk_book.specs.declared.limits.TheConstants.{SEALED_LIMIT}
+
+-- the fields in what is left of a line
+abbrev pub fields_left : Option (List ℕ) → List (List ℕ)
+fields_left None = []
+fields_left (Some text) = slice_split (λ b. b == 32) text
+
+-- what is made of the first field
+abbrev pub first : {X : Type 0} → (List ℕ → Option X) → List (List ℕ) → Option X
+first make fields = slice_get fields 0 >>= make
+
+-- whether no field is left
+abbrev pub no_field : List (List ℕ) → Bool
+no_field [] = true
+no_field (field ∷ more) = false
+
+-- something, where no field is left
+abbrev pub at_end : List (List ℕ) → Head → Option Head
+at_end fields head = if no_field fields then Some head else None
+
+-- the fields behind those of who makes a call
+abbrev pub behind_who : List (List ℕ) → List (List ℕ)
+behind_who fields = drop 1 (drop 1 (drop 1 fields))
+
+unfoldable pub close_left : List (List ℕ) → Option Head
+close_left fields = do
+  t ← first number_of fields
+  at_end (drop 1 fields) (Alone (Close t))
+
+abbrev pub form_left : Who → List (List ℕ) → Option Head
+form_left who fields = do
+  o ← first over_named fields
+  s ← first digest_named (drop 1 fields)
+  c ← first digest_named (drop 1 (drop 1 fields))
+  t ← first (number_up_to TEXT_LIMIT) (drop 1 (drop 1 (drop 1 fields)))
+  n ← first (number_up_to SEALED_LIMIT) (drop 1 (drop 1 (drop 1 (drop 1 fields))))
+  at_end (drop 1 (drop 1 (drop 1 (drop 1 (drop 1 fields))))) (OfForm who o s c t n)
+
+module _ (rules : Terms) where
+  unfoldable pub who_left : List (List ℕ) → Option Who
+  who_left fields = do
+    b ← first (bidder_called rules) fields
+    s ← first (session_named rules b) (drop 1 fields)
+    t ← first number_of (drop 1 (drop 1 fields))
+    Some (record { bidder = b; session = s; time = t })
+
+  unfoldable pub submit_left : List (List ℕ) → Option Head
+  submit_left fields = do
+    who ← who_left fields
+    form_left who (behind_who fields)
+
+  unfoldable pub withdraw_left : List (List ℕ) → Option Head
+  withdraw_left fields = do
+    who ← who_left fields
+    n ← first change_named (behind_who fields)
+    at_end (drop 1 (behind_who fields)) (Alone (Withdraw who n))
+
+  unfoldable pub show_left : List (List ℕ) → Option Head
+  show_left fields = do
+    who ← who_left fields
+    at_end (behind_who fields) (Alone (Show who))
