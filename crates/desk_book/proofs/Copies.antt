@@ -1,6 +1,6 @@
 -- Copying the entries of a book, one by one.
 use Rattle.std.proofs.Common.{◌≡◌, ◌<◌, ◌+◌, ◌++◌, ◌∷◌, ◌∙◌, [], ℕ, List, length, map, take, ap, sym, subst, arith}
-use Rattle.std.specs.Prelude.{slice_get, get_or, Some}
+use Rattle.std.specs.Prelude.{get_or, Some}
 use Rattle.std.specs.declared.sync.Arc.{Arc}
 use Rattle.std.proofs.lemmas.List.{length-map, get_or-map, take_more}
 use Rattle.std.proofs.lemmas.Option.{slice_get-get_or}

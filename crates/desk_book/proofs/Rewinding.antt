@@ -1,8 +1,7 @@
 -- Going back to a state, some calls ago.
-use Rattle.std.proofs.Common.{◌≡◌, ◌≤◌, ◌+◌, ◌++◌, ◌∙◌, ◌⊎◌, inl, inr, ℕ, List, [], ◌∷◌, length, take, refl, ap, sym, arith, length-append}
+use Rattle.std.proofs.Common.{◌≡◌, ◌≤◌, ◌+◌, ◌∙◌, inl, inr, ℕ, List, [], ◌∷◌, length, take, refl, ap, sym, arith, length-append}
 use Rattle.std.proofs.Math.Seq.{take-length, take-append_seam}
 use Rattle.std.proofs.lemmas.List.{take-take}
-use Rattle.auction_terms.specs.declared.rules.Rules.{Rules}
 use Rattle.bid_book.specs.declared.records.Entry.{Entry}
 use Rattle.desk_line.specs.Fronts.{Step, AreSteps, Follows, state_after}
 use Rattle.desk_line.specs.declared.machine.Mark.{Mark}

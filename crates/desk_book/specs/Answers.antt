@@ -1,5 +1,5 @@
 -- What a desk makes of calls.
-use Rattle.std.specs.Prelude.{ℕ, List, [], ◌≡◌, ◌⊎◌, Bool, Option, Some, None, Result, Ok, Err, if◌then◌else◌, length}
+use Rattle.std.specs.Prelude.{ℕ, List, [], ◌≡◌, ◌⊎◌, Option, Some, None, Result, Ok, Err, if◌then◌else◌, length}
 use Rattle.desk_line.specs.declared.machine.Front.{Front}
 use Rattle.desk_book.specs.Calls.{Whole, call_at, front_of, meant}
 use Rattle.desk_book.specs.Judging.{judged}

@@ -1,5 +1,5 @@
 -- The lines of replies.
-use Rattle.std.specs.Prelude.{ℕ, List, [], ◌∷◌, ◌++◌, ◌==◌, Option, Some, None, codes, decimal, filter, length}
+use Rattle.std.specs.Prelude.{ℕ, List, [], ◌∷◌, ◌++◌, ◌==◌, codes, decimal, filter, length}
 use Rattle.auction_terms.specs.Terms.{Terms}
 use Rattle.desk_book.specs.Digests.{sha_digits}
 use Rattle.desk_book.specs.Entries.{answer_word, name_word}

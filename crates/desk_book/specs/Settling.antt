@@ -1,5 +1,5 @@
 -- The input of a closed round.
-use Rattle.std.specs.Prelude.{ℕ, List, [], ◌≡◌, ◌++◌, Option, Some, None, zero, suc, codes, length}
+use Rattle.std.specs.Prelude.{ℕ, List, [], ◌≡◌, ◌++◌, Option, Some, None, zero, suc, codes}
 use Rattle.bid_book.specs.History.{standing_of}
 use Rattle.bid_book.specs.declared.records.Entry.{Entry}
 use Rattle.bid_book.specs.declared.standing.Standing.{Standing}

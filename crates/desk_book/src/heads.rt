@@ -24,7 +24,6 @@ fn end_in(bytes: &[u8]) -> Option<usize>
 }
 
 // Those of these bytes that a head line may have.
-#[tactic(auto, using(std::proofs::lemmas::List::take_all))]
 fn head_room(bytes: &[u8]) -> &[u8]
     ensures room { result.now ≡ take HEAD_LIMIT bytes.now }
     ensures within { (length result.now ≤ length bytes.now) × (length result.now ≤ 1024) }

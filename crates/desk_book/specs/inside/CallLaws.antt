@@ -1,5 +1,5 @@
 -- A whole call is one whatever follows it, and it has bytes, no more than there are.
-use Rattle.std.proofs.Common.{◌≡◌, ◌<◌, ◌≤◌, ◌+◌, ◌-◌, ◌++◌, ◌∙◌, ℕ, Bool, true, false, List, Option, Some, None, length, get_or, take, drop, refl, ap, sym, subst, arith, length-append, length-drop}
+use Rattle.std.proofs.Common.{◌≡◌, ◌<◌, ◌≤◌, ◌+◌, ◌++◌, ◌∙◌, ℕ, Bool, true, false, List, Option, Some, None, length, get_or, take, drop, refl, ap, sym, subst, arith, length-append, length-drop}
 use Rattle.std.proofs.Math.ListN.{get_or-append}
 use Rattle.std.proofs.lemmas.Bool.{lt-ltb, leb-true, le-leb}
 use Rattle.std.proofs.lemmas.List.{drop-append-le, drop-take, get_or-take, length-take, length-take-le, take-append-le, take-take}
@@ -8,7 +8,7 @@ use Rattle.std.proofs.lemmas.List.Quantifiers.{position-Some}
 use Rattle.std.specs.List.{position, position_or_len}
 use Rattle.std.specs.Prelude.{◌==◌, if◌then◌else◌, nat_le, nat_lt}
 use Rattle.auction_terms.specs.Terms.{Terms}
-use Rattle.desk_book.specs.Calls.{Head, Alone, OfForm, Means, Stands, Whole, Short, Wrong, Submit, call_at, call_ending, call_of_head, head_fields, head_of, line_end}
+use Rattle.desk_book.specs.Calls.{Head, Alone, OfForm, Means, Whole, Short, Wrong, Submit, call_at, call_ending, call_of_head, head_fields, head_of, line_end}
 use Rattle.desk_book.specs.declared.calls.Who.{Who}
 use Rattle.desk_book.specs.declared.limits.TheConstants.{HEAD_LIMIT}
 

@@ -1,11 +1,11 @@
 -- Why a desk keeps the laws of what answers the calls of a line.
-use Rattle.std.proofs.Common.{◌≡◌, ◌<◌, ◌≤◌, ◌+◌, ◌++◌, ◌∙◌, ◌⊎◌, inl, inr, ℕ, List, [], length, take, ap, refl, sym, subst, arith}
+use Rattle.std.proofs.Common.{◌≡◌, ◌+◌, ◌++◌, ◌∙◌, inl, inr, ℕ, List, [], length, take, ap, refl, sym, subst, arith}
 use Rattle.auction_terms.specs.Terms.{Terms}
 use Rattle.desk_line.specs.Fronts.{IsFrontWithin}
 use Rattle.desk_line.specs.declared.machine.Front.{Front}
 use Rattle.desk_line.specs.declared.machine.Front.TheVariants as front
 use Rattle.desk_book.specs.Answers.{IsDeskAnswer, IsTold}
-use Rattle.desk_book.specs.Calls.{Means, Stands, Whole, Short, Wrong, call_at, front_of}
+use Rattle.desk_book.specs.Calls.{Stands, Whole, Short, Wrong, call_at, front_of}
 use Rattle.desk_book.specs.declared.calls.Call.{Call}
 use Rattle.desk_book.specs.declared.desk.Desk.{Desk}
 use Rattle.desk_book.specs.inside.CallLaws.{call-stays, call-within}

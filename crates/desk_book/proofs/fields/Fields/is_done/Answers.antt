@@ -1,4 +1,4 @@
-use Rattle.std.proofs.Common.{◌≡◌, ◌==◌, ◌+◌, ◌∷◌, ◌∙◌, ℕ, Bor, Bool, false, List, [], Option, Some, ap, arith, length, option_map, refl}
+use Rattle.std.proofs.Common.{◌≡◌, ◌==◌, ◌+◌, ◌∷◌, ◌∙◌, ℕ, Bor, false, List, [], Option, Some, ap, arith, length, option_map, refl}
 use Rattle.std.proofs.lemmas.List.Splits.{length-slice_split}
 use Rattle.std.specs.List.{slice_split}
 use Rattle.std.specs.Prelude.{count_by}
