@@ -1,8 +1,8 @@
 -- Steps and batches, one more.
-use Rattle.std.proofs.Common.{◌≡◌, ◌<◌, ◌≤◌, ◌+◌, ◌++◌, ◌∙◌, ℕ, zero, suc, List, [], ◌∷◌, Option, Some, None, Bool, true, false, length, take, drop, refl, ap, sym, subst, append_assoc, append-nil, arith, length-append}
+use Rattle.std.proofs.Common.{◌≡◌, ◌<◌, ◌≤◌, ◌+◌, ◌++◌, ◌∙◌, ℕ, zero, suc, List, [], ◌∷◌, Option, Some, None, true, false, length, take, drop, refl, ap, sym, subst, append_assoc, append-nil, arith, length-append}
 use Rattle.std.proofs.lemmas.List.{take-append-drop, drop-take, length-take-le, take-take}
 use Rattle.std.specs.Io.KnownBytes.{Consumes, append_known}
-use Rattle.desk_line.specs.Fronts.{Step, calls_in, replies_in, entries_in, state_after, AreSteps, IsFrontWithin}
+use Rattle.desk_line.specs.Fronts.{Step, calls_in, replies_in, entries_in, state_after, AreSteps}
 use Rattle.desk_line.specs.Served.{Batch, LineState, calls_of, line_with, line_after, AreBatches, IsServed, disk_full, disk_full_times}
 use Rattle.desk_line.specs.inside.Pieces.{IsBatchAnswered, IsPieceTaken}
 use Rattle.desk_line.specs.declared.machine.Front.{Front}
@@ -75,6 +75,13 @@ module _ {M : Type 0} (fronts : M → List ℕ → Front → Type 0) (answers : 
   call_found m whole bytes n short is =
       subst (λ k. fronts m (take n bytes) (Whole k)) (sym (length-take-le n bytes short))
       (subst (λ (l : List ℕ). fronts m l (Whole n)) (append-nil (take n bytes)) (whole bytes [] n is))
+
+  -- what stands at the front of bytes was the same before steps
+  pub front_before_steps : ((m n : M) (call reply entry : List ℕ) → answers m call reply entry n → (bytes : List ℕ) (f : Front) → fronts n bytes f → fronts m bytes f)
+      → (m : M) (steps : List (Step M)) (bytes : List ℕ) (f : Front) → AreSteps fronts answers m steps → fronts (state_after m steps) bytes f → fronts m bytes f
+  front_before_steps before m [] bytes f are is = is
+  front_before_steps before m (s ∷ steps) bytes f are is =
+      before m s.next s.call s.reply s.entry are.1 bytes f (front_before_steps before s.next steps bytes f are.2 is)
 
   -- nothing is answered yet
   pub answered_nothing : (m : M) (bytes : List ℕ) → IsBatchAnswered fronts answers m m bytes [] [] 0 0 []

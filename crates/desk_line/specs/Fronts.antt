@@ -1,5 +1,5 @@
 -- What stands at the front of bytes, and what calls make of a state.
-use Rattle.std.specs.Prelude.{ℕ, List, [], ◌∷◌, ◌≡◌, ◌<◌, ◌≤◌, ◌++◌, length, ⊤}
+use Rattle.std.specs.Prelude.{ℕ, List, [], ◌∷◌, ◌≡◌, ◌<◌, ◌≤◌, ◌++◌, Bool, true, false, length, ⊤}
 use Rattle.desk_line.specs.declared.machine.Front.{Front}
 use Rattle.desk_line.specs.declared.machine.Front.TheVariants.{Whole, Short, Wrong}
 
@@ -8,6 +8,11 @@ abbrev pub IsFrontWithin : List ℕ → Front → Type 0
 IsFrontWithin bytes (Whole n) = (0 < n) × (n ≤ length bytes)
 IsFrontWithin bytes Short = ⊤
 IsFrontWithin bytes Wrong = ⊤
+
+-- what stands at the front of what is left of an input, by whether no call can begin so: no whole call in any case
+abbrev pub front_left : Bool → Front
+front_left true = Wrong
+front_left false = Short
 
 -- a call, what it is told, its entry, and the state after it
 pub record Step (M : Type 0) : Type 0 where

@@ -1,5 +1,5 @@
 -- What a line tells and keeps: its calls in batches, of each of which all is kept, or nothing.
-use Rattle.std.specs.Prelude.{ℕ, List, [], ◌∷◌, ◌≡◌, ◌+◌, ◌++◌, Bool, true, false, Option, zero, suc, if◌then◌else◌, length, codes, ⊤}
+use Rattle.std.specs.Prelude.{ℕ, List, [], ◌∷◌, ◌≡◌, ◌+◌, ◌++◌, Bool, Option, zero, suc, if◌then◌else◌, length, codes, ⊤}
 use Rattle.std.specs.Io.KnownBytes.{append_known}
 use Rattle.desk_line.specs.Fronts.{Step, calls_in, replies_in, entries_in, state_after, AreSteps}
 use Rattle.desk_line.specs.declared.machine.Front.{Front}

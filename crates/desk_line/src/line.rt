@@ -1,10 +1,10 @@
 //! Answering the calls of an input.
 
-ghost use Rattle.std.specs.Prelude.{◌≡◌, ◌≤◌, ◌++◌, List, length, drop, IfOk, OnOk};
-ghost use Rattle.std.specs.Io.KnownBytes.{Consumes};
-ghost use Rattle.desk_line.specs.Fronts.{Step};
+ghost use Rattle.std.specs.Prelude.{◌≡◌, ◌≤◌, ◌++◌, List, false, length, drop, IfOk, OnOk};
+ghost use Rattle.std.specs.Io.KnownBytes.{Consumes, IsAtEnd};
+ghost use Rattle.desk_line.specs.Fronts.{Step, front_left};
 ghost use Rattle.desk_line.specs.Served.{Batch, IsServed, calls_of, disk_full_times};
-ghost use Rattle.desk_line.specs.inside.Pieces.{HasNoCall, IsBatchAnswered, IsPieceTaken};
+ghost use Rattle.desk_line.specs.inside.Pieces.{IsBatchAnswered, IsPieceTaken};
 ghost use Rattle.desk_line.specs.declared.line.Stop.TheVariants.{OutOfMemory, Untold as untold};
 
 use crate::machine::{Front, Machine};
@@ -64,7 +64,7 @@ struct Answered {
 fn answer<M: Machine>(alloc: Global, machine: &mut M, bytes: &[u8]) -> Result<Answered, AllocError>
     ensures answered { IfOk result (λ a. (steps : List (Step M)) × IsBatchAnswered M.fronts M.answers
         machine.old machine.new bytes.now a.told.items a.kept.items a.used a.count steps) }
-    ensures none { IfOk result (λ a. HasNoCall M.fronts machine.new (drop a.used bytes.now)) }
+    ensures left { IfOk result (λ a. M.fronts machine.new (drop a.used bytes.now) (front_left a.is_wrong)) }
 {
     let mut told = Vec::new(alloc);
     let mut kept = Vec::new(alloc);
@@ -125,7 +125,7 @@ fn take_piece<M: Machine, O: Outside>(
     out: &mut O,
 ) -> Result<bool, Stop>
     requires { M.extent machine.old ≡ O.extent out.old }
-    ensures { OnOk result ((batch : Batch M) × IsPieceTaken M.fronts M.answers M.begun M.extent (record {
+    ensures taken { OnOk result ((batch : Batch M) × IsPieceTaken M.fronts M.answers M.begun M.extent (record {
       state = machine.old;
       kept = O.durable out.old;
       extent = O.extent out.old;
@@ -138,6 +138,7 @@ fn take_piece<M: Machine, O: Outside>(
       told = O.told out.new;
       failures = O.failures out.new;
     }) (rest.old.items ++ piece.now) rest.new.items batch) }
+    ensures left { IfOk result (λ is_wrong. M.fronts machine.new rest.new.items (front_left is_wrong)) }
 {
     rest.extend_from_slice(piece)?;
     machine.begin();
@@ -167,8 +168,8 @@ pub fn serve<I: Read, M: Machine, O: Outside>(
     out: &mut O,
 ) -> Result<Left, Stop>
     requires { M.extent machine.old ≡ O.extent out.old }
-    // What was told and kept is what batches of the calls that were read make of it, and behind these stands no whole call.
-    ensures { IfOk result (λ left. (batches : List (Batch M)) × IsServed M.fronts M.answers
+    // What was told and kept is what batches of the calls that were read make of it.
+    ensures served { IfOk result (λ left. (batches : List (Batch M)) × IsServed M.fronts M.answers
         M.begun M.extent (record {
           state = machine.old;
           kept = O.durable out.old;
@@ -182,6 +183,10 @@ pub fn serve<I: Read, M: Machine, O: Outside>(
           told = O.told out.new;
           failures = O.failures out.new;
         }) batches × Consumes (I.remaining input.old) (I.remaining input.new) (calls_of batches ++ left.bytes.items)) }
+    // No whole call is left.
+    ensures left { IfOk result (λ left. M.fronts machine.new left.bytes.items (front_left left.is_wrong)) }
+    // Nothing is left unread, unless no call can begin as what is left.
+    ensures end { IfOk result (λ left. left.is_wrong ≡ false → IsAtEnd (I.remaining input.new)) }
 {
     let mut rest: Vec<u8> = Vec::new(alloc);
     let mut block = [0u8; BLOCK_LEN];

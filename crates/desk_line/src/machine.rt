@@ -1,9 +1,9 @@
 //! What answers calls.
 
-ghost use Rattle.std.specs.Prelude.{◌≡◌, ◌+◌, ◌++◌, List, ℕ, length, take, OnOk};
+ghost use Rattle.std.specs.Prelude.{◌≡◌, ◌+◌, ◌++◌, [], List, ℕ, length, take, OnOk};
 ghost use Rattle.desk_line.specs.Fronts.{IsFrontWithin, Follows};
 ghost use Rattle.desk_line.specs.declared.machine.Front.{Front};
-ghost use Rattle.desk_line.specs.declared.machine.Front.TheVariants.{Whole};
+ghost use Rattle.desk_line.specs.declared.machine.Front.TheVariants.{Whole, Short};
 ghost use Rattle.desk_line.specs.declared.machine.Mark.{Mark};
 
 use std::alloc::{AllocError, Global};
@@ -77,6 +77,13 @@ pub trait Machine {
     /// A whole call is one whatever follows it.
     ghost front_whole: { (m : Self) (bytes more : List ℕ) (n : ℕ)
         → fronts m bytes (Whole n) → fronts m (take n bytes ++ more) (Whole n) };
+
+    /// No bytes are the beginning of a call.
+    ghost front_nothing: { (m : Self) → fronts m [] Short };
+
+    /// An answer doesn't change what stands at the front of bytes.
+    ghost front_before: { (m n : Self) (call reply entry : List ℕ) → answers m call reply entry n
+        → (bytes : List ℕ) (f : Front) → fronts n bytes f → fronts m bytes f };
 
     /// A state knows the entries that it made.
     ghost extent_after: { (m n : Self) (call reply entry : List ℕ) → answers m call reply entry n

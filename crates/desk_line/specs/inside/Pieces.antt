@@ -1,21 +1,8 @@
 -- What is answered of a piece of an input.
-use Rattle.std.specs.Prelude.{ℕ, List, ◌≡◌, ◌≤◌, ◌++◌, length, take, ⊤}
+use Rattle.std.specs.Prelude.{ℕ, List, ◌≡◌, ◌≤◌, ◌++◌, length, take}
 use Rattle.desk_line.specs.Fronts.{Step, calls_in, replies_in, entries_in, state_after, AreSteps}
 use Rattle.desk_line.specs.Served.{Batch, LineState, line_with}
 use Rattle.desk_line.specs.declared.machine.Front.{Front}
-use Rattle.desk_line.specs.declared.machine.Front.TheVariants.{Whole, Short, Wrong}
-
--- no whole call stands there
-abbrev pub IsNoCall : Front → Type 0
-IsNoCall (Whole n) = ⊥
-IsNoCall Short = ⊤
-IsNoCall Wrong = ⊤
-
--- no whole call stands at the front of these bytes
-pub record HasNoCall {M : Type 0} (fronts : M → List ℕ → Front → Type 0) (m : M) (bytes : List ℕ) : Type 0 where
-  pub front : Front
-  pub stands : fronts m bytes front
-  pub none : IsNoCall front
 
 -- what was answered of some bytes: the calls of these steps, at their front
 pub record IsBatchAnswered {M : Type 0} (fronts : M → List ℕ → Front → Type 0) (answers : M → List ℕ → List ℕ → List ℕ → M → Type 0)

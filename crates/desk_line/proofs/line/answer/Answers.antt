@@ -1,9 +1,7 @@
-use Rattle.std.proofs.Common.{◌≡◌, ◌<◌, ◌≤◌, ◌-◌, ◌+◌, ◌++◌, ◌∷◌, ◌∙◌, [], List, ℕ, length, take, drop, ap, sym, subst, arith, length-drop, refl}
+use Rattle.std.proofs.Common.{◌≤◌, ◌-◌, ◌+◌, ◌++◌, ◌∷◌, [], List, ℕ, length, take, drop, ap, arith, length-drop}
 use Rattle.std.proofs.lemmas.List.{take_rest}
-use Rattle.desk_line.specs.Fronts.{Step, IsFrontWithin}
-use Rattle.desk_line.specs.inside.Pieces.{IsBatchAnswered, HasNoCall}
-use Rattle.desk_line.specs.declared.machine.Front.{Front}
-use Rattle.desk_line.specs.declared.machine.Front.TheVariants.{Whole, Short, Wrong}
+use Rattle.desk_line.specs.Fronts.{Step}
+use Rattle.desk_line.specs.declared.machine.Front.TheVariants.{Whole}
 use Rattle.desk_line.proofs.Lines.{answered_nothing, answered-push, call_found}
 use Rattle.desk_line.proofs.line.answer.Goals as goal
 

@@ -1,4 +1,4 @@
-use Rattle.std.proofs.Common.{◌≡◌, ◌+◌, ◌++◌, ◌∙◌, ℕ, List, ap, sym, add-one}
+use Rattle.std.proofs.Common.{◌++◌, ◌∙◌, ℕ, List, ap, sym, add-one}
 use Rattle.desk_line.specs.Served.{disk_full, disk_full_times}
 use Rattle.desk_line.proofs.Lines.{disk_full_more}
 use Rattle.desk_line.proofs.line.disk_full_lines.Goals as goal

@@ -1,7 +1,8 @@
-use Rattle.std.proofs.Common.{◌≡◌, ◌≤◌, ◌+◌, ◌++◌, ◌∙◌, true, false, List, length, ℕ, drop, ap, sym, subst, arith}
+use Rattle.std.proofs.Common.{◌≡◌, ◌+◌, ◌++◌, ◌∙◌, true, false, List, length, ℕ, drop, ap, sym, subst, arith}
 use Rattle.std.specs.Io.KnownBytes.{append_known}
-use Rattle.desk_line.specs.inside.Pieces.{IsBatchAnswered, HasNoCall}
-use Rattle.desk_line.proofs.Lines.{answered_extent, taken_kept, taken_full}
+use Rattle.desk_line.specs.Fronts.{front_left}
+use Rattle.desk_line.specs.inside.Pieces.{IsBatchAnswered}
+use Rattle.desk_line.proofs.Lines.{answered_extent, front_before_steps, taken_kept, taken_full}
 use Rattle.desk_line.proofs.line.take_piece.Goals as goal
 
 pub drop_front-requires : goal.drop_front-requires
@@ -27,8 +28,8 @@ tell-requires-in-Err-Full g c =
     ap m.extent back ∙ ap m.extent c.begin.ensures ∙ g.met.M.Machine.extent_begun c.args.machine.now ∙ c.requires
     ∙ sym (c.in-Err-Full.ensures.unkept c.in-Err-Full.field-0-is).1
 
-pub returns-in-Ok : goal.returns-in-Ok
-returns-in-Ok g c =
+pub returns-in-Ok-clause-taken : goal.returns-in-Ok-clause-taken
+returns-in-Ok-clause-taken g c =
     let m = g.M.Machine in
     let o = g.O.Outside in
     let buf : List ℕ = c.args.rest.now.items ++ c.args.piece.now in
@@ -55,8 +56,8 @@ returns-in-Ok g c =
           (c.tell.ensures.failures ∙ c.in-Ok.ensures.failures) left,
     )
 
-pub returns-in-Err-Full : goal.returns-in-Err-Full
-returns-in-Err-Full g c =
+pub returns-in-Err-Full-clause-taken : goal.returns-in-Err-Full-clause-taken
+returns-in-Err-Full-clause-taken g c =
     let m = g.M.Machine in
     let o = g.O.Outside in
     let buf : List ℕ = c.args.rest.now.items ++ c.args.piece.now in
@@ -85,3 +86,23 @@ returns-in-Err-Full g c =
           ∙ ap (append_known (o.told c.args.out.now)) c.as_slice-in-Err-Full.ensures.value)
           (c.tell-in-Err-Full.ensures.failures ∙ c.in-Err-Full.ensures.full is_full) left,
     )
+
+pub returns-in-Ok-clause-left : goal.returns-in-Ok-clause-left
+returns-in-Ok-clause-left g c =
+    let answered = c.in_ok-answered.answered in
+    let bytes : c.as_slice.result.now ≡ c.args.rest.now.items ++ c.args.piece.now = c.as_slice.ensures.value ∙ c.in_ok-extend_from_slice.ensures.items in
+    let left = ap (drop answered.used) bytes ∙ sym (c.in_ok-drop_front.ensures ∙ ap (drop answered.used) c.in_ok-extend_from_slice.ensures.items) in
+    subst (λ (l : List ℕ). g.M.Machine.fronts c.answer.new.machine l (front_left answered.is_wrong)) left c.in_ok-answered.ensures.left
+
+pub returns-in-Err-Full-clause-left : goal.returns-in-Err-Full-clause-left
+returns-in-Err-Full-clause-left g c =
+    let found = c.in_ok-answered.ensures.answered in
+    let answered = c.in_ok-answered.answered in
+    let bytes : c.as_slice.result.now ≡ c.args.rest.now.items ++ c.args.piece.now = c.as_slice.ensures.value ∙ c.in_ok-extend_from_slice.ensures.items in
+    let left = ap (drop answered.used) bytes ∙ sym (c.in_ok-drop_front.ensures ∙ ap (drop answered.used) c.in_ok-extend_from_slice.ensures.items) in
+    let back : c.rewind.new.self ≡ c.begin.new.self =
+    c.in_ok-rewind-in-Err-Full.ensures c.begin.new.self (found.0, found.1.steps_are, found.1.state_is) c.mark-mark.ensures in
+    let here = subst (λ (l : List ℕ). g.M.Machine.fronts c.answer.new.machine l (front_left answered.is_wrong)) left c.in_ok-answered.ensures.left in
+    subst (λ (s : g.row.M.Denot). g.M.Machine.fronts s c.drop_front.new.bytes.items (front_left answered.is_wrong)) (sym back)
+    (front_before_steps g.M.Machine.fronts g.M.Machine.answers g.met.M.Machine.front_before c.begin.new.self found.0 c.drop_front.new.bytes.items (front_left answered.is_wrong)
+    found.1.steps_are (subst (λ (s : g.row.M.Denot). g.M.Machine.fronts s c.drop_front.new.bytes.items (front_left answered.is_wrong)) found.1.state_is here))
