@@ -2,7 +2,7 @@
 use Rattle.std.specs.Prelude.{ℕ, List, [], ◌∷◌, ◌+◌, ◌-◌, ◌&&◌, ◌||◌, ◌==◌, Bool, Option, Some, None, codes, drop, if◌then◌else◌, length, nat_le, nat_lt, option_map, slice_get, take}
 use Rattle.std.specs.Char.{is_ascii_digit}
 use Rattle.std.specs.List.{list_all, position, slice_split}
-use Rattle.std.specs.Option.{option_and_then, option_map_or}
+use Rattle.std.specs.Option.{option_map_or}
 use Rattle.std.specs.Str.{bytes_eq}
 use Rattle.auction_terms.specs.Numbers.{number_of}
 use Rattle.auction_terms.specs.RulesText.{is_between}
@@ -17,6 +17,7 @@ use Rattle.desk_book.specs.declared.calls.Found.{Found}
 use Rattle.desk_book.specs.declared.calls.Found.TheVariants as found
 use Rattle.desk_book.specs.declared.calls.Who.{Who}
 use Rattle.desk_book.specs.declared.limits.TheConstants.{HEAD_LIMIT, SEALED_LIMIT}
+use Rattle.desk_book.specs.inside.Then.{◌>>=◌}
 
 -- what a call asks for
 pub data Means : Type 0 where
@@ -36,11 +37,6 @@ pub data Stands : Type 0 where
 -- the fields of a head line, parted by single blanks
 abbrev pub head_fields : List ℕ → List (List ℕ)
 head_fields line = slice_split (λ b. b == 32) line
-
--- what is made of something, if it is there
-infixl 10 ◌>>=◌
-abbrev pub ◌>>=◌ : {X Y : Type 0} → Option X → (X → Option Y) → Option Y
-found >>= make = option_and_then make found
 
 -- a number up to this one
 abbrev pub number_up_to : ℕ → List ℕ → Option ℕ

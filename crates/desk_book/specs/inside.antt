@@ -4,3 +4,4 @@ pub mod Found
 pub mod Lines
 pub mod MachineLaws
 pub mod Marks
+pub mod Then

@@ -1,15 +1,16 @@
 //! The desk as what answers the calls of a line.
 
-ghost use Rattle.std.specs.Prelude.{◌≡◌, ◌∷◌, ◌++◌, [], List, IfOk, OnOk, length, refl, take};
-ghost use Rattle.std.specs.Io.KnownBytes.{Consumes};
+ghost use Rattle.std.specs.Prelude.{◌≡◌, ◌∷◌, ◌++◌, [], List, IfOk, OnOk, false, length, refl, take};
+ghost use Rattle.std.specs.Io.KnownBytes.{Consumes, IsAtEnd};
 ghost use Rattle.bid_book.specs.History.{IsRightAfterBy, entry_value};
+ghost use Rattle.desk_line.specs.Fronts.{front_left};
 ghost use Rattle.desk_line.specs.Served.{Batch, IsServed, calls_of};
 ghost use Rattle.desk_book.specs.Answers.{IsDeskAnswer, IsDeskFront, all_durable};
 ghost use Rattle.desk_book.specs.Calls.{Whole, call_at, front_of, meant};
 ghost use Rattle.desk_line.specs.declared.machine.Front.TheVariants as front;
 ghost use Rattle.desk_book.specs.inside.Marks.{mark_of};
 ghost use Rattle.desk_book.specs.declared.desk.Desk.{Desk};
-ghost use Rattle.desk_book.specs.inside.MachineLaws.{extent_after, front_whole, front_within};
+ghost use Rattle.desk_book.specs.inside.MachineLaws.{extent_after, front_before, front_nothing, front_whole, front_within};
 
 use crate::answering::Told;
 use crate::calls::{Call, Found, find_call};
@@ -37,6 +38,10 @@ impl<J: Judge + Drop> Machine for Desk<J> {
     ghost front_within = { λ m bytes f is. front_within m.rules bytes f is };
 
     ghost front_whole = { λ m bytes more n is. front_whole m.rules bytes more n is };
+
+    ghost front_nothing = { λ m. front_nothing m.rules };
+
+    ghost front_before = { λ m n call reply entry is bytes f at. front_before J.faults m n call reply entry is bytes f at };
 
     ghost extent_after = { λ m n call reply entry is. extent_after J.faults m n call reply entry is };
 
@@ -138,7 +143,7 @@ pub fn serve_calls<J: Judge + Drop, I: Read, O: Outside>(
 ) -> Result<Left, Stop>
     requires { desk.old.extent ≡ O.extent out.old }
     // What was told and kept is what batches of the calls that were read make of it, each as its state has to answer the call that stands in its bytes.
-    ensures { IfOk result (λ left. (batches : List (Batch (Desk J))) × IsServed (λ m bytes f. IsDeskFront m bytes f)
+    ensures served { IfOk result (λ left. (batches : List (Batch (Desk J))) × IsServed (λ m bytes f. IsDeskFront m bytes f)
         (λ m call reply entry n. IsDeskAnswer J.faults m call reply entry n) all_durable (λ m. m.extent) (record {
           state = desk.old;
           kept = O.durable out.old;
@@ -152,6 +157,10 @@ pub fn serve_calls<J: Judge + Drop, I: Read, O: Outside>(
           told = O.told out.new;
           failures = O.failures out.new;
         }) batches × Consumes (I.remaining input.old) (I.remaining input.new) (calls_of batches ++ left.bytes.items)) }
+    // No whole call is left.
+    ensures left { IfOk result (λ left. IsDeskFront desk.new left.bytes.items (front_left left.is_wrong)) }
+    // Nothing is left unread, unless no call can begin as what is left.
+    ensures end { IfOk result (λ left. left.is_wrong ≡ false → IsAtEnd (I.remaining input.new)) }
 {
     serve(alloc, input, desk, out)
 }

@@ -4,9 +4,10 @@ use Rattle.std.specs.List.{slice_split}
 use Rattle.auction_terms.specs.Numbers.{number_of}
 use Rattle.auction_terms.specs.Terms.{Terms}
 use Rattle.auction_terms.specs.declared.limits.TheConstants.{TEXT_LIMIT}
-use Rattle.desk_book.specs.Calls.{Head, Alone, OfForm, Withdraw, Show, Close, ◌>>=◌, bidder_called, change_named, digest_named, number_up_to, over_named, session_named}
+use Rattle.desk_book.specs.Calls.{Head, Alone, OfForm, Withdraw, Show, Close, bidder_called, change_named, digest_named, number_up_to, over_named, session_named}
 use Rattle.desk_book.specs.declared.calls.Who.{Who}
 use Rattle.desk_book.specs.declared.limits.TheConstants.{SEALED_LIMIT}
+use Rattle.desk_book.specs.inside.Then.{◌>>=◌}
 
 -- the fields in what is left of a line
 abbrev pub fields_left : Option (List ℕ) → List (List ℕ)

@@ -31,6 +31,11 @@ module _ (rules : Terms) (bytes : List ℕ) where
       → front.Whole n ≡ front_of (call_at rules (take n bytes ++ more))
   front_whole more n is = stands_whole more n (call_at rules bytes) refl is
 
+-- no bytes are the beginning of a call
+pub front_nothing : (rules : Terms) → front.Short ≡ front_of (call_at rules [])
+unfolding call_at
+front_nothing rules = refl
+
 module _ {J : Type 0} (faults : J → List ℕ → List ℕ → List ℕ) (m n : Desk J) (bytes reply entry : List ℕ) where
   same_extent : entry ≡ [] → n ≡ m → n.extent ≡ m.extent + length entry
   same_extent none same = ap (λ d. d.extent) same ∙ (let len : length entry ≡ 0 = ap length none in omega (arith, len))
@@ -41,3 +46,11 @@ module _ {J : Type 0} (faults : J → List ℕ → List ℕ → List ℕ) (m n :
 
   pub extent_after : IsDeskAnswer faults m bytes reply entry n → n.extent ≡ m.extent + length entry
   extent_after is = told_extent is.call is.told
+
+  told_rules : (c : Call) → IsTold faults m c reply entry n → n.rules ≡ m.rules
+  told_rules c (inl is) = ap (λ d. d.rules) is.1.same
+  told_rules c (inr is) = is.recorded.rules
+
+  pub front_before : IsDeskAnswer faults m bytes reply entry n → (more : List ℕ) (f : Front) → f ≡ front_of (call_at n.rules more)
+      → f ≡ front_of (call_at m.rules more)
+  front_before is more f at = at ∙ ap (λ (r : Terms). front_of (call_at r more)) (told_rules is.call is.told)
