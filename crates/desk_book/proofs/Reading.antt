@@ -2,8 +2,10 @@
 use Rattle.std.proofs.Common.{◌≡◌, ℕ, List, [], ◌∷◌, Option, Some, None, refl}
 use Rattle.std.specs.Option.{option_and_then}
 use Rattle.auction_terms.specs.Terms.{Terms}
-use Rattle.desk_book.specs.Calls.{close_head, show_head, submit_head, withdraw_head}
-use Rattle.desk_book.specs.inside.Fields.{close_left, show_left, submit_left, who_left, withdraw_left}
+use Rattle.auction_terms.specs.declared.limits.TheConstants.{TEXT_LIMIT}
+use Rattle.desk_book.specs.Calls.{close_head, number_up_to, show_head, submit_head, withdraw_head}
+use Rattle.desk_book.specs.Fronts.{rules_digest_in, rules_len_in}
+use Rattle.desk_book.specs.inside.Fields.{close_left, rules_digest_left, rules_len_left, show_left, submit_left, who_left, withdraw_left}
 
 -- nothing is made where nothing is made of whatever is there
 pub none_then : {X Y : Type 0} (o : Option X) → option_and_then {T = X} {U = Y} (λ x. None) o ≡ None
@@ -46,3 +48,22 @@ unfolding close_left
 close_same [] = refl
 close_same (a ∷ []) = refl
 close_same (a ∷ b ∷ more) = simp none_then
+
+pub rules_len_same : (fields : List (List ℕ)) → rules_len_left fields ≡ rules_len_in fields
+unfolding rules_len_left
+rules_len_same [] = refl
+rules_len_same (a ∷ []) = refl
+rules_len_same (a ∷ b ∷ []) = refl
+rules_len_same (a ∷ b ∷ c ∷ more) = none_then (number_up_to TEXT_LIMIT b)
+
+pub rules_digest_same : (fields : List (List ℕ)) → rules_digest_left fields ≡ rules_digest_in fields
+unfolding rules_digest_left
+rules_digest_same [] = refl
+rules_digest_same (a ∷ []) = refl
+rules_digest_same (a ∷ b ∷ []) = refl
+rules_digest_same (a ∷ b ∷ c ∷ []) = simp none_then
+rules_digest_same (a ∷ b ∷ c ∷ d ∷ []) = simp none_then
+rules_digest_same (a ∷ b ∷ c ∷ d ∷ e ∷ []) = simp none_then
+rules_digest_same (a ∷ b ∷ c ∷ d ∷ e ∷ f ∷ []) = simp none_then
+rules_digest_same (a ∷ b ∷ c ∷ d ∷ e ∷ f ∷ g ∷ []) = refl
+rules_digest_same (a ∷ b ∷ c ∷ d ∷ e ∷ f ∷ g ∷ h ∷ more) = simp none_then

@@ -2,6 +2,8 @@ pub mod Answers
 pub mod Calls
 pub mod Digests
 pub mod Entries
+pub mod Fronts
+pub mod Journals
 pub mod Judging
 pub mod Recording
 pub mod Replies

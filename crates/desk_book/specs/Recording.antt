@@ -1,5 +1,8 @@
 -- What is recorded of a call.
-use Rattle.std.specs.Prelude.{ℕ, List, [], ◌∷◌, ◌≡◌, ◌+◌, ◌-◌, ◌++◌, Bool, Option, Some, None, length, nat_le, option_map}
+use Rattle.std.specs.Prelude.{ℕ, List, [], ◌∷◌, ◌≡◌, ◌<◌, ◌+◌, ◌-◌, ◌^◌, ◌++◌, ◌||◌, ⊤, Bool, true, Option, Some, None, codes, length, nat_le, option_map}
+use Rattle.std.specs.Str.{bytes_eq}
+use Rattle.auction_terms.specs.Names.{is_name}
+use Rattle.auction_terms.specs.Terms.{Terms}
 use Rattle.bid_book.specs.History.{reply_due}
 use Rattle.bid_book.specs.declared.call.Caller.{Caller}
 use Rattle.bid_book.specs.declared.call.Caller.TheVariants as caller
@@ -8,7 +11,7 @@ use Rattle.bid_book.specs.declared.call.Call.TheVariants as book
 use Rattle.bid_book.specs.declared.reply.Reply.{Reply}
 use Rattle.bid_book.specs.declared.reply.Reply.TheVariants as reply
 use Rattle.bid_book.specs.declared.standing.Standing.{Standing}
-use Rattle.desk_book.specs.Entries.{chain_after, entry_front, sealed_of, with_chain}
+use Rattle.desk_book.specs.Entries.{chain_after, entry_front, name_word, sealed_of, with_chain}
 use Rattle.desk_book.specs.declared.answer.Answer.{Answer}
 use Rattle.desk_book.specs.declared.answer.Answer.TheVariants as answer
 use Rattle.desk_book.specs.declared.asked.Asked.{Asked}
@@ -71,9 +74,22 @@ module _ {J : Type 0} (old : Desk J) (a : Asked) where
   abbrev pub answer_due : Option Answer
   answer_due = answer_in reply_owed
 
+-- the name of a bidder, or a hyphen
+abbrev pub is_maker_word : List ℕ → Bool
+is_maker_word word = is_name word || bytes_eq word (codes "-")
+
+-- the word for who makes a call is one
+abbrev pub IsMakerNamed : Terms → Asked → Type 0
+IsMakerNamed rules (asked.Submit who over commit bids sealed) = is_maker_word (name_word rules who.bidder) ≡ true
+IsMakerNamed rules (asked.Withdraw who over) = is_maker_word (name_word rules who.bidder) ≡ true
+IsMakerNamed rules (asked.Show who) = is_maker_word (name_word rules who.bidder) ≡ true
+IsMakerNamed rules (asked.Close time) = ⊤
+
 -- a call is recorded with the reply that it is due, and the journal is longer by its entry
 pub record IsRecordedAs {J : Type 0} (old : Desk J) (a : Asked) (told : Answer) (text : List ℕ) (new : Desk J) : Type 0 where
   pub due : answer_due old a ≡ Some told
+  pub named : IsMakerNamed old.rules a
+  pub few : length old.book + 1 < 2 ^ 64
   pub book : new.book ≡ old.book ++ record
       { caller = made_by a; call = book_call (length old.book + 1) a; reply = reply_owed old a } ∷ []
   pub text_is : text ≡ with_chain old.chain (entry_front old.rules (length old.book + 1) a told old.durable)

@@ -4,4 +4,5 @@ pub mod Found
 pub mod Lines
 pub mod MachineLaws
 pub mod Marks
+pub mod Reading
 pub mod Then

@@ -1,6 +1,10 @@
 //! A desk: its rules, its book, and the end of its journal.
 
-ghost use Rattle.std.specs.Prelude.{◌≡◌, ◌+◌, length};
+ghost use Rattle.std.specs.Prelude.{◌≡◌, ◌≤◌, ◌+◌, Err, IfErr, IfOk, false, length, not};
+ghost use Rattle.auction_terms.specs.RulesText.{is_rules_memory};
+ghost use Rattle.bid_book.specs.History.{is_closed};
+ghost use Rattle.desk_book.specs.Fronts.{front_found};
+ghost use Rattle.desk_book.specs.Journals.{IsOpened, rules_read};
 
 use crate::commitment::Commitment;
 use crate::digests::digest_of;
@@ -48,13 +52,17 @@ fn count_entry(counts: &mut [Counts], entry: &Entry<Arc<Commitment, Global>>) {
 }
 
 impl<J: Judge + Drop> Desk<J> {
-    /// A desk whose journal has its front alone.
+    /// A desk whose journal is the front of these bytes alone.
     pub fn open(
         alloc: Global,
         judge: J,
         bytes: &[u8],
         front: &DeskFront<'_>,
-    ) -> Result<Desk<J>, RulesFault> {
+    ) -> Result<Desk<J>, RulesFault>
+        requires { front.now.len ≤ length bytes.now }
+        ensures opened { IfOk result (λ desk. IsOpened judge bytes.now (front_found front.now) desk) }
+        ensures refused { IfErr result (λ why. is_rules_memory why ≡ false → rules_read front.now.rules.now ≡ Err why) }
+    {
         let rules = read_rules(alloc, front.rules)?;
         let rules_text = Vec::from_slice(alloc, front.rules)?;
         Ok(Desk {
@@ -64,7 +72,7 @@ impl<J: Judge + Drop> Desk<J> {
             book: Book::new(alloc),
             extent: front.len as u64,
             durable: front.len as u64,
-            chain: digest_of(bytes),
+            chain: digest_of(&bytes[..front.len]),
         })
     }
 
@@ -122,12 +130,16 @@ impl<J: Judge + Drop> Desk<J> {
         &self.chain
     }
 
-    pub fn is_open(&self) -> bool {
+    pub fn is_open(&self) -> bool
+        ensures { result ≡ not (is_closed self.now.book) }
+    {
         self.book.is_open()
     }
 
     // Takes so many bytes of the journal as being on the disk.
-    pub(crate) fn set_durable(&mut self, durable: u64) {
+    pub(crate) fn set_durable(&mut self, durable: u64)
+        ensures { self.new ≡ record self.old { durable = durable } }
+    {
         self.durable = durable;
     }
 }

@@ -1,7 +1,8 @@
 //! The entries of a journal, as text.
 
-ghost use Rattle.std.specs.Prelude.{◌≡◌, ◌++◌, IfOk, OnOk};
+ghost use Rattle.std.specs.Prelude.{◌≡◌, ◌++◌, IfOk, OnOk, true};
 ghost use Rattle.desk_book.specs.Entries.{name_word, call_words, chain_after, entry_front, entry_head, entry_tail, maker_words, who_words, with_chain};
+ghost use Rattle.desk_book.specs.Recording.{IsMakerNamed, is_maker_word};
 ghost use Rattle.desk_book.specs.Words.{spaced};
 
 use crate::answer::Answer;
@@ -14,7 +15,8 @@ use std::alloc::{AllocError, Global};
 
 /// The name of a bidder.
 pub(crate) fn name_of(rules: &Rules, bidder: u16) -> &[u8]
-    ensures { result.now ≡ name_word rules.now bidder }
+    ensures name { result.now ≡ name_word rules.now bidder }
+    ensures word { is_maker_word result.now ≡ true }
 {
     let Some(place) = usize::from(bidder).checked_sub(1) else {
         return b"-".as_slice();
@@ -27,7 +29,8 @@ pub(crate) fn name_of(rules: &Rules, bidder: u16) -> &[u8]
 
 // Adds who makes a call, and when.
 fn add_who(text: &mut Vec<u8>, rules: &Rules, who: &Who) -> Result<(), AllocError>
-    ensures { OnOk result (text.new.items ≡ text.old.items ++ spaced (who_words rules.now who.now)) }
+    ensures named { OnOk result (is_maker_word (name_word rules.now who.now.bidder) ≡ true) }
+    ensures text { OnOk result (text.new.items ≡ text.old.items ++ spaced (who_words rules.now who.now)) }
 {
     add_next_number(text, who.time)?;
     add_next(text, name_of(rules, who.bidder))?;
@@ -36,7 +39,8 @@ fn add_who(text: &mut Vec<u8>, rules: &Rules, who: &Who) -> Result<(), AllocErro
 
 // Adds who makes a call that may be recorded, and when; a close is nobody's.
 fn add_maker(text: &mut Vec<u8>, rules: &Rules, asked: &Asked<'_>) -> Result<(), AllocError>
-    ensures { OnOk result (text.new.items ≡ text.old.items ++ spaced (maker_words rules.now asked.now)) }
+    ensures named { OnOk result (IsMakerNamed rules.now asked.now) }
+    ensures text { OnOk result (text.new.items ≡ text.old.items ++ spaced (maker_words rules.now asked.now)) }
 {
     match asked {
         Asked::Submit { who, .. } => add_who(text, rules, who),
@@ -67,7 +71,8 @@ fn add_head(
     asked: &Asked<'_>,
     durable: u64,
 ) -> Result<(), AllocError>
-    ensures { OnOk result (text.new.items ≡ text.old.items ++ entry_head rules.now number asked.now durable) }
+    ensures named { OnOk result (IsMakerNamed rules.now asked.now) }
+    ensures text { OnOk result (text.new.items ≡ text.old.items ++ entry_head rules.now number asked.now durable) }
 {
     text.extend_from_slice(b"%call")?;
     add_next_number(text, number)?;
@@ -99,7 +104,8 @@ pub(crate) fn front_text(
     answer: &Answer,
     durable: u64,
 ) -> Result<Vec<u8>, AllocError>
-    ensures { IfOk result (λ text. text.items ≡ entry_front rules.now number asked.now answer.now durable) }
+    ensures named { OnOk result (IsMakerNamed rules.now asked.now) }
+    ensures text { IfOk result (λ text. text.items ≡ entry_front rules.now number asked.now answer.now durable) }
 {
     let mut text = Vec::new(alloc);
     add_head(&mut text, rules, number, asked, durable)?;

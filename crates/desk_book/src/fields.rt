@@ -22,6 +22,7 @@ impl<'c> Fields<'c> {
     ghost use Rattle.std.specs.Prelude.{◌≡◌, ◌∷◌, ◌≤◌, [], IfSome, MatchOption, drop, option_map, slice_get};
     ghost use Rattle.auction_terms.specs.Numbers.{number_of};
     ghost use Rattle.desk_book.specs.Calls.{change_named, digest_named, head_fields, number_up_to, over_named};
+    ghost use Rattle.desk_book.specs.Fronts.{word_named};
     ghost use Rattle.desk_book.specs.inside.Fields.{first, no_field};
 
     pub(crate) fn of_line(line: &'c [u8]) -> Fields<'c>
@@ -82,7 +83,10 @@ impl<'c> Fields<'c> {
     }
 
     /// The next field, a word.
-    pub(crate) fn word(&mut self) -> Option<&'c [u8]> {
+    pub(crate) fn word(&mut self) -> Option<&'c [u8]>
+        ensures word { option_map (λ f. f.now) result ≡ first word_named self.old }
+        ensures rest { self.new ≡ drop 1 self.old }
+    {
         let field = self.next()?;
         if is_word(field) { Some(field) } else { None }
     }
@@ -98,9 +102,12 @@ impl<'c> Fields<'c> {
     }
 }
 
-ghost use Rattle.std.specs.Prelude.{◌≡◌, ◌∷◌, ◌==◌, ◌≤◌, IfSome, option_map};
+ghost use Rattle.std.specs.Prelude.{◌≡◌, ◌∷◌, ◌==◌, ◌<◌, ◌≤◌, ◌^◌, IfSome, Some, option_map};
 ghost use Rattle.std.specs.List.{list_all, position, slice_split};
 ghost use Rattle.desk_book.specs.Calls.{change_named, digest_named, is_hex_digit, number_up_to, over_named};
+ghost use Rattle.auction_terms.specs.RulesText.{is_between};
+ghost use Rattle.desk_book.specs.Fronts.{is_word};
+ghost use Rattle.desk_book.specs.Journals.{IsOver};
 ghost use Rattle.desk_book.specs.inside.Fields.{fields_left};
 
 const GREATEST_CHANGE: u64 = 999_999_999;
@@ -136,8 +143,10 @@ fn number_to(field: &[u8], most: u64) -> Option<usize>
     }
 }
 
-fn change_of(field: &[u8]) -> Option<u32>
-    ensures { result ≡ change_named field.now }
+/// The number of a change that a field gives.
+pub(crate) fn change_of(field: &[u8]) -> Option<u32>
+    ensures change { result ≡ change_named field.now }
+    ensures few { IfSome result (λ n. n < 10 ^ 9) }
 {
     let found = number(field)?;
     if found <= GREATEST_CHANGE {
@@ -147,8 +156,10 @@ fn change_of(field: &[u8]) -> Option<u32>
     }
 }
 
-fn over_of(field: &[u8]) -> Option<Option<u32>>
-    ensures { result ≡ over_named field.now }
+/// The number of a change that a field gives, or none for a hyphen.
+pub(crate) fn over_of(field: &[u8]) -> Option<Option<u32>>
+    ensures change { result ≡ over_named field.now }
+    ensures few { IfSome result IsOver }
 {
     if field == b"-".as_slice() {
         return Some(None);
@@ -170,7 +181,8 @@ fn are_digits(field: &[u8]) -> bool
 
 /// The digest whose hexadecimal digits these are.
 pub(crate) fn digest_in(field: &[u8]) -> Option<[u8; 64]>
-    ensures { result ≡ digest_named field.now }
+    ensures digest { result ≡ digest_named field.now }
+    ensures same { IfSome result (λ d. digest_named d ≡ Some d) }
 {
     if field.len() == 64 && are_digits(field) {
         let mut digest = [b'0'; 64];
@@ -181,8 +193,20 @@ pub(crate) fn digest_in(field: &[u8]) -> Option<[u8; 64]>
     }
 }
 
-fn is_word(field: &[u8]) -> bool {
-    !field.is_empty()
-        && field.len() <= 128
-        && field.iter().all(|byte| 0x21 <= *byte && *byte <= 0x7E)
+fn is_printable(byte: u8) -> bool
+    ensures { result ≡ is_between 33 126 byte }
+{
+    b'!' <= byte && byte <= b'~'
+}
+
+fn are_printable(field: &[u8]) -> bool
+    ensures { result ≡ list_all (λ b. is_between 33 126 b) field.now }
+{
+    field.iter().all(|byte| is_printable(*byte))
+}
+
+fn is_word(field: &[u8]) -> bool
+    ensures { result ≡ is_word field.now }
+{
+    1 <= field.len() && field.len() <= 128 && are_printable(field)
 }

@@ -1,12 +1,16 @@
 //! Reading a journal again.
 
-ghost use Rattle.std.specs.Prelude.{◌≤◌, ◌<◌, IfOk, IfSome, length};
+ghost use Rattle.std.specs.Prelude.{◌≡◌, ◌≤◌, ◌<◌, IfOk, IfSome, length, true};
+ghost use Rattle.desk_book.specs.Journals.{IsMaker, IsReadAs, MayBeAsked};
+ghost use Rattle.desk_book.specs.declared.limits.TheConstants.{SEALED_LIMIT};
+ghost use Rattle.desk_book.specs.declared.replaying.ReadFault.TheVariants.{OutOfMemory};
+ghost use Rattle.desk_book.specs.inside.Reading.{AreRead, IsNextEntry, IsTaken};
 
 use crate::asked::Asked;
 use crate::calls::Who;
 use crate::desk::Desk;
 use crate::digests::digest_of_both;
-use crate::fields::{Fields, digest_in};
+use crate::fields::{Fields, change_of, digest_in, over_of};
 use crate::front::{FrontFault, find_front};
 use crate::heads::{Line, find_line};
 use crate::judge::Judge;
@@ -67,13 +71,17 @@ pub struct Replayed<J> {
 }
 
 impl From<AllocError> for ReadFault {
+    ghost from_gives = { λ _ e. e ≡ OutOfMemory };
+
     fn from(_: AllocError) -> ReadFault {
         ReadFault::OutOfMemory
     }
 }
 
 // The words of an entry's head line.
-fn read_head(line: &[u8]) -> Option<HeadWords<'_>> {
+fn read_head(line: &[u8]) -> Option<HeadWords<'_>>
+    ensures sealed { IfSome result (λ words. words.sealed_len ≤ SEALED_LIMIT) }
+{
     let mut fields = Fields::of_line(line);
     if fields.next()? != b"%call".as_slice() {
         return None;
@@ -96,7 +104,8 @@ fn read_head(line: &[u8]) -> Option<HeadWords<'_>> {
 
 // The head of the entry at the front of these bytes, and where what follows it begins.
 fn find_head(bytes: &[u8]) -> Option<(HeadWords<'_>, usize)>
-    ensures { IfSome result (λ found. found.1 ≤ length bytes.now) }
+    ensures within { IfSome result (λ found. found.1 ≤ length bytes.now) }
+    ensures sealed { IfSome result (λ found. found.0.sealed_len ≤ SEALED_LIMIT) }
 {
     let Line::Whole(end) = find_line(bytes) else {
         return None;
@@ -107,7 +116,8 @@ fn find_head(bytes: &[u8]) -> Option<(HeadWords<'_>, usize)>
 
 /// The entry at the front of these bytes.
 pub fn find_entry(bytes: &[u8]) -> Option<EntryText<'_>>
-    ensures { IfSome result (λ e. (0 < e.len) × (e.len ≤ length bytes.now) × (e.chain_at ≤ e.len)) }
+    ensures within { IfSome result (λ e. (0 < e.len) × (e.len ≤ length bytes.now) × (e.chain_at ≤ e.len)) }
+    ensures sealed { IfSome result (λ e. length e.sealed.now ≤ SEALED_LIMIT) }
 {
     let (words, sealed_at) = find_head(bytes)?;
     let behind = &bytes[sealed_at..];
@@ -147,14 +157,11 @@ pub fn find_entry(bytes: &[u8]) -> Option<EntryText<'_>>
     })
 }
 
-// The number of a change that a word gives, or none for a hyphen.
-fn change_if(word: &[u8]) -> Option<Option<u32>> {
-    Fields::of_line(word).change_if()
-}
-
 impl<J: Judge + Drop> Desk<J> {
     // Who makes the call of an entry, and when.
-    fn who_in(&self, text: &EntryText<'_>) -> Option<Who> {
+    fn who_in(&self, text: &EntryText<'_>) -> Option<Who>
+        ensures { IfSome result (λ who. IsMaker self.now.rules who) }
+    {
         let bidder = self.rules().bidder_number(text.bidder)?;
         let session = number(text.session)?;
         if session > MOST_SESSIONS {
@@ -168,14 +175,17 @@ impl<J: Judge + Drop> Desk<J> {
     }
 
     // The form that an entry says is handed in.
-    fn submission_in<'c>(&self, text: &EntryText<'c>) -> Option<Asked<'c>> {
+    fn submission_in<'c>(&self, text: &EntryText<'c>) -> Option<Asked<'c>>
+        requires { length text.now.sealed.now ≤ SEALED_LIMIT }
+        ensures { IfSome result (λ asked. MayBeAsked self.now.rules asked) }
+    {
         let bids = number(text.bids)?;
         if bids > MOST_BIDS as u64 {
             return None;
         }
         Some(Asked::Submit {
             who: self.who_in(text)?,
-            over: change_if(text.over)?,
+            over: over_of(text.over)?,
             commit: digest_in(text.commit)?,
             bids: bids as u32,
             sealed: text.sealed,
@@ -183,12 +193,15 @@ impl<J: Judge + Drop> Desk<J> {
     }
 
     // The call of an entry.
-    fn asked_in<'c>(&self, text: &EntryText<'c>) -> Option<Asked<'c>> {
+    fn asked_in<'c>(&self, text: &EntryText<'c>) -> Option<Asked<'c>>
+        requires { length text.now.sealed.now ≤ SEALED_LIMIT }
+        ensures { IfSome result (λ asked. MayBeAsked self.now.rules asked) }
+    {
         match text.kind {
             b"submit" => self.submission_in(text),
             b"withdraw" => Some(Asked::Withdraw {
                 who: self.who_in(text)?,
-                over: change_if(text.over)??,
+                over: change_of(text.over)?,
             }),
             b"show" => Some(Asked::Show {
                 who: self.who_in(text)?,
@@ -206,7 +219,10 @@ impl<J: Judge + Drop> Desk<J> {
         alloc: Global,
         text: &EntryText<'_>,
         bytes: &[u8],
-    ) -> Result<bool, AllocError> {
+    ) -> Result<bool, AllocError>
+        requires { length text.now.sealed.now ≤ SEALED_LIMIT }
+        ensures { IfOk result (λ is. is ≡ true → IsNextEntry self.old bytes.now self.new) }
+    {
         let Some(durable) = number(text.durable) else {
             return Ok(false);
         };
@@ -222,6 +238,35 @@ impl<J: Judge + Drop> Desk<J> {
             None => Ok(false),
         }
     }
+
+    // Takes the entry at the front of these bytes again.
+    fn take_entry(&mut self, alloc: Global, bytes: &[u8]) -> Result<Taken, AllocError>
+        ensures { IfOk result (λ taken. IsTaken self.old bytes.now taken self.new) }
+    {
+        let Some(text) = find_entry(bytes) else {
+            return Ok(Taken::NoEntry);
+        };
+        let linked = digest_of_both(&self.chain, &bytes[..text.chain_at]);
+        if linked.as_slice() != text.chain {
+            return Ok(Taken::NoEntry);
+        }
+        if self.redo(alloc, &text, &bytes[..text.len])? {
+            Ok(Taken::Entry { len: text.len })
+        } else {
+            Ok(Taken::Other)
+        }
+    }
+}
+
+// What was found of an entry at the front of bytes.
+#[derive(Clone, Copy)]
+enum Taken {
+    /// One of so many bytes, and it is taken.
+    Entry { len: usize },
+    /// None that is whole and has the right chain.
+    NoEntry,
+    /// One that the desk doesn't write.
+    Other,
 }
 
 // Whether an entry head in these bytes says that the journal was on the disk beyond this byte.
@@ -238,37 +283,53 @@ fn is_durable_beyond(bytes: &[u8], at: usize) -> bool {
     false
 }
 
+// Takes the entries of a journal again that stand behind its front, up to the first that isn't whole, and tells where that is.
+fn take_entries<J: Judge + Drop>(
+    alloc: Global,
+    desk: &mut Desk<J>,
+    bytes: &[u8],
+    front_len: usize,
+) -> Result<usize, ReadFault>
+    requires extent { desk.old.extent ≡ front_len }
+    requires within { front_len ≤ length bytes.now }
+    ensures { AreRead desk.old bytes.now front_len result desk.new }
+{
+    let mut at = front_len;
+    'entries: while at < bytes.len() {
+        match desk.take_entry(alloc, &bytes[at..])? {
+            Taken::Entry { len } => at += len,
+            Taken::NoEntry => break,
+            Taken::Other => return Err(ReadFault::Damaged { at }),
+        }
+    }
+    if is_durable_beyond(&bytes[at..], at) {
+        return Err(ReadFault::Damaged { at });
+    }
+    Ok(at)
+}
+
 /// Reads the entries of a journal again, up to the first that isn't whole.
 pub fn replay<J: Judge + Drop>(
     alloc: Global,
     judge: J,
     bytes: &[u8],
-) -> Result<Replayed<J>, ReadFault> {
+) -> Result<Replayed<J>, ReadFault>
+    ensures { IsReadAs judge bytes.now result }
+{
     let front = match find_front(bytes) {
         Ok(front) => front,
         Err(fault) => return Err(ReadFault::Front(fault)),
     };
-    let mut desk = match Desk::open(alloc, judge, &bytes[..front.len], &front) {
+    let mut desk = match Desk::open(alloc, judge, bytes, &front) {
         Ok(desk) => desk,
+        Err(RulesFault::OutOfMemory) => return Err(ReadFault::OutOfMemory),
         Err(fault) => return Err(ReadFault::Rules(fault)),
     };
-    let mut at = front.len;
-    'entries: while at < bytes.len() {
-        let Some(text) = find_entry(&bytes[at..]) else {
-            break;
-        };
-        let linked = &bytes[at..at + text.chain_at];
-        if digest_of_both(desk.chain(), linked).as_slice() != text.chain {
-            break;
+    match take_entries(alloc, &mut desk, bytes, front.len) {
+        Ok(end) => {
+            desk.set_durable(end as u64);
+            Ok(Replayed { desk, end })
         }
-        if !desk.redo(alloc, &text, &bytes[at..at + text.len])? {
-            return Err(ReadFault::Damaged { at });
-        }
-        at += text.len;
+        Err(fault) => Err(fault),
     }
-    if is_durable_beyond(&bytes[at..], at) {
-        return Err(ReadFault::Damaged { at });
-    }
-    desk.set_durable(at as u64);
-    Ok(Replayed { desk, end: at })
 }

@@ -43,8 +43,8 @@ fn over_for(call: &Call<'_>) -> Untaken
     }
 }
 
-// Whether the last line of a text has its end.
-fn ends_line(text: &[u8]) -> bool
+/// Whether the last line of a text has its end.
+pub(crate) fn ends_line(text: &[u8]) -> bool
     ensures { result ≡ ends_line text.now }
 {
     match text.last() {

@@ -1,10 +1,12 @@
 -- The fields that a line has left, one after the other.
-use Rattle.std.specs.Prelude.{ℕ, List, [], ◌∷◌, ◌==◌, Bool, true, false, Option, Some, None, drop, if◌then◌else◌, slice_get}
+use Rattle.std.specs.Prelude.{ℕ, List, [], ◌∷◌, ◌==◌, ◌&&◌, Bool, true, false, Option, Some, None, codes, drop, if◌then◌else◌, slice_get}
 use Rattle.std.specs.List.{slice_split}
+use Rattle.std.specs.Str.{bytes_eq}
 use Rattle.auction_terms.specs.Numbers.{number_of}
 use Rattle.auction_terms.specs.Terms.{Terms}
 use Rattle.auction_terms.specs.declared.limits.TheConstants.{TEXT_LIMIT}
 use Rattle.desk_book.specs.Calls.{Head, Alone, OfForm, Withdraw, Show, Close, bidder_called, change_named, digest_named, number_up_to, over_named, session_named}
+use Rattle.desk_book.specs.Fronts.{word_named}
 use Rattle.desk_book.specs.declared.calls.Who.{Who}
 use Rattle.desk_book.specs.declared.limits.TheConstants.{SEALED_LIMIT}
 use Rattle.desk_book.specs.inside.Then.{◌>>=◌}
@@ -68,3 +70,22 @@ module _ (rules : Terms) where
   show_left fields = do
     who ← who_left fields
     at_end (behind_who fields) (Alone (Show who))
+
+-- the digest of the rules in what is left of the first line of a front
+unfoldable pub rules_digest_left : List (List ℕ) → Option (List ℕ)
+rules_digest_left fields = do
+  kind ← slice_get fields 0
+  version ← slice_get (drop 1 fields) 0
+  r ← first word_named (drop 1 (drop 1 fields))
+  d ← first digest_named (drop 1 (drop 1 (drop 1 fields)))
+  h ← first word_named (drop 1 (drop 1 (drop 1 (drop 1 fields))))
+  c ← first word_named (drop 1 (drop 1 (drop 1 (drop 1 (drop 1 fields)))))
+  k ← first word_named (drop 1 (drop 1 (drop 1 (drop 1 (drop 1 (drop 1 fields))))))
+  if no_field (behind_who (behind_who (drop 1 fields))) && (bytes_eq kind (codes "%desk") && bytes_eq version (codes "2")) then Some d else None
+
+-- how many bytes the rules have, in what is left of the second line
+unfoldable pub rules_len_left : List (List ℕ) → Option ℕ
+rules_len_left fields = do
+  kind ← slice_get fields 0
+  n ← first (number_up_to TEXT_LIMIT) (drop 1 fields)
+  if no_field (drop 1 (drop 1 fields)) && bytes_eq kind (codes "%rules") then Some n else None

@@ -1,0 +1,19 @@
+use Rattle.std.proofs.Common.{◌≡◌, ◌≤◌, ◌-◌, ◌∙◌, List, ℕ, drop, length, subst, take}
+use Rattle.std.proofs.lemmas.List.{take_rest}
+use Rattle.desk_book.proofs.ReadAgain.{read_more}
+use Rattle.desk_book.specs.declared.replaying.Taken.{Taken}
+use Rattle.desk_book.specs.declared.replaying.Taken.TheVariants as taken
+use Rattle.desk_book.specs.inside.Reading.{IsTaken}
+use Rattle.desk_book.proofs.replaying.take_entries.Goals as goal
+
+pub entries-preserved : goal.entries-preserved
+entries-preserved g c =
+    let bytes : List ℕ = c.args.bytes.now in
+    let at : ℕ = c.entries.at in
+    let n = c.take_entry.new.self in
+    let rest : List ℕ = take (length bytes - at) (drop at bytes) in
+    let was : IsTaken c.entries.desk rest (taken.Entry c.in-Entry.len) n =
+    subst (λ (t : Taken). IsTaken c.entries.desk rest t n) c.in-Entry.is c.in_ok-len.ensures in
+    let next : IsTaken c.entries.desk (drop at bytes) (taken.Entry c.in-Entry.len) n =
+    subst (λ (l : List ℕ). IsTaken c.entries.desk l (taken.Entry c.in-Entry.len) n) (take_rest bytes at) was in
+    read_more c.args.desk.now bytes c.args.front_len at c.in-Entry.len c.entries.desk n c.entries.invariant next.0 next.2

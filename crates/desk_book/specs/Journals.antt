@@ -1,0 +1,117 @@
+-- Journals: what a desk has written, and what is read of it again.
+use Rattle.std.specs.Prelude.{ℕ, List, [], ◌∷◌, ◌≡◌, ◌<◌, ◌≤◌, ◌^◌, ◌++◌, ⊤, Option, Some, None, Result, Ok, Err, false, if◌then◌else◌, length, nat_le, take}
+use Rattle.auction_terms.specs.Records.{records_of}
+use Rattle.auction_terms.specs.RulesText.{rules_of_records}
+use Rattle.auction_terms.specs.Terms.{Terms}
+use Rattle.auction_terms.specs.declared.limits.TheConstants.{MOST_BIDS, MOST_SESSIONS, TEXT_LIMIT}
+use Rattle.auction_terms.specs.declared.rules_text.RulesFault.{RulesFault}
+use Rattle.auction_terms.specs.declared.rules_text.RulesFault.TheVariants as rules_fault
+use Rattle.bid_book.specs.History.{is_closed}
+use Rattle.desk_book.specs.Answers.{all_durable}
+use Rattle.desk_book.specs.Calls.{bidder_called, digest_named}
+use Rattle.desk_book.specs.Digests.{sha_digits}
+use Rattle.desk_book.specs.Entries.{name_word}
+use Rattle.desk_book.specs.Fronts.{JournalFront, front_at}
+use Rattle.desk_book.specs.Recording.{IsRecordedAs}
+use Rattle.desk_book.specs.declared.answer.Answer.{Answer}
+use Rattle.desk_book.specs.declared.asked.Asked.{Asked}
+use Rattle.desk_book.specs.declared.asked.Asked.TheVariants as asked
+use Rattle.desk_book.specs.declared.calls.Who.{Who}
+use Rattle.desk_book.specs.declared.desk.Desk.{Desk}
+use Rattle.desk_book.specs.declared.limits.TheConstants.{SEALED_LIMIT}
+use Rattle.desk_book.specs.declared.replaying.ReadFault.{ReadFault}
+use Rattle.desk_book.specs.declared.replaying.ReadFault.TheVariants as read_fault
+use Rattle.desk_book.specs.declared.replaying.Replayed.{Replayed}
+
+-- who makes a call that may be asked: a bidder whose name the rules have
+pub record IsMaker (rules : Terms) (who : Who) : Type 0 where
+  pub bidder : bidder_called rules (name_word rules who.bidder) ≡ Some who.bidder
+  pub session : who.session ≤ MOST_SESSIONS
+  pub time : who.time < 10 ^ 18
+
+-- the change that a call may be made over
+abbrev pub IsOver : Option ℕ → Type 0
+IsOver None = ⊤
+IsOver (Some n) = n < 10 ^ 9
+
+-- a form that may be handed in
+pub record IsHandedIn (over : Option ℕ) (commit : List ℕ) (bids : ℕ) (sealed : List ℕ) : Type 0 where
+  pub over_is : IsOver over
+  pub commit_is : digest_named commit ≡ Some commit
+  pub few_bids : bids ≤ MOST_BIDS
+  pub few_bytes : length sealed ≤ SEALED_LIMIT
+
+-- a call that may be asked under these rules
+abbrev pub MayBeAsked : Terms → Asked → Type 0
+MayBeAsked rules (asked.Submit who over commit bids sealed) = IsMaker rules who × IsHandedIn over commit bids sealed.now
+MayBeAsked rules (asked.Withdraw who over) = IsMaker rules who × (over < 10 ^ 9)
+MayBeAsked rules (asked.Show who) = IsMaker rules who
+MayBeAsked rules (asked.Close time) = time < 10 ^ 18
+
+-- an entry of a journal: the call and its answer, how many bytes of the journal were on the disk, the bytes of the entry, and the desk
+-- after it
+pub record Written (J : Type 0) : Type 0 where
+  pub call : Asked
+  pub told : Answer
+  pub durable : ℕ
+  pub text : List ℕ
+  pub next : Desk J
+
+-- a desk may write this entry next: the round is open, and the entry is what is recorded of the call
+pub record IsWritten {J : Type 0} (m : Desk J) (e : Written J) : Type 0 where
+  pub is_open : is_closed m.book ≡ false
+  pub asked : MayBeAsked m.rules e.call
+  pub durable : e.durable ≤ m.extent
+  pub number : e.durable < 10 ^ 18
+  pub recorded : IsRecordedAs (record m { durable = e.durable }) e.call e.told e.text e.next
+
+module _ {J : Type 0} where
+  -- these are entries that a desk may write, one after the other
+  abbrev pub AreWritten : Desk J → List (Written J) → Type 0
+  AreWritten m [] = ⊤
+  AreWritten m (e ∷ entries) = IsWritten m e × AreWritten e.next entries
+
+  -- the desk after entries
+  abbrev pub desk_after : Desk J → List (Written J) → Desk J
+  desk_after m [] = m
+  desk_after m (e ∷ entries) = desk_after e.next entries
+
+  -- the bytes of entries
+  abbrev pub texts_of : List (Written J) → List ℕ
+  texts_of [] = []
+  texts_of (e ∷ entries) = e.text ++ texts_of entries
+
+-- the rules that a text describes, or its first fault
+abbrev pub rules_read : List ℕ → Result Terms RulesFault
+rules_read text = if nat_le (length text) TEXT_LIMIT then rules_of_records (records_of text) else Err rules_fault.TooLarge
+
+-- a desk whose journal is its front alone
+pub record IsOpened {J : Type 0} (judge : J) (bytes : List ℕ) (front : JournalFront) (m : Desk J) : Type 0 where
+  pub judge_is : m.judge ≡ judge
+  pub rules_are : rules_read front.rules ≡ Ok m.rules
+  pub rules_text_is : m.rules_text.items ≡ front.rules
+  pub no_entry : m.book ≡ []
+  pub extent : m.extent ≡ front.len
+  pub durable : m.durable ≡ front.len
+  pub chain : m.chain ≡ sha_digits (take front.len bytes)
+
+-- so many bytes are a journal: its front, and entries that its desk may have written; they lead to this desk
+pub record IsJournal {J : Type 0} (judge : J) (bytes : List ℕ) (end : ℕ) (desk : Desk J) : Type 0 where
+  pub front : JournalFront
+  pub start : Desk J
+  pub entries : List (Written J)
+  pub front_is : front_at bytes ≡ Ok front
+  pub opened : IsOpened judge bytes front start
+  pub written : AreWritten start entries
+  pub bytes_are : take end bytes ≡ take front.len bytes ++ texts_of entries
+  pub within : end ≤ length bytes
+  pub extent : desk.extent ≡ end
+  pub desk_is : desk ≡ desk_after start entries
+
+-- what is read of a journal: the desk that goes on with it, and where it ends
+abbrev pub IsReadAs : {J : Type 0} → J → List ℕ → Result (Replayed J) ReadFault → Type 0
+IsReadAs judge bytes (Ok r) = (m : Desk _) × IsJournal judge bytes r.end m × (r.desk ≡ all_durable m)
+IsReadAs judge bytes (Err (read_fault.Front why)) = front_at bytes ≡ Err why
+IsReadAs judge bytes (Err (read_fault.Rules why)) = (front : JournalFront) × (front_at bytes ≡ Ok front) × (rules_read front.rules ≡ Err why)
+IsReadAs judge bytes (Err (read_fault.Damaged at)) = (m : Desk _) × IsJournal judge bytes at m
+IsReadAs judge bytes (Err read_fault.OutOfMemory) = ⊤

@@ -1,0 +1,35 @@
+-- Reading the entries of a journal, one by one.
+use Rattle.std.specs.Prelude.{ℕ, ⊤, List, ◌≡◌, ◌<◌, ◌≤◌, ◌++◌, Result, Ok, Err, length, take}
+use Rattle.desk_book.specs.Journals.{AreWritten, IsWritten, Written, desk_after, texts_of}
+use Rattle.desk_book.specs.declared.desk.Desk.{Desk}
+use Rattle.desk_book.specs.declared.replaying.ReadFault.{ReadFault}
+use Rattle.desk_book.specs.declared.replaying.ReadFault.TheVariants as fault
+use Rattle.desk_book.specs.declared.replaying.Taken.{Taken}
+use Rattle.desk_book.specs.declared.replaying.Taken.TheVariants as taken
+
+-- a desk may write these bytes next, and this is the desk then
+abbrev pub IsNextEntry : {J : Type 0} → Desk J → List ℕ → Desk J → Type 0
+IsNextEntry m bytes n = (e : Written _) × IsWritten m e × (e.text ≡ bytes) × (e.next ≡ n)
+
+-- an entry at the front of bytes was taken, if there is one
+abbrev pub IsTaken : {J : Type 0} → Desk J → List ℕ → Taken → Desk J → Type 0
+IsTaken m bytes (taken.Entry len) n = IsNextEntry m (take len bytes) n × (0 < len) × (len ≤ length bytes)
+IsTaken m bytes taken.NoEntry n = n ≡ m
+IsTaken m bytes taken.Other n = ⊤
+
+-- the bytes between two places are entries, which lead from one desk to another
+pub record IsReadTo {J : Type 0} (start : Desk J) (bytes : List ℕ) (from at : ℕ) (m : Desk J) : Type 0 where
+  pub entries : List (Written J)
+  pub written : AreWritten start entries
+  pub bytes_are : take at bytes ≡ take from bytes ++ texts_of entries
+  pub within : at ≤ length bytes
+  pub extent : m.extent ≡ at
+  pub desk_is : m ≡ desk_after start entries
+
+-- the entries behind a place are read, up to an end, or up to where something is lost
+abbrev pub AreRead : {J : Type 0} → Desk J → List ℕ → ℕ → Result ℕ ReadFault → Desk J → Type 0
+AreRead start bytes from (Ok end) n = IsReadTo start bytes from end n
+AreRead start bytes from (Err (fault.Damaged at)) n = (m : Desk _) × IsReadTo start bytes from at m
+AreRead start bytes from (Err fault.OutOfMemory) n = ⊤
+AreRead start bytes from (Err (fault.Front why)) n = ⊥
+AreRead start bytes from (Err (fault.Rules why)) n = ⊥
