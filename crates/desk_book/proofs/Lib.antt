@@ -2,8 +2,11 @@ mod Copies
 mod Extending
 mod Names
 mod Parts
+mod Printed
+mod PrintedEntries
 pub mod Reading
 mod ReadAgain
 mod Rewinding
+mod SameEntry
 mod Standing
 mod WorkedCalls

@@ -3,14 +3,22 @@ use Rattle.std.proofs.Common.{◌≡◌, ℕ, List, [], ◌∷◌, Option, Some,
 use Rattle.std.specs.Option.{option_and_then}
 use Rattle.auction_terms.specs.Terms.{Terms}
 use Rattle.auction_terms.specs.declared.limits.TheConstants.{TEXT_LIMIT}
-use Rattle.desk_book.specs.Calls.{close_head, number_up_to, show_head, submit_head, withdraw_head}
+use Rattle.auction_terms.specs.Numbers.{number_of}
+use Rattle.desk_book.specs.declared.limits.TheConstants.{SEALED_LIMIT}
+use Rattle.desk_book.specs.Calls.{close_head, digest_named, number_up_to, show_head, submit_head, withdraw_head}
 use Rattle.desk_book.specs.Fronts.{rules_digest_in, rules_len_in}
-use Rattle.desk_book.specs.inside.Fields.{close_left, rules_digest_left, rules_len_left, show_left, submit_left, who_left, withdraw_left}
+use Rattle.desk_book.specs.ReadEntries.{head_in, tail_in}
+use Rattle.desk_book.specs.inside.Fields.{close_left, head_left, tail_left, rules_digest_left, rules_len_left, show_left, submit_left, who_left, withdraw_left}
 
 -- nothing is made where nothing is made of whatever is there
 pub none_then : {X Y : Type 0} (o : Option X) → option_and_then {T = X} {U = Y} (λ x. None) o ≡ None
 none_then None = refl
 none_then (Some x) = refl
+
+none_both : {X Y Z : Type 0} (o : Option X) (p : Option Y)
+    → option_and_then {T = X} {U = Z} (λ x. option_and_then {T = Y} {U = Z} (λ y. None) p) o ≡ None
+none_both None p = refl
+none_both (Some x) p = none_then p
 
 module _ (rules : Terms) where
   pub withdraw_same : (fields : List (List ℕ)) → withdraw_left rules fields ≡ withdraw_head rules fields
@@ -67,3 +75,28 @@ rules_digest_same (a ∷ b ∷ c ∷ d ∷ e ∷ []) = simp none_then
 rules_digest_same (a ∷ b ∷ c ∷ d ∷ e ∷ f ∷ []) = simp none_then
 rules_digest_same (a ∷ b ∷ c ∷ d ∷ e ∷ f ∷ g ∷ []) = refl
 rules_digest_same (a ∷ b ∷ c ∷ d ∷ e ∷ f ∷ g ∷ h ∷ more) = simp none_then
+
+pub head_same : (fields : List (List ℕ)) → head_left fields ≡ head_in fields
+unfolding head_left
+head_same [] = refl
+head_same (a ∷ []) = refl
+head_same (a ∷ b ∷ []) = refl
+head_same (a ∷ b ∷ c ∷ []) = refl
+head_same (a ∷ b ∷ c ∷ d ∷ []) = refl
+head_same (a ∷ b ∷ c ∷ d ∷ e ∷ []) = refl
+head_same (a ∷ b ∷ c ∷ d ∷ e ∷ f ∷ []) = refl
+head_same (a ∷ b ∷ c ∷ d ∷ e ∷ f ∷ g ∷ []) = refl
+head_same (a ∷ b ∷ c ∷ d ∷ e ∷ f ∷ g ∷ h ∷ []) = refl
+head_same (a ∷ b ∷ c ∷ d ∷ e ∷ f ∷ g ∷ h ∷ i ∷ []) = refl
+head_same (a ∷ b ∷ c ∷ d ∷ e ∷ f ∷ g ∷ h ∷ i ∷ j ∷ []) = simp none_then
+head_same (a ∷ b ∷ c ∷ d ∷ e ∷ f ∷ g ∷ h ∷ i ∷ j ∷ k ∷ []) = refl
+head_same (a ∷ b ∷ c ∷ d ∷ e ∷ f ∷ g ∷ h ∷ i ∷ j ∷ k ∷ l ∷ more) = none_both (number_up_to SEALED_LIMIT j) (number_of k)
+
+pub tail_same : (fields : List (List ℕ)) → tail_left fields ≡ tail_in fields
+unfolding tail_left
+tail_same [] = refl
+tail_same (a ∷ []) = refl
+tail_same (a ∷ b ∷ []) = refl
+tail_same (a ∷ b ∷ c ∷ []) = refl
+tail_same (a ∷ b ∷ c ∷ d ∷ []) = refl
+tail_same (a ∷ b ∷ c ∷ d ∷ e ∷ more) = none_then (digest_named d)

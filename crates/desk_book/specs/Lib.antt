@@ -5,6 +5,7 @@ pub mod Entries
 pub mod Fronts
 pub mod Journals
 pub mod Judging
+pub mod ReadEntries
 pub mod Recording
 pub mod Replies
 pub mod Settling

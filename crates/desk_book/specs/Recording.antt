@@ -1,5 +1,5 @@
 -- What is recorded of a call.
-use Rattle.std.specs.Prelude.{ℕ, List, [], ◌∷◌, ◌≡◌, ◌<◌, ◌+◌, ◌-◌, ◌^◌, ◌++◌, ◌||◌, ⊤, Bool, true, Option, Some, None, codes, length, nat_le, option_map}
+use Rattle.std.specs.Prelude.{ℕ, List, [], ◌∷◌, ◌≡◌, ◌<◌, ◌+◌, ◌-◌, ◌^◌, ◌++◌, ◌||◌, ⊤, Bool, true, Option, Some, None, IfSome, codes, length, nat_le, option_map}
 use Rattle.std.specs.Str.{bytes_eq}
 use Rattle.auction_terms.specs.Names.{is_name}
 use Rattle.auction_terms.specs.Terms.{Terms}
@@ -11,7 +11,7 @@ use Rattle.bid_book.specs.declared.call.Call.TheVariants as book
 use Rattle.bid_book.specs.declared.reply.Reply.{Reply}
 use Rattle.bid_book.specs.declared.reply.Reply.TheVariants as reply
 use Rattle.bid_book.specs.declared.standing.Standing.{Standing}
-use Rattle.desk_book.specs.Entries.{chain_after, entry_front, name_word, sealed_of, with_chain}
+use Rattle.desk_book.specs.Entries.{answer_number, chain_after, entry_front, name_word, sealed_of, with_chain}
 use Rattle.desk_book.specs.declared.answer.Answer.{Answer}
 use Rattle.desk_book.specs.declared.answer.Answer.TheVariants as answer
 use Rattle.desk_book.specs.declared.asked.Asked.{Asked}
@@ -90,6 +90,7 @@ pub record IsRecordedAs {J : Type 0} (old : Desk J) (a : Asked) (told : Answer) 
   pub due : answer_due old a ≡ Some told
   pub named : IsMakerNamed old.rules a
   pub few : length old.book + 1 < 2 ^ 64
+  pub number : IfSome (answer_number told) (λ n. n < 2 ^ 32)
   pub book : new.book ≡ old.book ++ record
       { caller = made_by a; call = book_call (length old.book + 1) a; reply = reply_owed old a } ∷ []
   pub text_is : text ≡ with_chain old.chain (entry_front old.rules (length old.book + 1) a told old.durable)

@@ -1,3 +1,4 @@
+pub mod Asking
 pub mod CallLaws
 pub mod Fields
 pub mod Found

@@ -1,7 +1,7 @@
 //! The entries of a journal, as text.
 
-ghost use Rattle.std.specs.Prelude.{◌≡◌, ◌++◌, IfOk, OnOk, true};
-ghost use Rattle.desk_book.specs.Entries.{name_word, call_words, chain_after, entry_front, entry_head, entry_tail, maker_words, who_words, with_chain};
+ghost use Rattle.std.specs.Prelude.{◌≡◌, ◌<◌, ◌^◌, ◌++◌, IfOk, IfSome, OnOk, true};
+ghost use Rattle.desk_book.specs.Entries.{answer_number, name_word, call_words, chain_after, entry_front, entry_head, entry_tail, maker_words, who_words, with_chain};
 ghost use Rattle.desk_book.specs.Recording.{IsMakerNamed, is_maker_word};
 ghost use Rattle.desk_book.specs.Words.{spaced};
 
@@ -86,7 +86,8 @@ fn add_head(
 
 // Adds what an entry has behind the sealed form, up to its chain.
 fn add_tail(text: &mut Vec<u8>, answer: &Answer) -> Result<(), AllocError>
-    ensures { OnOk result (text.new.items ≡ text.old.items ++ entry_tail answer.now) }
+    ensures number { OnOk result (IfSome (answer_number answer.now) (λ n. n < 2 ^ 32)) }
+    ensures text { OnOk result (text.new.items ≡ text.old.items ++ entry_tail answer.now) }
 {
     text.extend_from_slice(b"\n%reply")?;
     add_next(text, answer.word())?;
@@ -105,6 +106,7 @@ pub(crate) fn front_text(
     durable: u64,
 ) -> Result<Vec<u8>, AllocError>
     ensures named { OnOk result (IsMakerNamed rules.now asked.now) }
+    ensures number { OnOk result (IfSome (answer_number answer.now) (λ n. n < 2 ^ 32)) }
     ensures text { IfOk result (λ text. text.items ≡ entry_front rules.now number asked.now answer.now durable) }
 {
     let mut text = Vec::new(alloc);

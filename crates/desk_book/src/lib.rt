@@ -34,6 +34,6 @@ pub use judge::Judge;
 pub use limits::{ENTRY_LEN, HEAD_LIMIT, JOURNAL_LIMIT, LAST_ROOM, SEALED_LIMIT};
 pub use machine::serve_calls;
 pub use openings::{Opening, OpeningFault, find_opening};
-pub use replaying::{EntryText, ReadFault, Replayed, find_entry, replay};
+pub use replaying::{EntryText, HeadWords, ReadFault, Replayed, TailWords, find_entry, replay};
 pub use settle::{SettleFault, settled_input};
 pub use untaken::Untaken;

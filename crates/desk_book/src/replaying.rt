@@ -1,9 +1,13 @@
 //! Reading a journal again.
 
-ghost use Rattle.std.specs.Prelude.{◌≡◌, ◌≤◌, ◌<◌, IfOk, IfSome, length, true};
+ghost use Rattle.std.specs.Prelude.{◌≡◌, ◌≤◌, ◌<◌, IfOk, IfSome, length, option_map, true};
+ghost use Rattle.desk_book.specs.Calls.{head_fields};
 ghost use Rattle.desk_book.specs.Journals.{IsMaker, IsReadAs, MayBeAsked};
+ghost use Rattle.desk_book.specs.ReadEntries.{entry_at, entry_read, head_at, head_in, head_read, tail_at, tail_in, tail_read};
 ghost use Rattle.desk_book.specs.declared.limits.TheConstants.{SEALED_LIMIT};
 ghost use Rattle.desk_book.specs.declared.replaying.ReadFault.TheVariants.{OutOfMemory};
+ghost use Rattle.desk_book.specs.inside.Asking.{asked_of, close_of, plain, show_of, submission_of, who_of, withdrawal_of};
+ghost use Rattle.desk_book.specs.inside.Fields.{head_left, tail_left};
 ghost use Rattle.desk_book.specs.inside.Reading.{AreRead, IsNextEntry, IsTaken};
 
 use crate::asked::Asked;
@@ -18,9 +22,9 @@ use crate::limits::SEALED_LIMIT;
 use auction_terms::{MOST_BIDS, MOST_SESSIONS, RulesFault, number};
 use std::alloc::{AllocError, Global};
 
-/// The words of an entry, the sealed form, where its chain begins, and how many bytes it has.
+/// The words of an entry's head line, and how many bytes the sealed form has.
 #[derive(Clone, Copy)]
-pub struct EntryText<'c> {
+pub struct HeadWords<'c> {
     pub entry: &'c [u8],
     pub time: &'c [u8],
     pub bidder: &'c [u8],
@@ -29,28 +33,26 @@ pub struct EntryText<'c> {
     pub over: &'c [u8],
     pub commit: &'c [u8],
     pub bids: &'c [u8],
+    pub sealed_len: usize,
     pub durable: &'c [u8],
-    pub sealed: &'c [u8],
+}
+
+/// The words of an entry's last line.
+#[derive(Clone, Copy)]
+pub struct TailWords<'c> {
     pub answer: &'c [u8],
     pub number: &'c [u8],
     pub chain: &'c [u8],
-    pub chain_at: usize,
-    pub len: usize,
 }
 
-/// The words of an entry's head line, and how many bytes the sealed form has.
+/// An entry: its head, the sealed form, its last line, where its chain begins, and how many bytes it has.
 #[derive(Clone, Copy)]
-struct HeadWords<'c> {
-    entry: &'c [u8],
-    time: &'c [u8],
-    bidder: &'c [u8],
-    session: &'c [u8],
-    kind: &'c [u8],
-    over: &'c [u8],
-    commit: &'c [u8],
-    bids: &'c [u8],
-    sealed_len: usize,
-    durable: &'c [u8],
+pub struct EntryText<'c> {
+    pub head: HeadWords<'c>,
+    pub sealed: &'c [u8],
+    pub tail: TailWords<'c>,
+    pub chain_at: usize,
+    pub len: usize,
 }
 
 /// Why a journal isn't read.
@@ -78,33 +80,86 @@ impl From<AllocError> for ReadFault {
     }
 }
 
-// The words of an entry's head line.
-fn read_head(line: &[u8]) -> Option<HeadWords<'_>>
+// The words of an entry's head line, of its fields.
+#[tactic(auto, unfolding(crate::specs::inside::Fields::head_left))]
+fn head_of_fields<'c>(mut fields: Fields<'c>) -> Option<HeadWords<'c>>
+    ensures head { option_map head_read result ≡ head_left fields.entry }
     ensures sealed { IfSome result (λ words. words.sealed_len ≤ SEALED_LIMIT) }
 {
-    let mut fields = Fields::of_line(line);
-    if fields.next()? != b"%call".as_slice() {
-        return None;
+    let call = fields.next()?;
+    let entry = fields.next()?;
+    let time = fields.next()?;
+    let bidder = fields.next()?;
+    let session = fields.next()?;
+    let kind = fields.next()?;
+    let over = fields.next()?;
+    let commit = fields.next()?;
+    let bids = fields.next()?;
+    let sealed_len = fields.number_to(SEALED_LIMIT)?;
+    let durable = fields.next()?;
+    number(durable)?;
+    if fields.is_done() && call == b"%call".as_slice() {
+        Some(HeadWords {
+            entry,
+            time,
+            bidder,
+            session,
+            kind,
+            over,
+            commit,
+            bids,
+            sealed_len,
+            durable,
+        })
+    } else {
+        None
     }
-    let words = HeadWords {
-        entry: fields.next()?,
-        time: fields.next()?,
-        bidder: fields.next()?,
-        session: fields.next()?,
-        kind: fields.next()?,
-        over: fields.next()?,
-        commit: fields.next()?,
-        bids: fields.next()?,
-        sealed_len: fields.number_to(SEALED_LIMIT)?,
-        durable: fields.next()?,
-    };
-    number(words.durable)?;
-    if fields.is_done() { Some(words) } else { None }
+}
+
+// The words of an entry's last line, of its fields.
+#[tactic(auto, unfolding(crate::specs::inside::Fields::tail_left))]
+fn tail_of_fields<'c>(mut fields: Fields<'c>) -> Option<TailWords<'c>>
+    ensures { option_map tail_read result ≡ tail_left fields.entry }
+{
+    let reply = fields.next()?;
+    let answer = fields.next()?;
+    let number = fields.next()?;
+    let chain = fields.next()?;
+    digest_in(chain)?;
+    if fields.is_done() && reply == b"%reply".as_slice() {
+        Some(TailWords {
+            answer,
+            number,
+            chain,
+        })
+    } else {
+        None
+    }
+}
+
+// The words of an entry's head line.
+#[tactic(auto, using(crate::proofs::Reading::head_same))]
+fn read_head(line: &[u8]) -> Option<HeadWords<'_>>
+    ensures head { option_map head_read result ≡ head_in (head_fields line.now) }
+    ensures sealed { IfSome result (λ words. words.sealed_len ≤ SEALED_LIMIT) }
+{
+    head_of_fields(Fields::of_line(line))
+}
+
+// The words of an entry's last line.
+#[tactic(auto, using(crate::proofs::Reading::tail_same))]
+fn read_tail(line: &[u8]) -> Option<TailWords<'_>>
+    ensures { option_map tail_read result ≡ tail_in (head_fields line.now) }
+{
+    tail_of_fields(Fields::of_line(line))
 }
 
 // The head of the entry at the front of these bytes, and where what follows it begins.
+#[tactic(auto, unfolding(crate::specs::ReadEntries::head_at))]
 fn find_head(bytes: &[u8]) -> Option<(HeadWords<'_>, usize)>
+    ensures head { option_map (λ found. (head_read found.0, found.1)) result ≡ head_at bytes.now }
     ensures within { IfSome result (λ found. found.1 ≤ length bytes.now) }
+    ensures some { IfSome result (λ found. 0 < found.1) }
     ensures sealed { IfSome result (λ found. found.0.sealed_len ≤ SEALED_LIMIT) }
 {
     let Line::Whole(end) = find_line(bytes) else {
@@ -114,102 +169,129 @@ fn find_head(bytes: &[u8]) -> Option<(HeadWords<'_>, usize)>
     Some((words, end + 1))
 }
 
+// The last line of an entry at the front of these bytes, and where it ends.
+#[tactic(auto, unfolding(crate::specs::ReadEntries::tail_at))]
+fn find_tail(bytes: &[u8]) -> Option<(TailWords<'_>, usize)>
+    ensures tail { option_map (λ found. (tail_read found.0, found.1)) result ≡ tail_at bytes.now }
+    ensures within { IfSome result (λ found. (64 ≤ found.1) × (found.1 < length bytes.now)) }
+{
+    let Line::Whole(end) = find_line(bytes) else {
+        return None;
+    };
+    let words = read_tail(&bytes[..end])?;
+    if 64 <= end { Some((words, end)) } else { None }
+}
+
 /// The entry at the front of these bytes.
+#[tactic(auto, unfolding(crate::specs::ReadEntries::entry_at))]
 pub fn find_entry(bytes: &[u8]) -> Option<EntryText<'_>>
+    ensures entry { option_map entry_read result ≡ entry_at bytes.now }
     ensures within { IfSome result (λ e. (0 < e.len) × (e.len ≤ length bytes.now) × (e.chain_at ≤ e.len)) }
     ensures sealed { IfSome result (λ e. length e.sealed.now ≤ SEALED_LIMIT) }
 {
-    let (words, sealed_at) = find_head(bytes)?;
-    let behind = &bytes[sealed_at..];
-    if behind.len() <= words.sealed_len || behind[words.sealed_len] != b'\n' {
+    let (head, at) = find_head(bytes)?;
+    let behind = &bytes[at..];
+    if behind.len() <= head.sealed_len || behind[head.sealed_len] != b'\n' {
         return None;
     }
-    let tail_at = sealed_at + words.sealed_len + 1;
-    let Line::Whole(tail_len) = find_line(&bytes[tail_at..]) else {
-        return None;
-    };
-    let mut fields = Fields::of_line(&bytes[tail_at..tail_at + tail_len]);
-    if fields.next()? != b"%reply".as_slice() {
-        return None;
-    }
-    let answer = fields.next()?;
-    let number = fields.next()?;
-    let chain = fields.next()?;
-    if !fields.is_done() || digest_in(chain).is_none() || tail_len < 64 {
-        return None;
-    }
+    let (tail, end) = find_tail(&behind[head.sealed_len + 1..])?;
     Some(EntryText {
-        entry: words.entry,
-        time: words.time,
-        bidder: words.bidder,
-        session: words.session,
-        kind: words.kind,
-        over: words.over,
-        commit: words.commit,
-        bids: words.bids,
-        durable: words.durable,
-        sealed: &behind[..words.sealed_len],
-        answer,
-        number,
-        chain,
-        chain_at: tail_at + tail_len - 64,
-        len: tail_at + tail_len + 1,
+        head,
+        sealed: &behind[..head.sealed_len],
+        tail,
+        chain_at: at + head.sealed_len + 1 + end - 64,
+        len: at + head.sealed_len + 1 + end + 1,
     })
 }
 
 impl<J: Judge + Drop> Desk<J> {
     // Who makes the call of an entry, and when.
-    fn who_in(&self, text: &EntryText<'_>) -> Option<Who>
-        ensures { IfSome result (λ who. IsMaker self.now.rules who) }
+    #[tactic(auto, unfolding(crate::specs::inside::Asking::who_of))]
+    fn who_in(&self, head: &HeadWords<'_>) -> Option<Who>
+        ensures who { result ≡ who_of self.now.rules (head_read head.now) }
+        ensures maker { IfSome result (λ who. IsMaker self.now.rules who) }
     {
-        let bidder = self.rules().bidder_number(text.bidder)?;
-        let session = number(text.session)?;
+        let bidder = self.rules().bidder_number(head.bidder)?;
+        let session = number(head.session)?;
         if session > MOST_SESSIONS {
             return None;
         }
+        let time = number(head.time)?;
         Some(Who {
             bidder,
             session: session as u8,
-            time: number(text.time)?,
+            time,
         })
     }
 
     // The form that an entry says is handed in.
-    fn submission_in<'c>(&self, text: &EntryText<'c>) -> Option<Asked<'c>>
-        requires { length text.now.sealed.now ≤ SEALED_LIMIT }
-        ensures { IfSome result (λ asked. MayBeAsked self.now.rules asked) }
+    #[tactic(auto, unfolding(crate::specs::inside::Asking::submission_of))]
+    fn submission_in<'c>(&self, head: &HeadWords<'_>, sealed: &'c [u8]) -> Option<Asked<'c>>
+        requires { length sealed.now ≤ SEALED_LIMIT }
+        ensures asked { option_map plain result ≡ submission_of self.now.rules (head_read head.now) sealed.now }
+        ensures may { IfSome result (λ asked. MayBeAsked self.now.rules asked) }
     {
-        let bids = number(text.bids)?;
+        let bids = number(head.bids)?;
         if bids > MOST_BIDS as u64 {
             return None;
         }
+        let who = self.who_in(head)?;
+        let over = over_of(head.over)?;
+        let commit = digest_in(head.commit)?;
         Some(Asked::Submit {
-            who: self.who_in(text)?,
-            over: over_of(text.over)?,
-            commit: digest_in(text.commit)?,
+            who,
+            over,
+            commit,
             bids: bids as u32,
-            sealed: text.sealed,
+            sealed,
         })
     }
 
-    // The call of an entry.
-    fn asked_in<'c>(&self, text: &EntryText<'c>) -> Option<Asked<'c>>
-        requires { length text.now.sealed.now ≤ SEALED_LIMIT }
-        ensures { IfSome result (λ asked. MayBeAsked self.now.rules asked) }
+    #[tactic(auto, unfolding(crate::specs::inside::Asking::withdrawal_of))]
+    fn withdrawal_in<'c>(&self, head: &HeadWords<'_>) -> Option<Asked<'c>>
+        ensures asked { option_map plain result ≡ withdrawal_of self.now.rules (head_read head.now) }
+        ensures may { IfSome result (λ asked. MayBeAsked self.now.rules asked) }
     {
-        match text.kind {
-            b"submit" => self.submission_in(text),
-            b"withdraw" => Some(Asked::Withdraw {
-                who: self.who_in(text)?,
-                over: change_of(text.over)?,
-            }),
-            b"show" => Some(Asked::Show {
-                who: self.who_in(text)?,
-            }),
-            b"close" => Some(Asked::Close {
-                time: number(text.time)?,
-            }),
-            _ => None,
+        let who = self.who_in(head)?;
+        let over = change_of(head.over)?;
+        Some(Asked::Withdraw { who, over })
+    }
+
+    #[tactic(auto, unfolding(crate::specs::inside::Asking::show_of))]
+    fn show_in<'c>(&self, head: &HeadWords<'_>) -> Option<Asked<'c>>
+        ensures asked { option_map plain result ≡ show_of self.now.rules (head_read head.now) }
+        ensures may { IfSome result (λ asked. MayBeAsked self.now.rules asked) }
+    {
+        let who = self.who_in(head)?;
+        Some(Asked::Show { who })
+    }
+
+    #[tactic(auto, unfolding(crate::specs::inside::Asking::close_of))]
+    fn close_in<'c>(&self, head: &HeadWords<'_>) -> Option<Asked<'c>>
+        ensures asked { option_map plain result ≡ close_of self.now.rules (head_read head.now) }
+        ensures may { IfSome result (λ asked. MayBeAsked self.now.rules asked) }
+    {
+        let time = number(head.time)?;
+        Some(Asked::Close { time })
+    }
+
+    // The call of an entry.
+    #[tactic(auto, unfolding(crate::specs::inside::Asking::asked_of))]
+    fn asked_in<'c>(&self, head: &HeadWords<'_>, sealed: &'c [u8]) -> Option<Asked<'c>>
+        requires { length sealed.now ≤ SEALED_LIMIT }
+        ensures asked { option_map plain result ≡ asked_of self.now.rules (head_read head.now) sealed.now }
+        ensures may { IfSome result (λ asked. MayBeAsked self.now.rules asked) }
+    {
+        if head.kind == b"submit".as_slice() {
+            self.submission_in(head, sealed)
+        } else if head.kind == b"withdraw".as_slice() {
+            self.withdrawal_in(head)
+        } else if head.kind == b"show".as_slice() {
+            self.show_in(head)
+        } else if head.kind == b"close".as_slice() {
+            self.close_in(head)
+        } else {
+            None
         }
     }
 
@@ -223,13 +305,13 @@ impl<J: Judge + Drop> Desk<J> {
         requires { length text.now.sealed.now ≤ SEALED_LIMIT }
         ensures { IfOk result (λ is. is ≡ true → IsNextEntry self.old bytes.now self.new) }
     {
-        let Some(durable) = number(text.durable) else {
+        let Some(durable) = number(text.head.durable) else {
             return Ok(false);
         };
         if durable > self.extent() || !self.is_open() {
             return Ok(false);
         }
-        let Some(asked) = self.asked_in(text) else {
+        let Some(asked) = self.asked_in(&text.head, text.sealed) else {
             return Ok(false);
         };
         self.set_durable(durable);
@@ -247,7 +329,7 @@ impl<J: Judge + Drop> Desk<J> {
             return Ok(Taken::NoEntry);
         };
         let linked = digest_of_both(&self.chain, &bytes[..text.chain_at]);
-        if linked.as_slice() != text.chain {
+        if linked.as_slice() != text.tail.chain {
             return Ok(Taken::NoEntry);
         }
         if self.redo(alloc, &text, &bytes[..text.len])? {

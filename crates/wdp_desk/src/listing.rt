@@ -35,17 +35,17 @@ fn add_words(list: &mut Vec<u8>, words: &[&[u8]]) -> Result<(), AllocError> {
 // Adds the line of an entry.
 fn add_entry(list: &mut Vec<u8>, text: &EntryText<'_>) -> Result<(), AllocError> {
     let words: [&[u8]; 11] = [
-        text.entry,
-        text.time,
-        text.bidder,
-        text.session,
-        text.kind,
-        text.over,
-        text.answer,
-        text.number,
-        text.bids,
-        text.commit,
-        text.chain,
+        text.head.entry,
+        text.head.time,
+        text.head.bidder,
+        text.head.session,
+        text.head.kind,
+        text.head.over,
+        text.tail.answer,
+        text.tail.number,
+        text.head.bids,
+        text.head.commit,
+        text.tail.chain,
     ];
     add_words(list, &words)
 }

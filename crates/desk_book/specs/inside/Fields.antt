@@ -7,6 +7,7 @@ use Rattle.auction_terms.specs.Terms.{Terms}
 use Rattle.auction_terms.specs.declared.limits.TheConstants.{TEXT_LIMIT}
 use Rattle.desk_book.specs.Calls.{Head, Alone, OfForm, Withdraw, Show, Close, bidder_called, change_named, digest_named, number_up_to, over_named, session_named}
 use Rattle.desk_book.specs.Fronts.{word_named}
+use Rattle.desk_book.specs.ReadEntries.{HeadParts, TailParts}
 use Rattle.desk_book.specs.declared.calls.Who.{Who}
 use Rattle.desk_book.specs.declared.limits.TheConstants.{SEALED_LIMIT}
 use Rattle.desk_book.specs.inside.Then.{◌>>=◌}
@@ -89,3 +90,30 @@ rules_len_left fields = do
   kind ← slice_get fields 0
   n ← first (number_up_to TEXT_LIMIT) (drop 1 fields)
   if no_field (drop 1 (drop 1 fields)) && bytes_eq kind (codes "%rules") then Some n else None
+
+-- the head of an entry in what is left of its line
+unfoldable pub head_left : List (List ℕ) → Option HeadParts
+head_left fields = do
+  call ← slice_get fields 0
+  entry ← slice_get (drop 1 fields) 0
+  time ← slice_get (drop 1 (drop 1 fields)) 0
+  bidder ← slice_get (drop 1 (drop 1 (drop 1 fields))) 0
+  session ← slice_get (drop 1 (drop 1 (drop 1 (drop 1 fields)))) 0
+  kind ← slice_get (drop 1 (drop 1 (drop 1 (drop 1 (drop 1 fields))))) 0
+  over ← slice_get (drop 1 (drop 1 (drop 1 (drop 1 (drop 1 (drop 1 fields)))))) 0
+  commit ← slice_get (drop 1 (drop 1 (drop 1 (drop 1 (drop 1 (drop 1 (drop 1 fields))))))) 0
+  bids ← slice_get (drop 1 (drop 1 (drop 1 (drop 1 (drop 1 (drop 1 (drop 1 (drop 1 fields)))))))) 0
+  n ← first (number_up_to SEALED_LIMIT) (drop 1 (drop 1 (drop 1 (drop 1 (drop 1 (drop 1 (drop 1 (drop 1 (drop 1 fields)))))))))
+  durable ← slice_get (drop 1 (drop 1 (drop 1 (drop 1 (drop 1 (drop 1 (drop 1 (drop 1 (drop 1 (drop 1 fields)))))))))) 0
+  v ← number_of durable
+  if no_field (drop 1 (drop 1 (drop 1 (drop 1 (drop 1 (drop 1 (drop 1 (drop 1 (drop 1 (drop 1 (drop 1 fields))))))))))) && bytes_eq call (codes "%call") then Some (record { entry = entry; time = time; bidder = bidder; session = session; kind = kind; over = over; commit = commit; bids = bids; sealed_len = n; durable = durable }) else None
+
+-- the last line of an entry in what is left of it
+unfoldable pub tail_left : List (List ℕ) → Option TailParts
+tail_left fields = do
+  reply ← slice_get fields 0
+  answer ← slice_get (drop 1 fields) 0
+  number ← slice_get (drop 1 (drop 1 fields)) 0
+  chain ← slice_get (drop 1 (drop 1 (drop 1 fields))) 0
+  v ← digest_named chain
+  if no_field (drop 1 (drop 1 (drop 1 (drop 1 fields)))) && bytes_eq reply (codes "%reply") then Some (record { answer = answer; number = number; chain = chain }) else None
