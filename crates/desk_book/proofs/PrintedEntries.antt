@@ -1,15 +1,15 @@
 -- An entry that is printed is read again.
-use Rattle.std.proofs.Common.{◌≡◌, ◌<◌, ◌≤◌, ◌+◌, ◌-◌, ◌*◌, ◌^◌, ◌++◌, ◌∙◌, ℕ, Bool, true, false, List, [], ◌∷◌, Option, Some, None, append-nil, append_assoc, ap, arith, drop, get_or, length, length-append, refl, subst, sym, take}
+use Rattle.std.proofs.Common.{◌≡◌, ◌<◌, ◌+◌, ◌-◌, ◌^◌, ◌++◌, ◌∙◌, ℕ, Bool, true, false, List, [], ◌∷◌, Option, Some, None, append-nil, append_assoc, ap, arith, drop, length, length-append, refl, sym, take}
 use Rattle.std.proofs.Math.Seq.{drop-append-add, drop-append_seam, get_or-append_seam, take-append_seam}
 use Rattle.std.proofs.lemmas.Option.{slice_get-get_or}
-use Rattle.std.proofs.lemmas.Bool.{and_parts, eqb-true, le-leb, leb-true}
+use Rattle.std.proofs.lemmas.Bool.{and_parts, eqb-true, le-leb}
 use Rattle.std.specs.List.{AllByRecursion, list_all}
 use Rattle.std.specs.Option.{option_and_then, option_map_or}
 use Rattle.std.specs.Prelude.{◌==◌, ◌&&◌, IfSome, codes, decimal, if◌then◌else◌, nat_le, slice_get}
 use Rattle.auction_terms.specs.Terms.{Terms}
 use Rattle.desk_book.specs.Calls.{digest_named, head_fields, is_hex_digit, line_end}
 use Rattle.desk_book.specs.Digests.{sha_digits}
-use Rattle.desk_book.specs.Entries.{answer_number, answer_word, chain_after, entry_front, entry_tail, with_chain, bids_with, call_words, change_over, commit_word, entry_head, maker_words, name_word, sealed_of}
+use Rattle.desk_book.specs.Entries.{answer_number, answer_word, chain_after, entry_front, entry_tail, with_chain, call_words, entry_head, maker_words, name_word, sealed_of}
 use Rattle.desk_book.specs.Journals.{IsHandedIn, IsMaker, IsOver, MayBeAsked}
 use Rattle.desk_book.specs.ReadEntries.{EntryParts, HeadParts, TailParts, entry_at, entry_with, head_at, head_ending, head_in, tail_at, tail_ending, tail_in}
 use Rattle.desk_book.specs.Recording.{IsMakerNamed, is_maker_word}
@@ -230,8 +230,17 @@ join_tail h s r w n c more = join_lists h s (10 ∷ []) r w n (32 ∷ []) c (10 
 
 tail_len : (r w n c : List ℕ) → length c ≡ 64 → length ((((10 ∷ r) ++ w) ++ n) ++ 32 ∷ []) + 63 ≡ length (r ++ (w ++ (n ++ ((32 ∷ c) ++ []))))
 tail_len r w n c size =
-    omega (arith, size, length-append (((10 ∷ r) ++ w) ++ n) (32 ∷ []), length-append ((10 ∷ r) ++ w) n, length-append (10 ∷ r) w,
-    length-append r (w ++ (n ++ ((32 ∷ c) ++ []))), length-append w (n ++ ((32 ∷ c) ++ [])), length-append n ((32 ∷ c) ++ []), length-append (32 ∷ c) [])
+    omega (
+      arith,
+      size,
+      length-append (((10 ∷ r) ++ w) ++ n) (32 ∷ []),
+      length-append ((10 ∷ r) ++ w) n,
+      length-append (10 ∷ r) w,
+      length-append r (w ++ (n ++ ((32 ∷ c) ++ []))),
+      length-append w (n ++ ((32 ∷ c) ++ [])),
+      length-append n ((32 ∷ c) ++ []),
+      length-append (32 ∷ c) [],
+    )
 
 front_len : (h s t l : List ℕ) → length t + 63 ≡ length l → length ((h ++ s) ++ t) ≡ length h + length s + 1 + length l - 64
 front_len h s t l e = omega (arith, e, length-append (h ++ s) t, length-append h s)

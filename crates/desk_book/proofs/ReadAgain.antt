@@ -1,12 +1,12 @@
 -- Entries that are read again, one by one.
-use Rattle.std.proofs.Common.{◌≡◌, ◌≤◌, ◌<◌, ◌+◌, ◌-◌, ◌^◌, ◌++◌, ◌∙◌, ℕ, Bool, true, false, List, [], ◌∷◌, Option, Some, None, Err, Ok, append-nil, append_assoc, ap, arith, drop, length, length-drop, refl, subst, sym, take}
+use Rattle.std.proofs.Common.{inl, inr, ◌≡◌, ◌≤◌, ◌<◌, ◌+◌, ◌^◌, ◌++◌, ◌∙◌, ℕ, Bool, true, false, List, [], ◌∷◌, Option, Some, None, Err, Ok, append-nil, append_assoc, ap, arith, drop, length, length-drop, refl, subst, sym, take}
 use Rattle.std.proofs.lemmas.List.{drop-take, length-take-le, take-append-drop, take-take}
 use Rattle.std.proofs.lemmas.Slice.Eq.{bytes_eq-Decides}
 use Rattle.std.specs.Prelude.{MatchOption, not}
 use Rattle.std.specs.Str.{bytes_eq}
 use Rattle.bid_book.specs.History.{is_closed}
 use Rattle.desk_book.specs.Fronts.{JournalFront, front_at}
-use Rattle.desk_book.specs.Journals.{AreWritten, IsJournal, IsOpened, IsReadAs, IsWritten, MayBeAsked, Written, desk_after, texts_of}
+use Rattle.desk_book.specs.Journals.{AreWritten, HasNoEntry, IsDamaged, IsJournal, IsLinked, IsOpened, IsReadAs, IsTorn, IsWritten, SaysBeyond, MayBeAsked, Written, desk_after, texts_of}
 use Rattle.desk_book.specs.Recording.{IsRecordedAs, answer_due}
 use Rattle.desk_book.specs.declared.asked.Asked.{Asked}
 use Rattle.desk_book.specs.declared.desk.Desk.{Desk}
@@ -15,9 +15,20 @@ use Rattle.desk_book.specs.declared.replaying.ReadFault.{ReadFault}
 use Rattle.desk_book.specs.declared.replaying.ReadFault.TheVariants as fault
 use Rattle.desk_book.specs.inside.Reading.{AreRead, IsNextEntry, IsReadTo}
 
+-- what holds of what is there, and what holds where nothing is
+pub match_some : {R : Type 0} (o : Option R) (r : R) (P : Type 0) (Q : R → Type 0) → MatchOption o P Q → o ≡ Some r → Q r
+match_some o r P Q holds is = subst (λ (p : Option _). MatchOption p P Q) is holds
+
+pub match_none : {R : Type 0} (o : Option R) (P : Type 0) (Q : R → Type 0) → MatchOption o P Q → o ≡ None → P
+match_none o P Q holds is = subst (λ (p : Option _). MatchOption p P Q) is holds
+
 pub open_if : (b : Bool) → not b ≡ true → b ≡ false
 open_if true is = absurd cc
 open_if false is = refl
+
+pub true_if : (b : Bool) → not b ≡ false → b ≡ true
+true_if true is = refl
+true_if false is = absurd cc
 
 module _ {J : Type 0} (m s n : Desk J) (d : ℕ) (a : Asked) (bytes : List ℕ) where
   -- what is recorded again is the next entry, if its bytes are these
@@ -91,6 +102,26 @@ module _ {J : Type 0} where
         desk_is = sym last ∙ sym (desk_after-push start was.entries e);
       }
 
+module _ {J : Type 0} (start : Desk J) (bytes : List ℕ) (from at : ℕ) (m n : Desk J) (rest : List ℕ) (was : IsReadTo start bytes from at m)
+    (left : rest ≡ drop at bytes) where
+  -- where it ends, nothing that was told is lost
+  pub ended : n ≡ m → ¬ (IsLinked m rest) → ¬ (SaysBeyond rest at) → AreRead start bytes from (Ok at) n
+  ended same none untold =
+      let torn : IsTorn m rest = record { no_entry = none; not_told = subst (λ (k : ℕ). ¬ (SaysBeyond rest k)) (sym was.extent) untold } in (
+        subst (λ (d : Desk J). IsReadTo start bytes from at d) (sym same) was,
+        subst (λ (d : Desk J). IsTorn d (drop at bytes)) (sym same) (subst (λ (l : List ℕ). IsTorn m l) left torn),
+      )
+
+  -- what was told is lost
+  pub lost : ¬ (IsLinked m rest) → SaysBeyond rest at → AreRead start bytes from (Err (fault.Damaged at)) n
+  lost none told =
+      let here : SaysBeyond rest m.extent = subst (λ (k : ℕ). SaysBeyond rest k) (sym was.extent) told in
+      (m, was, subst (λ (l : List ℕ). IsDamaged m l) left (inl (none, here)))
+
+  -- an entry is another one
+  pub changed : IsLinked m rest → HasNoEntry m rest → AreRead start bytes from (Err (fault.Damaged at)) n
+  changed linked none = (m, was, subst (λ (l : List ℕ). IsDamaged m l) left (inr (linked, none)))
+
 module _ {J : Type 0} (judge : J) (bytes : List ℕ) (front : JournalFront) (start : Desk J) (there : front_at bytes ≡ Ok front)
     (opened : IsOpened judge bytes front start) where
   -- what was read is a journal
@@ -110,12 +141,12 @@ module _ {J : Type 0} (judge : J) (bytes : List ℕ) (front : JournalFront) (sta
 
   -- and what was read before a fault
   pub fault_read : (why : ReadFault) (n : Desk J) → AreRead start bytes front.len (Err why) n → IsReadAs judge bytes (Err why)
-  fault_read (fault.Damaged at) n was = (was.0, journal_read at was.0 was.1)
+  fault_read (fault.Damaged at) n was = (was.0, journal_read at was.0 was.1, was.2)
   fault_read fault.OutOfMemory n was = tt
   fault_read (fault.Front why) n was = absurd was
   fault_read (fault.Rules why) n was = absurd was
 
   -- the desk that goes on with it
-  pub replayed : (end : ℕ) (m n : Desk J) → IsReadTo start bytes front.len end m → n ≡ record m { durable = end }
+  pub replayed : (end : ℕ) (m n : Desk J) → (IsReadTo start bytes front.len end m × IsTorn m (drop end bytes)) → n ≡ record m { durable = end }
       → IsReadAs judge bytes (Ok (record { desk = n; end = end }))
-  replayed end m n was is = (m, journal_read end m was, is ∙ ap (λ (d : ℕ). record m { durable = d }) (sym was.extent))
+  replayed end m n was is = (m, journal_read end m was.0, was.1, is ∙ ap (λ (d : ℕ). record m { durable = d }) (sym was.0.extent))

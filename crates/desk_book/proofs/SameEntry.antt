@@ -1,17 +1,16 @@
 -- What is read of an entry that a desk may write leads to that entry again.
-use Rattle.std.proofs.Common.{◌≡◌, ◌<◌, ◌≤◌, ◌+◌, ◌^◌, ◌++◌, ◌∙◌, ℕ, Bool, true, false, List, [], ◌∷◌, Option, Some, None, ap, arith, length, refl, subst, sym}
+use Rattle.std.proofs.Common.{◌≡◌, ◌<◌, ◌+◌, ◌^◌, ◌++◌, ◌∙◌, ℕ, Bool, true, false, List, [], ◌∷◌, Option, Some, None, append_assoc, ap, arith, length, refl, subst, sym, take}
 use Rattle.std.proofs.lemmas.Bool.{le-leb}
 use Rattle.std.proofs.lemmas.Slice.Eq.{bytes_eq-Decides}
-use Rattle.std.specs.Prelude.{MatchOption, codes, decimal, if◌then◌else◌, nat_le, option_map}
+use Rattle.std.specs.Prelude.{codes, decimal, if◌then◌else◌, option_map}
 use Rattle.std.specs.Str.{bytes_eq}
 use Rattle.auction_terms.specs.Numbers.{number_of}
 use Rattle.auction_terms.specs.Terms.{Terms}
 use Rattle.auction_terms.specs.declared.limits.TheConstants.{MOST_BIDS, MOST_SESSIONS}
-use Rattle.bid_book.specs.History.{is_closed}
-use Rattle.desk_book.specs.Calls.{bidder_called, change_named, digest_named, over_named}
-use Rattle.desk_book.specs.Entries.{entry_front, name_word, sealed_of, with_chain}
-use Rattle.desk_book.specs.Journals.{IsHandedIn, IsMaker, IsOver, IsWritten, MayBeAsked, Written}
-use Rattle.desk_book.specs.ReadEntries.{HeadParts}
+use Rattle.desk_book.specs.Calls.{change_named, over_named}
+use Rattle.desk_book.specs.Entries.{chain_after, entry_front, name_word, sealed_of, with_chain}
+use Rattle.desk_book.specs.Journals.{HasNoEntry, IsHandedIn, IsLinked, IsMaker, IsOver, IsWritten, MayBeAsked, Written}
+use Rattle.desk_book.specs.ReadEntries.{EntryParts, HeadParts, entry_at}
 use Rattle.desk_book.specs.Recording.{IsRecordedAs, answer_due}
 use Rattle.desk_book.specs.Words.{number_or}
 use Rattle.desk_book.specs.declared.answer.Answer.{Answer}
@@ -19,10 +18,11 @@ use Rattle.desk_book.specs.declared.asked.Asked.{Asked}
 use Rattle.desk_book.specs.declared.asked.Asked.TheVariants as asked
 use Rattle.desk_book.specs.declared.calls.Who.{Who}
 use Rattle.desk_book.specs.declared.desk.Desk.{Desk}
-use Rattle.desk_book.specs.declared.recording.Recorded.{Recorded}
 use Rattle.desk_book.specs.inside.Asking.{asked_of, close_of, head_parts, parts_with, plain, show_of, submission_of, who_of, withdrawal_of}
 use Rattle.desk_book.proofs.Printed.{number_back, number_up_to_back}
-use Rattle.desk_book.proofs.PrintedEntries.{IsPrinted}
+use Rattle.desk_book.proofs.PrintedEntries.{IsPrinted, entry_back, tail_parts}
+use Rattle.desk_book.specs.inside.Reading.{IsOtherEntry}
+use Rattle.std.proofs.Math.Seq.{take-append_seam}
 
 -- ---------- the call ----------
 
@@ -52,8 +52,13 @@ unfolding asked_of submission_of withdrawal_of show_of close_of
 asked_back rules n (asked.Submit who over commit bids sealed) durable may =
     let form_is : IsHandedIn over commit bids sealed.now = may.1 in
     let few = form_is.few_bids in
-    rw (number_back bids (omega (arith, few)), le-leb bids MOST_BIDS few, who_back rules who n (asked.Submit who over commit bids sealed) durable may.0,
-    over_back over form_is.over_is, form_is.commit_is) refl
+    rw (
+      number_back bids (omega (arith, few)),
+      le-leb bids MOST_BIDS few,
+      who_back rules who n (asked.Submit who over commit bids sealed) durable may.0,
+      over_back over form_is.over_is,
+      form_is.commit_is,
+    ) refl
 asked_back rules n (asked.Withdraw who over) durable may =
     let few = may.1 in
     rw (who_back rules who n (asked.Withdraw who over) durable may.0, number_up_to_back 999999999 over (omega (arith, few)) (omega arith)) refl
@@ -110,3 +115,86 @@ module _ {J : Type 0} (m : Desk J) (e : Written J) (is : IsWritten m e) where
         ap (λ (h : HeadParts). asked_of m.rules h sealed) head_is
         ∙ ap (asked_of m.rules (head_parts m.rules (length m.book + 1) e.call e.durable)) sealed_is
         ∙ asked_back m.rules (length m.book + 1) e.call e.durable is.asked
+
+    pub not_unread : number_of head.durable ≡ None → ⊥
+    not_unread none = let some = durable_read in cc
+
+    same_durable : (d : ℕ) → number_of head.durable ≡ Some d → d ≡ e.durable
+    same_durable d at = let some = durable_read in cc
+
+    pub not_beyond : (d : ℕ) → number_of head.durable ≡ Some d → m.extent < d → ⊥
+    not_beyond d at more = let same = same_durable d at in let most = is.durable in absurd (omega arith)
+
+    pub not_unasked : (o : Option Asked) → o ≡ asked_of m.rules head sealed → o ≡ None → ⊥
+    not_unasked o at none = let some = asked_read in cc
+
+    module _ (s : Desk J) (d : ℕ) (a : Asked) (so : s ≡ record m { durable = d }) (at : number_of head.durable ≡ Some d)
+        (asks : Some (plain a) ≡ asked_of m.rules head sealed) where
+      like : plain a ≡ plain e.call
+      like = let some = asked_read in cc
+
+      recorded_there : IsRecordedAs s e.call e.told e.text e.next
+      recorded_there =
+          subst (λ (t : Desk J). IsRecordedAs t e.call e.told e.text e.next)
+          (ap (λ (k : ℕ). record m { durable = k }) (sym (same_durable d at)) ∙ sym so) is.recorded
+
+      pub not_unanswered : answer_due s a ≡ None → ⊥
+      not_unanswered none = let due : answer_due s a ≡ Some e.told = due_same s a e.call like ∙ recorded_there.due in cc
+
+      pub same_text : (told : Answer) (text : List ℕ) (n : Desk J) → IsRecordedAs s a told text n → e.text ≡ text
+      same_text told text n there = sym (text_same s a e.call like told e.told text e.text n e.next there recorded_there)
+
+-- ---------- bytes that an entry stands in ----------
+
+abbrev front_of_entry : {J : Type 0} → Desk J → Written J → List ℕ
+front_of_entry m e = entry_front m.rules (length m.book + 1) e.call e.told e.durable
+
+-- the parts of an entry that a desk may write
+abbrev parts_written : {J : Type 0} → Desk J → Written J → EntryParts
+parts_written m e = record {
+  head = head_parts m.rules (length m.book + 1) e.call e.durable;
+  sealed = sealed_of e.call;
+  tail = tail_parts e.told (chain_after m.chain (front_of_entry m e));
+  chain_at = length (front_of_entry m e);
+  len = length e.text;
+}
+
+module _ {J : Type 0} (m : Desk J) (bytes : List ℕ) where
+  written_stands : (e : Written J) (more : List ℕ) → IsWritten m e → bytes ≡ e.text ++ more → entry_at bytes ≡ Some (parts_written m e)
+  written_stands e more is there =
+      let front : List ℕ = front_of_entry m e in
+      let text : e.text ≡ with_chain m.chain front = is.recorded.text_is in
+      ap entry_at (there ∙ ap (λ (t : List ℕ). t ++ more) text)
+      ∙ entry_back m.rules (length m.book + 1) e.call e.told e.durable m.chain more (printed m e is) is.recorded.number
+      ∙ ap (λ (k : ℕ). Some (record (parts_written m e) { len = k })) (sym (ap length text))
+
+  -- where no entry stands
+  pub not_linked_nowhere : entry_at bytes ≡ None → ¬ (IsLinked m bytes)
+  not_linked_nowhere none l = let some = l.stands in cc
+
+  -- where one stands with another chain
+  pub not_linked_there : (p : EntryParts) → entry_at bytes ≡ Some p → (p.tail.chain ≡ chain_after m.chain (take p.chain_at bytes) → ⊥) → ¬ (IsLinked m bytes)
+  not_linked_there p at other l =
+      let some = l.stands in
+      let same : l.parts ≡ p = cc in
+      other (subst (λ (q : EntryParts). q.tail.chain ≡ chain_after m.chain (take q.chain_at bytes)) same l.linked)
+
+  -- an entry that a desk may write next has the right chain
+  pub linked_if : (e : Written J) (more : List ℕ) → IsWritten m e → bytes ≡ e.text ++ more → IsLinked m bytes
+  linked_if e more is there =
+      let front : List ℕ = front_of_entry m e in
+      let linked : List ℕ = chain_after m.chain front in
+      let text : e.text ≡ with_chain m.chain front = is.recorded.text_is in
+      let joined : bytes ≡ front ++ (linked ++ (10 ∷ more)) =
+      there ∙ ap (λ (t : List ℕ). t ++ more) text ∙ append_assoc (front ++ linked) (10 ∷ []) more ∙ append_assoc front linked (10 ∷ more) in
+      let first : take (length front) bytes ≡ front = ap (take (length front)) joined ∙ take-append_seam front (linked ++ (10 ∷ more)) in
+      record { parts = parts_written m e; stands = written_stands e more is there; linked = ap (chain_after m.chain) (sym first) }
+
+  -- a desk may write nothing that stands there, if it doesn't write what was read
+  pub no_entry_if : (p : EntryParts) → entry_at bytes ≡ Some p → IsOtherEntry m p.head p.sealed (take p.len bytes) → HasNoEntry m bytes
+  no_entry_if p at other e more is there =
+      let said = written_stands e more is there in
+      let same : p ≡ parts_written m e = cc in
+      let cut : take p.len bytes ≡ e.text =
+      ap (λ (q : EntryParts). take q.len bytes) same ∙ ap (take (length e.text)) there ∙ take-append_seam e.text more in
+      other e is (ap (λ (q : EntryParts). q.head) same) (ap (λ (q : EntryParts). q.sealed) same) (sym cut)

@@ -1,5 +1,7 @@
 -- Journals: what a desk has written, and what is read of it again.
-use Rattle.std.specs.Prelude.{ℕ, List, [], ◌∷◌, ◌≡◌, ◌<◌, ◌≤◌, ◌^◌, ◌++◌, ⊤, Option, Some, None, Result, Ok, Err, false, if◌then◌else◌, length, nat_le, take}
+use Rattle.std.specs.Prelude.{ℕ, List, [], ◌∷◌, ◌≡◌, ◌≢◌, ◌<◌, ◌≤◌, ◌^◌, ◌==◌, ◌&&◌, ◌⊎◌, ◌++◌, ⊤, Bool, Option, Some, None, Result, Ok, Err, true, false, drop, if◌then◌else◌, length, nat_le, nat_lt, slice_get, take}
+use Rattle.std.specs.Option.{option_map_or}
+use Rattle.auction_terms.specs.Numbers.{number_of}
 use Rattle.auction_terms.specs.Records.{records_of}
 use Rattle.auction_terms.specs.RulesText.{rules_of_records}
 use Rattle.auction_terms.specs.Terms.{Terms}
@@ -10,8 +12,9 @@ use Rattle.bid_book.specs.History.{is_closed}
 use Rattle.desk_book.specs.Answers.{all_durable}
 use Rattle.desk_book.specs.Calls.{bidder_called, digest_named}
 use Rattle.desk_book.specs.Digests.{sha_digits}
-use Rattle.desk_book.specs.Entries.{name_word}
+use Rattle.desk_book.specs.Entries.{chain_after, name_word}
 use Rattle.desk_book.specs.Fronts.{JournalFront, front_at}
+use Rattle.desk_book.specs.ReadEntries.{EntryParts, HeadParts, entry_at, head_at}
 use Rattle.desk_book.specs.Recording.{IsRecordedAs}
 use Rattle.desk_book.specs.declared.answer.Answer.{Answer}
 use Rattle.desk_book.specs.declared.asked.Asked.{Asked}
@@ -108,10 +111,40 @@ pub record IsJournal {J : Type 0} (judge : J) (bytes : List ℕ) (end : ℕ) (de
   pub extent : desk.extent ≡ end
   pub desk_is : desk ≡ desk_after start entries
 
+-- an entry stands at the front of bytes whose chain is right after that of a desk
+pub record IsLinked {J : Type 0} (m : Desk J) (bytes : List ℕ) : Type 0 where
+  pub parts : EntryParts
+  pub stands : entry_at bytes ≡ Some parts
+  pub linked : parts.tail.chain ≡ chain_after m.chain (take parts.chain_at bytes)
+
+-- a desk may write no entry next that stands at the front of bytes
+abbrev pub HasNoEntry : {J : Type 0} → Desk J → List ℕ → Type 0
+HasNoEntry m bytes = (e : Written _) (more : List ℕ) → IsWritten m e → bytes ≢ e.text ++ more
+
+-- whether a head line at the front of bytes says that more bytes than these were on the disk
+unfoldable pub says_beyond : ℕ → List ℕ → Bool
+says_beyond at bytes =
+    option_map_or (λ b. b == 37) (slice_get bytes 0) false
+    && option_map_or (λ (h : HeadParts × ℕ). option_map_or (λ d. nat_lt at d) (number_of h.0.durable) false) (head_at bytes) false
+
+-- some head line in bytes says so
+abbrev pub SaysBeyond : List ℕ → ℕ → Type 0
+SaysBeyond bytes at = (place : ℕ) × (place < length bytes) × (says_beyond at (drop place bytes) ≡ true)
+
+-- bytes that may be lost: none of them is part of an entry with the right chain, and none says that more was on the disk
+pub record IsTorn {J : Type 0} (m : Desk J) (bytes : List ℕ) : Type 0 where
+  pub no_entry : ¬ (IsLinked m bytes)
+  pub not_told : ¬ (SaysBeyond bytes m.extent)
+
+-- bytes of which something is lost that was told: there is no entry with the right chain, and a head line says that more was on the disk;
+-- or there is one, and a desk doesn't write it
+abbrev pub IsDamaged : {J : Type 0} → Desk J → List ℕ → Type 0
+IsDamaged m bytes = (¬ (IsLinked m bytes) × SaysBeyond bytes m.extent) ⊎ (IsLinked m bytes × HasNoEntry m bytes)
+
 -- what is read of a journal: the desk that goes on with it, and where it ends
 abbrev pub IsReadAs : {J : Type 0} → J → List ℕ → Result (Replayed J) ReadFault → Type 0
-IsReadAs judge bytes (Ok r) = (m : Desk _) × IsJournal judge bytes r.end m × (r.desk ≡ all_durable m)
+IsReadAs judge bytes (Ok r) = (m : Desk _) × IsJournal judge bytes r.end m × IsTorn m (drop r.end bytes) × (r.desk ≡ all_durable m)
 IsReadAs judge bytes (Err (read_fault.Front why)) = front_at bytes ≡ Err why
 IsReadAs judge bytes (Err (read_fault.Rules why)) = (front : JournalFront) × (front_at bytes ≡ Ok front) × (rules_read front.rules ≡ Err why)
-IsReadAs judge bytes (Err (read_fault.Damaged at)) = (m : Desk _) × IsJournal judge bytes at m
+IsReadAs judge bytes (Err (read_fault.Damaged at)) = (m : Desk _) × IsJournal judge bytes at m × IsDamaged m (drop at bytes)
 IsReadAs judge bytes (Err read_fault.OutOfMemory) = ⊤

@@ -1,5 +1,5 @@
 -- Which entry of a journal stands at the front of bytes.
-use Rattle.std.specs.Prelude.{ℕ, List, [], ◌∷◌, ◌+◌, ◌-◌, ◌&&◌, ◌==◌, Bool, false, Option, Some, None, codes, drop, if◌then◌else◌, nat_le, slice_get, take}
+use Rattle.std.specs.Prelude.{ℕ, List, [], ◌∷◌, ◌+◌, ◌-◌, ◌==◌, false, Option, Some, None, codes, drop, if◌then◌else◌, nat_le, slice_get, take}
 use Rattle.std.specs.Option.{option_map_or}
 use Rattle.std.specs.Str.{bytes_eq}
 use Rattle.auction_terms.specs.Numbers.{number_of}

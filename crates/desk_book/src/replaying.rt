@@ -1,14 +1,14 @@
 //! Reading a journal again.
 
-ghost use Rattle.std.specs.Prelude.{◌≡◌, ◌≤◌, ◌<◌, IfOk, IfSome, length, option_map, true};
+ghost use Rattle.std.specs.Prelude.{◌≡◌, ◌≤◌, ◌<◌, IfOk, IfSome, false, length, option_map, true};
 ghost use Rattle.desk_book.specs.Calls.{head_fields};
-ghost use Rattle.desk_book.specs.Journals.{IsMaker, IsReadAs, MayBeAsked};
+ghost use Rattle.desk_book.specs.Journals.{IsMaker, IsReadAs, MayBeAsked, SaysBeyond, says_beyond};
 ghost use Rattle.desk_book.specs.ReadEntries.{entry_at, entry_read, head_at, head_in, head_read, tail_at, tail_in, tail_read};
 ghost use Rattle.desk_book.specs.declared.limits.TheConstants.{SEALED_LIMIT};
 ghost use Rattle.desk_book.specs.declared.replaying.ReadFault.TheVariants.{OutOfMemory};
 ghost use Rattle.desk_book.specs.inside.Asking.{asked_of, close_of, plain, show_of, submission_of, who_of, withdrawal_of};
 ghost use Rattle.desk_book.specs.inside.Fields.{head_left, tail_left};
-ghost use Rattle.desk_book.specs.inside.Reading.{AreRead, IsNextEntry, IsTaken};
+ghost use Rattle.desk_book.specs.inside.Reading.{AreRead, IsNextEntry, IsOtherEntry, IsTaken};
 
 use crate::asked::Asked;
 use crate::calls::Who;
@@ -303,12 +303,17 @@ impl<J: Judge + Drop> Desk<J> {
         bytes: &[u8],
     ) -> Result<bool, AllocError>
         requires { length text.now.sealed.now ≤ SEALED_LIMIT }
-        ensures { IfOk result (λ is. is ≡ true → IsNextEntry self.old bytes.now self.new) }
+        ensures same { IfOk result (λ is. is ≡ true → IsNextEntry self.old bytes.now self.new) }
+        ensures other { IfOk result (λ is. is ≡ false
+            → IsOtherEntry self.old (head_read text.now.head) text.now.sealed.now bytes.now) }
     {
         let Some(durable) = number(text.head.durable) else {
             return Ok(false);
         };
-        if durable > self.extent() || !self.is_open() {
+        if durable > self.extent() {
+            return Ok(false);
+        }
+        if !self.is_open() {
             return Ok(false);
         }
         let Some(asked) = self.asked_in(&text.head, text.sealed) else {
@@ -351,15 +356,31 @@ enum Taken {
     Other,
 }
 
-// Whether an entry head in these bytes says that the journal was on the disk beyond this byte.
-fn is_durable_beyond(bytes: &[u8], at: usize) -> bool {
-    for (place, byte) in bytes.iter().enumerate() {
-        if *byte == b'%' {
-            if let Some((words, _)) = find_head(&bytes[place..]) {
-                if number(words.durable).unwrap_or(0) > at as u64 {
-                    return true;
-                }
-            }
+// Whether a head line at the front of these bytes says that more bytes than these were on the disk.
+#[tactic(auto, unfolding(crate::specs::Journals::says_beyond))]
+fn says_beyond(at: u64, bytes: &[u8]) -> bool
+    ensures { result ≡ says_beyond at bytes.now }
+{
+    if bytes.first() != Some(&b'%') {
+        return false;
+    }
+    match find_head(bytes) {
+        Some((words, _)) => match number(words.durable) {
+            Some(durable) => at < durable,
+            None => false,
+        },
+        None => false,
+    }
+}
+
+// Whether some head line in these bytes says so.
+fn is_durable_beyond(at: u64, bytes: &[u8]) -> bool
+    ensures beyond { result ≡ true → SaysBeyond bytes.now at }
+    ensures none { result ≡ false → ¬ (SaysBeyond bytes.now at) }
+{
+    for place in 0..bytes.len() {
+        if says_beyond(at, &bytes[place..]) {
+            return true;
         }
     }
     false
@@ -377,17 +398,16 @@ fn take_entries<J: Judge + Drop>(
     ensures { AreRead desk.old bytes.now front_len result desk.new }
 {
     let mut at = front_len;
-    'entries: while at < bytes.len() {
+    'entries: loop {
         match desk.take_entry(alloc, &bytes[at..])? {
             Taken::Entry { len } => at += len,
-            Taken::NoEntry => break,
+            Taken::NoEntry if is_durable_beyond(at as u64, &bytes[at..]) => {
+                return Err(ReadFault::Damaged { at });
+            }
+            Taken::NoEntry => return Ok(at),
             Taken::Other => return Err(ReadFault::Damaged { at }),
         }
     }
-    if is_durable_beyond(&bytes[at..], at) {
-        return Err(ReadFault::Damaged { at });
-    }
-    Ok(at)
 }
 
 /// Reads the entries of a journal again, up to the first that isn't whole.

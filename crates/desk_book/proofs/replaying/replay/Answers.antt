@@ -1,4 +1,3 @@
-use Rattle.std.proofs.Common.{◌≡◌}
 use Rattle.desk_book.specs.Fronts.{front_found}
 use Rattle.desk_book.proofs.ReadAgain.{fault_read, replayed}
 use Rattle.desk_book.proofs.replaying.replay.Goals as goal

@@ -1,4 +1,4 @@
-use Rattle.std.proofs.Common.{◌≡◌, ◌∙◌, ap, sym}
+use Rattle.std.proofs.Common.{◌∙◌, ap, sym}
 use Rattle.auction_terms.specs.Terms.{Terms}
 use Rattle.desk_book.specs.Calls.{bidder_called}
 use Rattle.desk_book.proofs.Names.{called_again}
