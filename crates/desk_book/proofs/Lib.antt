@@ -6,6 +6,7 @@ mod Printed
 mod PrintedEntries
 pub mod Reading
 mod ReadAgain
+mod ReadBack
 mod Rewinding
 mod SameEntry
 mod Standing

@@ -7,11 +7,13 @@ use Rattle.std.specs.Str.{bytes_eq}
 use Rattle.auction_terms.specs.Numbers.{number_of}
 use Rattle.auction_terms.specs.Terms.{Terms}
 use Rattle.auction_terms.specs.declared.limits.TheConstants.{MOST_BIDS, MOST_SESSIONS}
+use Rattle.bid_book.specs.declared.records.Entry.{Entry}
+use Rattle.desk_book.specs.declared.commitment.Commitment.{Commitment}
 use Rattle.desk_book.specs.Calls.{change_named, over_named}
 use Rattle.desk_book.specs.Entries.{chain_after, entry_front, name_word, sealed_of, with_chain}
-use Rattle.desk_book.specs.Journals.{HasNoEntry, IsHandedIn, IsLinked, IsMaker, IsOver, IsWritten, MayBeAsked, Written}
+use Rattle.desk_book.specs.Journals.{AreAlike, HasNoEntry, IsHandedIn, IsLinked, IsMaker, IsOver, IsWritten, MayBeAsked, Written}
 use Rattle.desk_book.specs.ReadEntries.{EntryParts, HeadParts, entry_at}
-use Rattle.desk_book.specs.Recording.{IsRecordedAs, answer_due}
+use Rattle.desk_book.specs.Recording.{IsRecordedAs, answer_due, book_call, made_by, reply_owed}
 use Rattle.desk_book.specs.Words.{number_or}
 use Rattle.desk_book.specs.declared.answer.Answer.{Answer}
 use Rattle.desk_book.specs.declared.asked.Asked.{Asked}
@@ -85,9 +87,42 @@ plain_due m (asked.Withdraw who over) = refl
 plain_due m (asked.Show who) = refl
 plain_due m (asked.Close time) = refl
 
+-- what the book has of a call
+abbrev pub entry_of : {J : Type 0} → Desk J → Asked → Entry Commitment
+entry_of s a = record { caller = made_by a; call = book_call (length s.book + 1) a; reply = reply_owed s a }
+
+plain_entry : {J : Type 0} (s : Desk J) (a : Asked) → entry_of s (plain a) ≡ entry_of s a
+plain_entry s (asked.Submit who over commit bids sealed) = refl
+plain_entry s (asked.Withdraw who over) = refl
+plain_entry s (asked.Show who) = refl
+plain_entry s (asked.Close time) = refl
+
 module _ {J : Type 0} (s : Desk J) (a b : Asked) (same : plain a ≡ plain b) where
   due_same : answer_due s a ≡ answer_due s b
   due_same = sym (plain_due s a) ∙ ap (answer_due s) same ∙ plain_due s b
+
+  fronts_same : (told told' : Answer) (text text' : List ℕ) (n n' : Desk J) → IsRecordedAs s a told text n → IsRecordedAs s b told' text' n'
+      → entry_front s.rules (length s.book + 1) a told s.durable ≡ entry_front s.rules (length s.book + 1) b told' s.durable
+  fronts_same told told' text text' n n' is is' =
+      let here : Some told ≡ Some told' = sym is.due ∙ due_same ∙ is'.due in
+      let answers : told ≡ told' = cc in
+      let number : ℕ = length s.book + 1 in
+      sym (plain_front s.rules number a told s.durable) ∙ ap (λ (c : Asked). entry_front s.rules number c told s.durable) same
+      ∙ plain_front s.rules number b told s.durable ∙ ap (λ (t : Answer). entry_front s.rules number b t s.durable) answers
+
+  entry_same : entry_of s a ≡ entry_of s b
+  entry_same = sym (plain_entry s a) ∙ ap (entry_of s) same ∙ plain_entry s b
+
+  pub next_same : (told told' : Answer) (text text' : List ℕ) (n n' : Desk J) → IsRecordedAs s a told text n → IsRecordedAs s b told' text' n'
+      → text ≡ text' → AreAlike n n'
+  next_same told told' text text' n n' is is' texts = record {
+    judge = is.judge ∙ sym is'.judge;
+    rules = is.rules ∙ sym is'.rules;
+    rules_text = ap (λ v. v.items) (is.rules_text ∙ sym is'.rules_text);
+    book = is.book ∙ ap (λ (e : Entry Commitment). s.book ++ e ∷ []) entry_same ∙ sym is'.book;
+    extent = is.extent ∙ ap (λ (l : List ℕ). s.extent + length l) texts ∙ sym is'.extent;
+    chain = is.chain ∙ ap (chain_after s.chain) (fronts_same told told' text text' n n' is is') ∙ sym is'.chain;
+  }
 
   -- one call is recorded in one way
   pub text_same : (told told' : Answer) (text text' : List ℕ) (n n' : Desk J) → IsRecordedAs s a told text n → IsRecordedAs s b told' text' n' → text ≡ text'
@@ -146,11 +181,11 @@ module _ {J : Type 0} (m : Desk J) (e : Written J) (is : IsWritten m e) where
 
 -- ---------- bytes that an entry stands in ----------
 
-abbrev front_of_entry : {J : Type 0} → Desk J → Written J → List ℕ
+abbrev pub front_of_entry : {J : Type 0} → Desk J → Written J → List ℕ
 front_of_entry m e = entry_front m.rules (length m.book + 1) e.call e.told e.durable
 
 -- the parts of an entry that a desk may write
-abbrev parts_written : {J : Type 0} → Desk J → Written J → EntryParts
+abbrev pub parts_written : {J : Type 0} → Desk J → Written J → EntryParts
 parts_written m e = record {
   head = head_parts m.rules (length m.book + 1) e.call e.durable;
   sealed = sealed_of e.call;
@@ -160,7 +195,7 @@ parts_written m e = record {
 }
 
 module _ {J : Type 0} (m : Desk J) (bytes : List ℕ) where
-  written_stands : (e : Written J) (more : List ℕ) → IsWritten m e → bytes ≡ e.text ++ more → entry_at bytes ≡ Some (parts_written m e)
+  pub written_stands : (e : Written J) (more : List ℕ) → IsWritten m e → bytes ≡ e.text ++ more → entry_at bytes ≡ Some (parts_written m e)
   written_stands e more is there =
       let front : List ℕ = front_of_entry m e in
       let text : e.text ≡ with_chain m.chain front = is.recorded.text_is in

@@ -9,6 +9,7 @@ use Rattle.auction_terms.specs.declared.limits.TheConstants.{MOST_BIDS, MOST_SES
 use Rattle.auction_terms.specs.declared.rules_text.RulesFault.{RulesFault}
 use Rattle.auction_terms.specs.declared.rules_text.RulesFault.TheVariants as rules_fault
 use Rattle.bid_book.specs.History.{is_closed}
+use Rattle.bid_book.specs.declared.records.Entry.{Entry}
 use Rattle.desk_book.specs.Answers.{all_durable}
 use Rattle.desk_book.specs.Calls.{bidder_called, digest_named}
 use Rattle.desk_book.specs.Digests.{sha_digits}
@@ -20,6 +21,7 @@ use Rattle.desk_book.specs.declared.answer.Answer.{Answer}
 use Rattle.desk_book.specs.declared.asked.Asked.{Asked}
 use Rattle.desk_book.specs.declared.asked.Asked.TheVariants as asked
 use Rattle.desk_book.specs.declared.calls.Who.{Who}
+use Rattle.desk_book.specs.declared.commitment.Commitment.{Commitment}
 use Rattle.desk_book.specs.declared.desk.Desk.{Desk}
 use Rattle.desk_book.specs.declared.limits.TheConstants.{SEALED_LIMIT}
 use Rattle.desk_book.specs.declared.replaying.ReadFault.{ReadFault}
@@ -148,3 +150,29 @@ IsReadAs judge bytes (Err (read_fault.Front why)) = front_at bytes ≡ Err why
 IsReadAs judge bytes (Err (read_fault.Rules why)) = (front : JournalFront) × (front_at bytes ≡ Ok front) × (rules_read front.rules ≡ Err why)
 IsReadAs judge bytes (Err (read_fault.Damaged at)) = (m : Desk _) × IsJournal judge bytes at m × IsDamaged m (drop at bytes)
 IsReadAs judge bytes (Err read_fault.OutOfMemory) = ⊤
+
+-- two desks that tell and record the same from here on
+pub record AreAlike {J : Type 0} (m n : Desk J) : Type 0 where
+  pub judge : m.judge ≡ n.judge
+  pub rules : m.rules ≡ n.rules
+  pub rules_text : m.rules_text.items ≡ n.rules_text.items
+  pub book : m.book ≡ n.book
+  pub extent : m.extent ≡ n.extent
+  pub chain : m.chain ≡ n.chain
+
+-- a whole journal is read as the desk that has written it
+abbrev pub IsReadBack : {J : Type 0} → Desk J → ℕ → Result (Replayed J) ReadFault → Type 0
+IsReadBack m end (Ok r) = (r.end ≡ end) × AreAlike m r.desk × (r.desk.durable ≡ end)
+IsReadBack m end (Err (read_fault.Front why)) = ⊥
+IsReadBack m end (Err (read_fault.Rules why)) = ⊥
+IsReadBack m end (Err (read_fault.Damaged at)) = ⊥
+IsReadBack m end (Err read_fault.OutOfMemory) = ⊤
+
+-- of a journal whose first bytes a desk has written all of these are read: the history is this desk's, and perhaps goes on; and what is
+-- lost is behind them
+abbrev pub IsReadBeyond : {J : Type 0} → Desk J → ℕ → Result (Replayed J) ReadFault → Type 0
+IsReadBeyond m end (Ok r) = (end ≤ r.end) × ((more : List (Entry Commitment)) × (r.desk.book ≡ m.book ++ more))
+IsReadBeyond m end (Err (read_fault.Front why)) = ⊥
+IsReadBeyond m end (Err (read_fault.Rules why)) = ⊥
+IsReadBeyond m end (Err (read_fault.Damaged at)) = end ≤ at
+IsReadBeyond m end (Err read_fault.OutOfMemory) = ⊤

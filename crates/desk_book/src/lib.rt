@@ -13,6 +13,7 @@ mod fields;
 mod front;
 mod heads;
 mod judge;
+pub mod laws;
 mod limits;
 mod machine;
 mod openings;
