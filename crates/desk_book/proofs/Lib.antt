@@ -1,5 +1,6 @@
 mod Copies
 mod Extending
+mod Kept
 mod Names
 mod Parts
 mod Printed

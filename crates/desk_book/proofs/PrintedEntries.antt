@@ -10,7 +10,7 @@ use Rattle.auction_terms.specs.Terms.{Terms}
 use Rattle.desk_book.specs.Calls.{digest_named, head_fields, is_hex_digit, line_end}
 use Rattle.desk_book.specs.Digests.{sha_digits}
 use Rattle.desk_book.specs.Entries.{answer_number, answer_word, chain_after, entry_front, entry_tail, with_chain, call_words, entry_head, maker_words, name_word, sealed_of}
-use Rattle.desk_book.specs.Journals.{IsHandedIn, IsMaker, IsOver, MayBeAsked}
+use Rattle.desk_book.specs.Asking.{IsHandedIn, IsMaker, IsOver, MayBeAsked}
 use Rattle.desk_book.specs.ReadEntries.{EntryParts, HeadParts, TailParts, entry_at, entry_with, head_at, head_ending, head_in, tail_at, tail_ending, tail_in}
 use Rattle.desk_book.specs.Recording.{IsMakerNamed, is_maker_word}
 use Rattle.desk_book.specs.Words.{number_or, spaced}

@@ -6,7 +6,8 @@ use Rattle.std.specs.Prelude.{MatchOption, not}
 use Rattle.std.specs.Str.{bytes_eq}
 use Rattle.bid_book.specs.History.{is_closed}
 use Rattle.desk_book.specs.Fronts.{JournalFront, front_at}
-use Rattle.desk_book.specs.Journals.{AreWritten, HasNoEntry, IsDamaged, IsJournal, IsLinked, IsOpened, IsReadAs, IsTorn, IsWritten, SaysBeyond, MayBeAsked, Written, desk_after, texts_of}
+use Rattle.desk_book.specs.Asking.{MayBeAsked}
+use Rattle.desk_book.specs.Journals.{AreWritten, HasNoEntry, IsDamaged, IsJournal, IsLinked, IsOpened, IsReadAs, IsTorn, IsWritten, SaysBeyond, Written, desk_after, texts_of}
 use Rattle.desk_book.specs.Recording.{IsRecordedAs, answer_due}
 use Rattle.desk_book.specs.declared.asked.Asked.{Asked}
 use Rattle.desk_book.specs.declared.desk.Desk.{Desk}
@@ -34,14 +35,13 @@ module _ {J : Type 0} (m s n : Desk J) (d : ℕ) (a : Asked) (bytes : List ℕ) 
   -- what is recorded again is the next entry, if its bytes are these
   pub next_entry : (o : Option Recorded) (r : Recorded) → s ≡ record m { durable = d }
       → MatchOption o ((n ≡ s) × (answer_due s a ≡ None)) (λ r. IsRecordedAs s a r.answer r.entry.items n) → o ≡ Some r
-      → d ≤ m.extent → d < 10 ^ 18 → is_closed m.book ≡ false → MayBeAsked m.rules a → bytes_eq r.entry.items bytes ≡ true → IsNextEntry m bytes n
-  next_entry o r so recorded is durable number is_open asked same =
+      → d ≤ m.extent → d < 10 ^ 18 → is_closed m.book ≡ false → bytes_eq r.entry.items bytes ≡ true → IsNextEntry m bytes n
+  next_entry o r so recorded is durable number is_open same =
       let as_some : IsRecordedAs s a r.answer r.entry.items n =
       subst (λ (p : Option Recorded). MatchOption p ((n ≡ s) × (answer_due s a ≡ None)) (λ r. IsRecordedAs s a r.answer r.entry.items n)) is recorded in
       let e : Written J = record { call = a; told = r.answer; durable = d; text = r.entry.items; next = n } in
       let written : IsWritten m e = record {
         is_open = is_open;
-        asked = asked;
         durable = durable;
         number = number;
         recorded = subst (λ (t : Desk J). IsRecordedAs t a r.answer r.entry.items n) so as_some;

@@ -23,13 +23,13 @@ use Rattle.desk_book.specs.inside.Asking.{asked_of, head_parts, plain}
 use Rattle.desk_book.proofs.SameEntry.{asked_read, durable_read, entry_of, front_of_entry, linked_if, next_same, parts_written, written_stands}
 
 module _ {J : Type 0} where
-  alike_self : (m : Desk J) → AreAlike m m
+  pub alike_self : (m : Desk J) → AreAlike m m
   alike_self m = record { judge = refl; rules = refl; rules_text = refl; book = refl; extent = refl; chain = refl }
 
-  alike_back : (m n : Desk J) → AreAlike m n → AreAlike n m
+  pub alike_back : (m n : Desk J) → AreAlike m n → AreAlike n m
   alike_back m n a = record { judge = sym a.judge; rules = sym a.rules; rules_text = sym a.rules_text; book = sym a.book; extent = sym a.extent; chain = sym a.chain }
 
-  alike_both : (m n o : Desk J) → AreAlike m n → AreAlike n o → AreAlike m o
+  pub alike_both : (m n o : Desk J) → AreAlike m n → AreAlike n o → AreAlike m o
   alike_both m n o a b = record {
     judge = a.judge ∙ b.judge;
     rules = a.rules ∙ b.rules;
@@ -40,7 +40,7 @@ module _ {J : Type 0} where
   }
 
   module _ (m n : Desk J) (alike : AreAlike m n) where
-    abbrev moved : Desk J
+    abbrev pub moved : Desk J
     moved = record m { rules_text = n.rules_text; durable = n.durable }
 
     moved_is : moved ≡ n
@@ -55,18 +55,18 @@ module _ {J : Type 0} where
     }
 
     -- the same entry, written by the other desk
-    abbrev there : Written J → Written J
+    abbrev pub there : Written J → Written J
     there e = record e { next = record e.next { rules_text = n.rules_text } }
 
     written_moved : (e : Written J) → IsWritten m e → IsWritten moved (there e)
     written_moved e is =
         let was = is.recorded in record {
           is_open = is.is_open;
-          asked = is.asked;
           durable = is.durable;
           number = is.number;
           recorded = record {
             due = was.due;
+            may = was.may;
             named = was.named;
             few = was.few;
             number = was.number;
@@ -81,10 +81,10 @@ module _ {J : Type 0} where
           };
         }
 
-    written_there : (e : Written J) → IsWritten m e → IsWritten n (there e)
+    pub written_there : (e : Written J) → IsWritten m e → IsWritten n (there e)
     written_there e is = subst (λ (d : Desk J). IsWritten d (there e)) moved_is (written_moved e is)
 
-    next_alike : (e : Written J) → IsWritten m e → AreAlike e.next (there e).next
+    pub next_alike : (e : Written J) → IsWritten m e → AreAlike e.next (there e).next
     next_alike e is =
         record { judge = refl; rules = refl; rules_text = ap (λ v. v.items) is.recorded.rules_text ∙ alike.rules_text; book = refl; extent = refl; chain = refl }
 

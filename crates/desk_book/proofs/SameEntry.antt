@@ -11,7 +11,8 @@ use Rattle.bid_book.specs.declared.records.Entry.{Entry}
 use Rattle.desk_book.specs.declared.commitment.Commitment.{Commitment}
 use Rattle.desk_book.specs.Calls.{change_named, over_named}
 use Rattle.desk_book.specs.Entries.{chain_after, entry_front, name_word, sealed_of, with_chain}
-use Rattle.desk_book.specs.Journals.{AreAlike, HasNoEntry, IsHandedIn, IsLinked, IsMaker, IsOver, IsWritten, MayBeAsked, Written}
+use Rattle.desk_book.specs.Asking.{IsHandedIn, IsMaker, IsOver, MayBeAsked}
+use Rattle.desk_book.specs.Journals.{AreAlike, HasNoEntry, IsLinked, IsWritten, Written}
 use Rattle.desk_book.specs.ReadEntries.{EntryParts, HeadParts, entry_at}
 use Rattle.desk_book.specs.Recording.{IsRecordedAs, answer_due, book_call, made_by, reply_owed}
 use Rattle.desk_book.specs.Words.{number_or}
@@ -138,7 +139,7 @@ module _ {J : Type 0} (s : Desk J) (a b : Asked) (same : plain a ≡ plain b) wh
 module _ {J : Type 0} (m : Desk J) (e : Written J) (is : IsWritten m e) where
   -- it is printed as one that may be read
   pub printed : IsPrinted m.rules (length m.book + 1) e.call e.durable
-  printed = record { may = is.asked; named = is.recorded.named; few = is.recorded.few; number = is.number }
+  printed = record { may = is.recorded.may; named = is.recorded.named; few = is.recorded.few; number = is.number }
 
   module _ (head : HeadParts) (sealed : List ℕ) (head_is : head ≡ head_parts m.rules (length m.book + 1) e.call e.durable) (sealed_is : sealed ≡ sealed_of e.call) where
     pub durable_read : number_of head.durable ≡ Some e.durable
@@ -149,7 +150,7 @@ module _ {J : Type 0} (m : Desk J) (e : Written J) (is : IsWritten m e) where
     asked_read =
         ap (λ (h : HeadParts). asked_of m.rules h sealed) head_is
         ∙ ap (asked_of m.rules (head_parts m.rules (length m.book + 1) e.call e.durable)) sealed_is
-        ∙ asked_back m.rules (length m.book + 1) e.call e.durable is.asked
+        ∙ asked_back m.rules (length m.book + 1) e.call e.durable is.recorded.may
 
     pub not_unread : number_of head.durable ≡ None → ⊥
     not_unread none = let some = durable_read in cc

@@ -28,31 +28,6 @@ use Rattle.desk_book.specs.declared.replaying.ReadFault.{ReadFault}
 use Rattle.desk_book.specs.declared.replaying.ReadFault.TheVariants as read_fault
 use Rattle.desk_book.specs.declared.replaying.Replayed.{Replayed}
 
--- who makes a call that may be asked: a bidder whose name the rules have
-pub record IsMaker (rules : Terms) (who : Who) : Type 0 where
-  pub bidder : bidder_called rules (name_word rules who.bidder) ≡ Some who.bidder
-  pub session : who.session ≤ MOST_SESSIONS
-  pub time : who.time < 10 ^ 18
-
--- the change that a call may be made over
-abbrev pub IsOver : Option ℕ → Type 0
-IsOver None = ⊤
-IsOver (Some n) = n < 10 ^ 9
-
--- a form that may be handed in
-pub record IsHandedIn (over : Option ℕ) (commit : List ℕ) (bids : ℕ) (sealed : List ℕ) : Type 0 where
-  pub over_is : IsOver over
-  pub commit_is : digest_named commit ≡ Some commit
-  pub few_bids : bids ≤ MOST_BIDS
-  pub few_bytes : length sealed ≤ SEALED_LIMIT
-
--- a call that may be asked under these rules
-abbrev pub MayBeAsked : Terms → Asked → Type 0
-MayBeAsked rules (asked.Submit who over commit bids sealed) = IsMaker rules who × IsHandedIn over commit bids sealed.now
-MayBeAsked rules (asked.Withdraw who over) = IsMaker rules who × (over < 10 ^ 9)
-MayBeAsked rules (asked.Show who) = IsMaker rules who
-MayBeAsked rules (asked.Close time) = time < 10 ^ 18
-
 -- an entry of a journal: the call and its answer, how many bytes of the journal were on the disk, the bytes of the entry, and the desk
 -- after it
 pub record Written (J : Type 0) : Type 0 where
@@ -65,7 +40,6 @@ pub record Written (J : Type 0) : Type 0 where
 -- a desk may write this entry next: the round is open, and the entry is what is recorded of the call
 pub record IsWritten {J : Type 0} (m : Desk J) (e : Written J) : Type 0 where
   pub is_open : is_closed m.book ≡ false
-  pub asked : MayBeAsked m.rules e.call
   pub durable : e.durable ≤ m.extent
   pub number : e.durable < 10 ^ 18
   pub recorded : IsRecordedAs (record m { durable = e.durable }) e.call e.told e.text e.next

@@ -1,8 +1,9 @@
 -- What is recorded of a call.
-use Rattle.std.specs.Prelude.{ℕ, List, [], ◌∷◌, ◌≡◌, ◌<◌, ◌+◌, ◌-◌, ◌^◌, ◌++◌, ◌||◌, ⊤, Bool, true, Option, Some, None, IfSome, codes, length, nat_le, option_map}
+use Rattle.std.specs.Prelude.{ℕ, List, [], ◌∷◌, ◌≡◌, ◌<◌, ◌≤◌, ◌+◌, ◌-◌, ◌^◌, ◌++◌, ◌||◌, ⊤, Bool, true, Option, Some, None, IfSome, codes, length, nat_le, option_map}
 use Rattle.std.specs.Str.{bytes_eq}
 use Rattle.auction_terms.specs.Names.{is_name}
 use Rattle.auction_terms.specs.Terms.{Terms}
+use Rattle.auction_terms.specs.declared.limits.TheConstants.{MOST_BIDS}
 use Rattle.bid_book.specs.History.{reply_due}
 use Rattle.bid_book.specs.declared.call.Caller.{Caller}
 use Rattle.bid_book.specs.declared.call.Caller.TheVariants as caller
@@ -11,6 +12,7 @@ use Rattle.bid_book.specs.declared.call.Call.TheVariants as book
 use Rattle.bid_book.specs.declared.reply.Reply.{Reply}
 use Rattle.bid_book.specs.declared.reply.Reply.TheVariants as reply
 use Rattle.bid_book.specs.declared.standing.Standing.{Standing}
+use Rattle.desk_book.specs.Asking.{MayBeAsked}
 use Rattle.desk_book.specs.Entries.{answer_number, chain_after, entry_front, name_word, sealed_of, with_chain}
 use Rattle.desk_book.specs.declared.answer.Answer.{Answer}
 use Rattle.desk_book.specs.declared.answer.Answer.TheVariants as answer
@@ -18,6 +20,8 @@ use Rattle.desk_book.specs.declared.asked.Asked.{Asked}
 use Rattle.desk_book.specs.declared.asked.Asked.TheVariants as asked
 use Rattle.desk_book.specs.declared.calls.Call.{Call}
 use Rattle.desk_book.specs.declared.calls.Call.TheVariants as call
+use Rattle.desk_book.specs.declared.calls.Found.{Found}
+use Rattle.desk_book.specs.declared.calls.Found.TheVariants as found
 use Rattle.desk_book.specs.declared.commitment.Commitment.{Commitment}
 use Rattle.desk_book.specs.declared.desk.Desk.{Desk}
 use Rattle.desk_book.specs.declared.limits.TheConstants.{ENTRY_LEN, JOURNAL_LIMIT, LAST_ROOM}
@@ -43,6 +47,16 @@ asked_by (call.Submit s) bids = asked.Submit s.who s.over s.commit bids s.sealed
 asked_by (call.Withdraw who over) bids = asked.Withdraw who over
 asked_by (call.Show who) bids = asked.Show who
 asked_by (call.Close time) bids = asked.Close time
+
+-- a call whose form has no more bids than it may have may be asked
+abbrev pub MayBeCalled : Terms → Call → Type 0
+MayBeCalled rules c = (bids : ℕ) → bids ≤ MOST_BIDS → MayBeAsked rules (asked_by c bids)
+
+-- of a whole call that was found, this holds
+abbrev pub IfFound : Found → (Call → Type 0) → Type 0
+IfFound (found.Whole call len) P = P call
+IfFound found.Short P = ⊤
+IfFound found.Wrong P = ⊤
 
 -- the most bytes that a journal may have with the entry of a call
 abbrev pub most_with : Asked → ℕ
@@ -88,6 +102,7 @@ IsMakerNamed rules (asked.Close time) = ⊤
 -- a call is recorded with the reply that it is due, and the journal is longer by its entry
 pub record IsRecordedAs {J : Type 0} (old : Desk J) (a : Asked) (told : Answer) (text : List ℕ) (new : Desk J) : Type 0 where
   pub due : answer_due old a ≡ Some told
+  pub may : MayBeAsked old.rules a
   pub named : IsMakerNamed old.rules a
   pub few : length old.book + 1 < 2 ^ 64
   pub number : IfSome (answer_number told) (λ n. n < 2 ^ 32)

@@ -1,9 +1,10 @@
 //! Answering calls.
 
-ghost use Rattle.std.specs.Prelude.{◌≡◌, IfOk, Ok, Some, length};
+ghost use Rattle.auction_terms.specs.declared.limits.TheConstants.{MOST_BIDS};
+ghost use Rattle.std.specs.Prelude.{◌≡◌, ◌≤◌, IfOk, Ok, Some, length};
 ghost use Rattle.desk_book.specs.Answers.{IsTold, untaken_of};
 ghost use Rattle.desk_book.specs.Judging.{judged};
-ghost use Rattle.desk_book.specs.Recording.{asked_by};
+ghost use Rattle.desk_book.specs.Recording.{MayBeCalled, asked_by};
 ghost use Rattle.desk_book.specs.Replies.{again_line, line_count, other_line, refused_line, taken_line, text_in, untaken_line};
 
 use crate::asked::Asked;
@@ -144,7 +145,9 @@ impl<J: Judge + Drop> Desk<J> {
 
     // Answers a call that was judged: its form, if it has one, has so many bids.
     fn take(&mut self, alloc: Global, call: &Call<'_>, bids: u32) -> Result<Told, AllocError>
-        requires { judged self.old call.now ≡ Ok bids }
+        requires judged { judged self.old call.now ≡ Ok bids }
+        requires few { bids ≤ MOST_BIDS }
+        requires may { MayBeCalled self.old.rules call.now }
         ensures { IfOk result (λ told. IsTold J.faults self.old call.now told.line.items told.entry.items self.new) }
     {
         let asked = asked_by(call, bids);
@@ -159,6 +162,7 @@ impl<J: Judge + Drop> Desk<J> {
 
     /// Answers a call.
     pub(crate) fn answer(&mut self, alloc: Global, call: &Call<'_>) -> Result<Told, AllocError>
+        requires { MayBeCalled self.old.rules call.now }
         ensures { IfOk result (λ told. IsTold J.faults self.old call.now told.line.items told.entry.items self.new) }
     {
         match self.judge_call(alloc, call)? {

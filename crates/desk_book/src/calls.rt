@@ -1,10 +1,13 @@
 //! Calls, and reading them.
 
 ghost use Rattle.std.specs.Prelude.{◌≡◌, ◌≤◌, OnSome, IfSome, Some, option_map};
-ghost use Rattle.auction_terms.specs.declared.limits.TheConstants.{TEXT_LIMIT};
+ghost use Rattle.auction_terms.specs.Terms.{Terms};
+ghost use Rattle.auction_terms.specs.declared.limits.TheConstants.{MOST_SESSIONS, TEXT_LIMIT};
 ghost use Rattle.desk_book.specs.declared.limits.TheConstants.{SEALED_LIMIT};
-ghost use Rattle.desk_book.specs.Calls.{call_at, call_head, call_of_head, head_fields, head_of, session_named, sessions_given, stands_as};
+ghost use Rattle.desk_book.specs.Calls.{digest_named, call_at, call_head, call_of_head, head_fields, head_of, session_named, sessions_given, stands_as};
 ghost use Rattle.desk_book.specs.inside.Fields.{behind_who, close_left, show_left, submit_left, who_left, withdraw_left};
+ghost use Rattle.desk_book.specs.Asking.{IsMaker, IsOver};
+ghost use Rattle.desk_book.specs.Recording.{IfFound, MayBeCalled};
 ghost use Rattle.desk_book.specs.inside.Found.{alone, of_form};
 
 use crate::fields::Fields;
@@ -61,7 +64,8 @@ struct FormHead {
 
 // How many sessions a bidder has.
 fn sessions_of(rules: &Rules, bidder: u16) -> u8
-    ensures { result ≡ sessions_given rules.now bidder }
+    ensures count { result ≡ sessions_given rules.now bidder }
+    ensures few { result ≤ MOST_SESSIONS }
 {
     match rules.bidders().get(usize::from(bidder).saturating_sub(1)) {
         Some(bidder) => bidder.sessions,
@@ -71,7 +75,8 @@ fn sessions_of(rules: &Rules, bidder: u16) -> u8
 
 // The session of a bidder that a field names.
 fn session_of(rules: &Rules, bidder: u16, field: &[u8]) -> Option<u8>
-    ensures { result ≡ session_named rules.now bidder field.now }
+    ensures session { result ≡ session_named rules.now bidder field.now }
+    ensures few { IfSome result (λ s. s ≤ MOST_SESSIONS) }
 {
     let session = number(field)?;
     if 1 <= session && session <= u64::from(sessions_of(rules, bidder)) {
@@ -85,6 +90,7 @@ fn session_of(rules: &Rules, bidder: u16, field: &[u8]) -> Option<u8>
 #[tactic(auto, unfolding(crate::specs::inside::Fields::who_left))]
 fn read_who(rules: &Rules, fields: &mut Fields<'_>) -> Option<Who>
     ensures who { result ≡ who_left rules.now fields.old }
+    ensures maker { IfSome result (λ who. IsMaker rules.now who) }
     ensures rest { OnSome result (fields.new ≡ behind_who fields.old) }
 {
     let bidder = rules.bidder_number(fields.next()?)?;
@@ -101,6 +107,9 @@ fn read_who(rules: &Rules, fields: &mut Fields<'_>) -> Option<Who>
 #[tactic(auto, unfolding(crate::specs::inside::Fields::submit_left))]
 fn read_form_head(rules: &Rules, mut fields: Fields<'_>) -> Option<FormHead>
     ensures head { option_map of_form result ≡ submit_left rules.now fields.entry }
+    ensures maker { IfSome result (λ h. IsMaker rules.now h.who) }
+    ensures over { IfSome result (λ h. IsOver h.over) }
+    ensures commit { IfSome result (λ h. digest_named h.commit ≡ Some h.commit) }
     ensures text { IfSome result (λ h. h.text_len ≤ TEXT_LIMIT) }
     ensures sealed { IfSome result (λ h. h.sealed_len ≤ SEALED_LIMIT) }
 {
@@ -126,7 +135,8 @@ fn read_form_head(rules: &Rules, mut fields: Fields<'_>) -> Option<FormHead>
 
 #[tactic(auto, unfolding(crate::specs::inside::Fields::withdraw_left))]
 fn read_withdrawal<'c>(rules: &Rules, mut fields: Fields<'c>) -> Option<Call<'c>>
-    ensures { option_map alone result ≡ withdraw_left rules.now fields.entry }
+    ensures call { option_map alone result ≡ withdraw_left rules.now fields.entry }
+    ensures may { IfSome result (λ c. MayBeCalled rules.now c) }
 {
     let who = read_who(rules, &mut fields)?;
     let over = fields.change()?;
@@ -139,7 +149,8 @@ fn read_withdrawal<'c>(rules: &Rules, mut fields: Fields<'c>) -> Option<Call<'c>
 
 #[tactic(auto, unfolding(crate::specs::inside::Fields::show_left))]
 fn read_show<'c>(rules: &Rules, mut fields: Fields<'c>) -> Option<Call<'c>>
-    ensures { option_map alone result ≡ show_left rules.now fields.entry }
+    ensures call { option_map alone result ≡ show_left rules.now fields.entry }
+    ensures may { IfSome result (λ c. MayBeCalled rules.now c) }
 {
     let who = read_who(rules, &mut fields)?;
     if fields.is_done() {
@@ -151,7 +162,8 @@ fn read_show<'c>(rules: &Rules, mut fields: Fields<'c>) -> Option<Call<'c>>
 
 #[tactic(auto, unfolding(crate::specs::inside::Fields::close_left))]
 fn read_close<'c>(mut fields: Fields<'c>) -> Option<Call<'c>>
-    ensures { option_map alone result ≡ close_left fields.entry }
+    ensures call { option_map alone result ≡ close_left fields.entry }
+    ensures may { IfSome result (λ c. (rules : Terms) → MayBeCalled rules c) }
 {
     let time = fields.number()?;
     if fields.is_done() {
@@ -164,7 +176,8 @@ fn read_close<'c>(mut fields: Fields<'c>) -> Option<Call<'c>>
 // A call that is its head alone.
 #[tactic(auto, using(crate::proofs::Reading::withdraw_same, crate::proofs::Reading::show_same, crate::proofs::Reading::close_same))]
 fn read_call<'c>(rules: &Rules, kind: &[u8], fields: Fields<'c>) -> Option<Call<'c>>
-    ensures { option_map alone result ≡ call_head rules.now kind.now fields.entry }
+    ensures call { option_map alone result ≡ call_head rules.now kind.now fields.entry }
+    ensures may { IfSome result (λ c. MayBeCalled rules.now c) }
 {
     if kind == b"%withdraw".as_slice() {
         read_withdrawal(rules, fields)
@@ -178,11 +191,15 @@ fn read_call<'c>(rules: &Rules, kind: &[u8], fields: Fields<'c>) -> Option<Call<
 }
 
 // The call of a form's head line of so many bytes, behind which these stand.
-fn find_form<'c>(head: &FormHead, len: usize, behind: &'c [u8]) -> Found<'c>
+fn find_form<'c>(rules: &Rules, head: &FormHead, len: usize, behind: &'c [u8]) -> Found<'c>
+    requires maker { IsMaker rules.now head.now.who }
+    requires over { IsOver head.now.over }
+    requires commit { digest_named head.now.commit ≡ Some head.now.commit }
     requires text { head.now.text_len ≤ TEXT_LIMIT }
     requires sealed { head.now.sealed_len ≤ SEALED_LIMIT }
     requires len { len ≤ 1024 }
-    ensures { stands_as result ≡ call_of_head (Some (of_form head.now)) len behind.now }
+    ensures call { stands_as result ≡ call_of_head (Some (of_form head.now)) len behind.now }
+    ensures may { IfFound result (λ c. MayBeCalled rules.now c) }
 {
     let count = head.text_len + head.sealed_len;
     if count <= behind.len() {
@@ -208,7 +225,8 @@ fn find_form<'c>(head: &FormHead, len: usize, behind: &'c [u8]) -> Found<'c>
 #[tactic(auto, using(crate::proofs::Reading::submit_same))]
 fn find_call_of<'c>(rules: &Rules, line: &'c [u8], len: usize, behind: &'c [u8]) -> Found<'c>
     requires { len ≤ 1024 }
-    ensures { stands_as result ≡ call_of_head (head_of rules.now (head_fields line.now)) len behind.now }
+    ensures call { stands_as result ≡ call_of_head (head_of rules.now (head_fields line.now)) len behind.now }
+    ensures may { IfFound result (λ c. MayBeCalled rules.now c) }
 {
     let mut fields = Fields::of_line(line);
     let Some(kind) = fields.next() else {
@@ -216,7 +234,7 @@ fn find_call_of<'c>(rules: &Rules, line: &'c [u8], len: usize, behind: &'c [u8])
     };
     if kind == b"%submit".as_slice() {
         return match read_form_head(rules, fields) {
-            Some(head) => find_form(&head, len, behind),
+            Some(head) => find_form(rules, &head, len, behind),
             None => Found::Wrong,
         };
     }
@@ -229,7 +247,8 @@ fn find_call_of<'c>(rules: &Rules, line: &'c [u8], len: usize, behind: &'c [u8])
 /// The call at the front of these bytes.
 #[tactic(auto, unfolding(crate::specs::Calls::call_at))]
 pub fn find_call<'c>(rules: &Rules, bytes: &'c [u8]) -> Found<'c>
-    ensures { stands_as result ≡ call_at rules.now bytes.now }
+    ensures call { stands_as result ≡ call_at rules.now bytes.now }
+    ensures may { IfFound result (λ c. MayBeCalled rules.now c) }
 {
     match find_line(bytes) {
         Line::Whole(end) => {

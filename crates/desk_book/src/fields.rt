@@ -19,9 +19,10 @@ impl<'c> Model for Fields<'c> {
 }
 
 impl<'c> Fields<'c> {
-    ghost use Rattle.std.specs.Prelude.{◌≡◌, ◌∷◌, ◌≤◌, [], IfSome, MatchOption, drop, option_map, slice_get};
+    ghost use Rattle.std.specs.Prelude.{◌≡◌, ◌∷◌, ◌<◌, ◌≤◌, ◌^◌, [], IfSome, MatchOption, Some, drop, option_map, slice_get};
     ghost use Rattle.auction_terms.specs.Numbers.{number_of};
     ghost use Rattle.desk_book.specs.Calls.{change_named, digest_named, head_fields, number_up_to, over_named};
+    ghost use Rattle.desk_book.specs.Asking.{IsOver};
     ghost use Rattle.desk_book.specs.Fronts.{word_named};
     ghost use Rattle.desk_book.specs.inside.Fields.{first, no_field};
 
@@ -45,6 +46,7 @@ impl<'c> Fields<'c> {
     pub(crate) fn number(&mut self) -> Option<u64>
         ensures number { result ≡ first number_of self.old }
         ensures rest { self.new ≡ drop 1 self.old }
+        ensures few { IfSome result (λ n. n < 10 ^ 18) }
     {
         number(self.next()?)
     }
@@ -62,6 +64,7 @@ impl<'c> Fields<'c> {
     pub(crate) fn change(&mut self) -> Option<u32>
         ensures change { result ≡ first change_named self.old }
         ensures rest { self.new ≡ drop 1 self.old }
+        ensures few { IfSome result (λ n. n < 10 ^ 9) }
     {
         change_of(self.next()?)
     }
@@ -70,6 +73,7 @@ impl<'c> Fields<'c> {
     pub(crate) fn change_if(&mut self) -> Option<Option<u32>>
         ensures change { result ≡ first over_named self.old }
         ensures rest { self.new ≡ drop 1 self.old }
+        ensures few { IfSome result IsOver }
     {
         over_of(self.next()?)
     }
@@ -78,6 +82,7 @@ impl<'c> Fields<'c> {
     pub(crate) fn digest(&mut self) -> Option<[u8; 64]>
         ensures digest { result ≡ first digest_named self.old }
         ensures rest { self.new ≡ drop 1 self.old }
+        ensures same { IfSome result (λ d. digest_named d ≡ Some d) }
     {
         digest_in(self.next()?)
     }
@@ -107,7 +112,7 @@ ghost use Rattle.std.specs.List.{list_all, position, slice_split};
 ghost use Rattle.desk_book.specs.Calls.{change_named, digest_named, is_hex_digit, number_up_to, over_named};
 ghost use Rattle.auction_terms.specs.RulesText.{is_between};
 ghost use Rattle.desk_book.specs.Fronts.{is_word};
-ghost use Rattle.desk_book.specs.Journals.{IsOver};
+ghost use Rattle.desk_book.specs.Asking.{IsOver};
 ghost use Rattle.desk_book.specs.inside.Fields.{fields_left};
 
 const GREATEST_CHANGE: u64 = 999_999_999;

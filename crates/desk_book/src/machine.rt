@@ -8,6 +8,7 @@ ghost use Rattle.desk_line.specs.Served.{Batch, IsServed, calls_of};
 ghost use Rattle.desk_book.specs.Answers.{IsDeskAnswer, IsDeskFront, all_durable};
 ghost use Rattle.desk_book.specs.Calls.{Whole, call_at, front_of, meant};
 ghost use Rattle.desk_line.specs.declared.machine.Front.TheVariants as front;
+ghost use Rattle.desk_book.specs.Recording.{MayBeCalled};
 ghost use Rattle.desk_book.specs.inside.Marks.{mark_of};
 ghost use Rattle.desk_book.specs.declared.desk.Desk.{Desk};
 ghost use Rattle.desk_book.specs.inside.MachineLaws.{extent_after, front_before, front_nothing, front_whole, front_within};
@@ -93,7 +94,8 @@ impl<J: Judge + Drop> Machine for Desk<J> {
 // The call that these bytes are.
 fn whole_call<'c>(rules: &Rules, bytes: &'c [u8]) -> Call<'c>
     requires { front.Whole (length bytes.now) ≡ front_of (call_at rules.now bytes.now) }
-    ensures { call_at rules.now bytes.now ≡ Whole (meant result) (length bytes.now) }
+    ensures call { call_at rules.now bytes.now ≡ Whole (meant result) (length bytes.now) }
+    ensures may { MayBeCalled rules.now result }
 {
     match find_call(rules, bytes) {
         Found::Whole { call, .. } => call,

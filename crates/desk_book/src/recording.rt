@@ -2,6 +2,7 @@
 
 ghost use Rattle.std.specs.Prelude.{◌≡◌, ◌++◌, ◌∷◌, [], IfOk, None, MatchOption};
 ghost use Rattle.bid_book.specs.History.{reply_due};
+ghost use Rattle.desk_book.specs.Asking.{MayBeAsked};
 ghost use Rattle.desk_book.specs.Recording.{IsRecordedAs, answer_due, answer_in, book_call, has_room, made_by, most_with};
 
 use crate::answer::{Answer, answer_of};
@@ -68,6 +69,7 @@ impl<J: Judge + Drop> Desk<J> {
         alloc: Global,
         asked: &Asked<'_>,
     ) -> Result<Option<Recorded>, AllocError>
+        requires { MayBeAsked self.old.rules asked.now }
         ensures { IfOk result (λ r. MatchOption r ((self.new ≡ self.old) × (answer_due self.old asked.now ≡ None))
             (λ r. IsRecordedAs self.old asked.now r.answer r.entry.items self.new)) }
     {

@@ -2,7 +2,8 @@
 
 ghost use Rattle.std.specs.Prelude.{◌≡◌, ◌≤◌, ◌<◌, IfOk, IfSome, false, length, option_map, true};
 ghost use Rattle.desk_book.specs.Calls.{head_fields};
-ghost use Rattle.desk_book.specs.Journals.{IsMaker, IsReadAs, MayBeAsked, SaysBeyond, says_beyond};
+ghost use Rattle.desk_book.specs.Asking.{IsMaker, MayBeAsked};
+ghost use Rattle.desk_book.specs.Journals.{IsReadAs, SaysBeyond, says_beyond};
 ghost use Rattle.desk_book.specs.ReadEntries.{entry_at, entry_read, head_at, head_in, head_read, tail_at, tail_in, tail_read};
 ghost use Rattle.desk_book.specs.declared.limits.TheConstants.{SEALED_LIMIT};
 ghost use Rattle.desk_book.specs.declared.replaying.ReadFault.TheVariants.{OutOfMemory};

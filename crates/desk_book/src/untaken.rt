@@ -1,6 +1,7 @@
 //! Why nothing is recorded of a call.
 
-ghost use Rattle.std.specs.Prelude.{◌≡◌, IfOk};
+ghost use Rattle.std.specs.Prelude.{◌≡◌, ◌≤◌, IfOk, length};
+ghost use Rattle.auction_terms.specs.declared.limits.TheConstants.{MOST_BIDS};
 ghost use Rattle.desk_book.specs.Judging.{ends_line, judged, judged_form, judged_open, judged_submission, over_for, standing_with};
 
 use crate::calls::{Call, Submission};
@@ -68,7 +69,9 @@ impl<J: Judge + Drop> Desk<J> {
 
     // Judges a text that is a form: how many bids it has, or why nothing is recorded.
     fn judge_form(&self, submission: &Submission<'_>, form: &Form) -> Result<u32, Untaken>
-        ensures { result ≡ judged_form self.now submission.now form.now }
+        requires { length form.now.bids ≤ MOST_BIDS }
+        ensures judged { result ≡ judged_form self.now submission.now form.now }
+        ensures few { IfOk result (λ bids. bids ≤ MOST_BIDS) }
     {
         if !ends_line(submission.text) {
             return Err(Untaken::NoLineEnd);
@@ -89,7 +92,8 @@ impl<J: Judge + Drop> Desk<J> {
         alloc: Global,
         submission: &Submission<'_>,
     ) -> Result<Result<u32, Untaken>, AllocError>
-        ensures { IfOk result (λ judgement. judgement ≡ judged_submission self.now submission.now) }
+        ensures judged { IfOk result (λ judgement. judgement ≡ judged_submission self.now submission.now) }
+        ensures few { IfOk result (λ judgement. IfOk judgement (λ bids. bids ≤ MOST_BIDS)) }
     {
         if commit_of(&submission.salt, submission.text) != submission.commit {
             return Ok(Err(Untaken::BadCommit));
@@ -107,7 +111,8 @@ impl<J: Judge + Drop> Desk<J> {
         alloc: Global,
         call: &Call<'_>,
     ) -> Result<Result<u32, Untaken>, AllocError>
-        ensures { IfOk result (λ judgement. judgement ≡ judged self.now call.now) }
+        ensures judged { IfOk result (λ judgement. judgement ≡ judged self.now call.now) }
+        ensures few { IfOk result (λ judgement. IfOk judgement (λ bids. bids ≤ MOST_BIDS)) }
     {
         if !self.book.is_open() {
             return Ok(Err(over_for(call)));

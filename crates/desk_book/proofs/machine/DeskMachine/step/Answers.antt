@@ -9,7 +9,7 @@ returns g c =
     (λ kept. (
       c.in_ok-line.field-0.line.items,
       c.in_ok-line.field-0.entry.items,
-      record { call = c.whole_call-call.result; stands = c.whole_call-call.ensures; told = c.in_ok-line.ensures },
+      record { call = c.whole_call-call.result; stands = c.whole_call-call.ensures.call; told = c.in_ok-line.ensures },
       search rules,
       search (rules, kept),
     ))
