@@ -5,10 +5,15 @@ use Rattle.std.specs.Io.KnownBytes.{append_known}
 use Rattle.std.specs.Prelude.{if◌then◌else◌, nat_le}
 use Rattle.bid_book.specs.History.{is_closed}
 use Rattle.desk_line.specs.Fronts.{Step, AreSteps, entries_in, state_after}
-use Rattle.desk_line.specs.Served.{AreBatches, Batch, LineState, line_after, line_with}
+use Rattle.desk_line.specs.Served.{AreBatches, Batch, IsServed, LineState, line_after, line_with}
 use Rattle.desk_book.specs.Answers.{IsCallTaken, IsDeskAnswer, IsDeskFront, all_durable, limit_if, no_room, untaken_as, untaken_of}
+use Rattle.desk_book.specs.Digests.{sha_digits}
 use Rattle.desk_book.specs.Entries.{sealed_of}
-use Rattle.desk_book.specs.Journals.{AreAlike, AreWritten, IsWritten, Written, desk_after, texts_of}
+use Rattle.desk_book.specs.Fronts.{JournalFront}
+use Rattle.desk_book.proofs.FrontStays.{front_stays}
+use Rattle.std.proofs.Math.Seq.{take-length}
+use Rattle.std.proofs.lemmas.List.{take-append-le}
+use Rattle.desk_book.specs.Journals.{AreAlike, AreWritten, IsJournal, IsWritten, KeepsJournal, Written, desk_after, texts_of}
 use Rattle.desk_book.specs.Judging.{judged, judged_open, over_for}
 use Rattle.desk_book.specs.Recording.{answer_due, asked_by, has_room, most_with}
 use Rattle.desk_book.specs.declared.answer.Answer.{Answer}
@@ -19,7 +24,7 @@ use Rattle.desk_book.specs.declared.desk.Desk.{Desk}
 use Rattle.desk_book.specs.declared.limits.TheConstants.{ENTRY_LEN, JOURNAL_LIMIT}
 use Rattle.desk_book.specs.declared.untaken.Untaken.{Untaken}
 use Rattle.desk_book.specs.declared.untaken.Untaken.TheVariants as untaken
-use Rattle.desk_book.proofs.ReadBack.{alike_back, next_alike, there, written_there}
+use Rattle.desk_book.proofs.ReadBack.{alike_back, extent_grows, next_alike, there, written_there}
 
 most_room : (a : Asked) → most_with a ≤ JOURNAL_LIMIT
 most_room (asked.Submit who over commit bids sealed) = omega arith
@@ -81,37 +86,37 @@ module _ {J : Type 0} where
         → IsKept d (state_after m steps) (entries_in steps)
     steps_kept d m [] a few are = record { entries = []; written = tt; texts = refl; alike = a; few = few }
     steps_kept d m (s ∷ steps) a few are = elim are.1.told [
-        | inl untold ↦
-            let same : s.next ≡ m = untold.1.same in
-            let rest : IsKept d (state_after s.next steps) (entries_in steps) =
-            steps_kept d s.next steps (subst (λ (n : Desk J). AreAlike d n) (sym same) a) (subst (λ (n : Desk J). n.durable ≤ n.extent) (sym same) few) are.2 in
-            record {
-              entries = rest.entries;
-              written = rest.written;
-              texts = rest.texts ∙ ap (λ (l : List ℕ). l ++ entries_in steps) (sym untold.0);
-              alike = rest.alike;
-              few = rest.few;
-            }
-        | inr told ↦
-            let e : Written J = taken_entry m s.next are.1.call s.reply s.entry told in
-            let is : IsWritten m e = taken_written m s.next are.1.call s.reply s.entry told few in
-            let back : AreAlike m d = alike_back d m a in
-            let z : Written J = there m d back e in
-            let next : AreAlike z.next s.next = alike_back s.next z.next (next_alike m d back e is) in
-            let grows = told.recorded.extent in
-            let stays = told.recorded.durable in
-            let rest : IsKept z.next (state_after s.next steps) (entries_in steps) = steps_kept z.next s.next steps next (omega (arith, grows, stays, few)) are.2 in
-            record {
-              entries = z ∷ rest.entries;
-              written = (written_there m d back e is, rest.written);
-              texts = ap (λ (l : List ℕ). s.entry ++ l) rest.texts;
-              alike = rest.alike;
-              few = rest.few;
-            }
-      ]
+      | inl untold ↦
+          let same : s.next ≡ m = untold.1.same in
+          let rest : IsKept d (state_after s.next steps) (entries_in steps) =
+          steps_kept d s.next steps (subst (λ (n : Desk J). AreAlike d n) (sym same) a) (subst (λ (n : Desk J). n.durable ≤ n.extent) (sym same) few) are.2 in
+          record {
+            entries = rest.entries;
+            written = rest.written;
+            texts = rest.texts ∙ ap (λ (l : List ℕ). l ++ entries_in steps) (sym untold.0);
+            alike = rest.alike;
+            few = rest.few;
+          }
+      | inr told ↦
+          let e : Written J = taken_entry m s.next are.1.call s.reply s.entry told in
+          let is : IsWritten m e = taken_written m s.next are.1.call s.reply s.entry told few in
+          let back : AreAlike m d = alike_back d m a in
+          let z : Written J = there m d back e in
+          let next : AreAlike z.next s.next = alike_back s.next z.next (next_alike m d back e is) in
+          let grows = told.recorded.extent in
+          let stays = told.recorded.durable in
+          let rest : IsKept z.next (state_after s.next steps) (entries_in steps) = steps_kept z.next s.next steps next (omega (arith, grows, stays, few)) are.2 in
+          record {
+            entries = z ∷ rest.entries;
+            written = (written_there m d back e is, rest.written);
+            texts = ap (λ (l : List ℕ). s.entry ++ l) rest.texts;
+            alike = rest.alike;
+            few = rest.few;
+          }
+    ]
 
     -- what a line keeps
-    IsLineKept : Desk J → LineState (Desk J) → LineState (Desk J) → Type 0
+    abbrev IsLineKept : Desk J → LineState (Desk J) → LineState (Desk J) → Type 0
     IsLineKept d line now = (kept : List ℕ) × (now.kept ≡ append_known line.kept kept) × IsKept d now.state kept
 
     append_none : (k : Option (List ℕ)) → k ≡ append_known k []
@@ -140,7 +145,6 @@ module _ {J : Type 0} where
         → (line_with all_durable line (record { steps = steps; is_kept = is_kept })).state.durable ≤ (line_with all_durable line (record { steps = steps; is_kept = is_kept })).state.extent
         → IsLineKept e (line_with all_durable line (record { steps = steps; is_kept = is_kept })) end)
         → IsLineKept d line end
-    unfolding IsLineKept
     one_batch d line steps true end a first more =
         let rest = more (desk_after d first.entries) first.alike first.few in
         (entries_in steps ++ rest.0, rest.1 ∙ append_twice line.kept (entries_in steps) rest.0, kept_then d (state_after (all_durable line.state) steps) end.state (entries_in steps) rest.0 first rest.2)
@@ -149,7 +153,6 @@ module _ {J : Type 0} where
     lines_kept : (d : Desk J) (line : LineState (Desk J)) (batches : List (Batch (Desk J))) → AreAlike d line.state → line.state.durable ≤ line.state.extent
         → AreBatches (λ m bytes f. IsDeskFront m bytes f) (λ m call reply entry n. IsDeskAnswer faults m call reply entry n) all_durable line batches
         → IsLineKept d line (line_after all_durable line batches)
-    unfolding IsLineKept
     lines_kept d line [] a few are = ([], append_none line.kept, record { entries = []; written = tt; texts = refl; alike = a; few = few })
     lines_kept d line (batch ∷ batches) a few are =
         let begun : Desk J = all_durable line.state in
@@ -157,3 +160,58 @@ module _ {J : Type 0} where
         let first : IsKept d (state_after begun batch.steps) (entries_in batch.steps) = steps_kept d begun batch.steps begun_alike (omega arith) are.0 in
         one_batch d line batch.steps batch.is_kept (line_after all_durable (line_with all_durable line batch) batches) begun_alike first
         (λ d' a' few'. lines_kept d' (line_with all_durable line batch) batches a' few' are.1)
+
+    -- what a line keeps behind a journal is one with it
+    pub journal_kept : (judge : J) (bytes : List ℕ) (d : Desk J) (first now : LineState (Desk J)) (batches : List (Batch (Desk J)))
+        → IsJournal judge bytes (length bytes) d → AreAlike d first.state → first.state.durable ≤ first.state.extent → first.kept ≡ Some bytes
+        → IsServed (λ m bytes f. IsDeskFront m bytes f) (λ m call reply entry n. IsDeskAnswer faults m call reply entry n) all_durable (λ m. m.extent) first now batches
+        → KeepsJournal judge now
+    journal_kept judge bytes d first now batches j a few there served =
+        let line : IsLineKept d first (line_after all_durable first batches) = lines_kept d first batches a few served.batches_are in
+        let more : List ℕ = line.0 in
+        let k : IsKept d (line_after all_durable first batches).state more = line.2 in
+        let kept : List ℕ = bytes ++ more in
+        let front : JournalFront = j.front in
+        let grows = extent_grows j.start j.entries j.written in
+        let before = j.extent in
+        let start = j.opened.extent in
+        let here = ap (λ (e : Desk J). e.extent) j.desk_is in
+        let room : front.len ≤ length bytes = omega (arith, grows, before, start, here) in
+        let first_bytes : take front.len kept ≡ take front.len bytes = take-append-le front.len bytes more room in
+        let from_start : AreWritten (desk_after j.start j.entries) k.entries = subst (λ (e : Desk J). AreWritten e k.entries) j.desk_is k.written in
+        let both = joined j.start j.entries k.entries j.written from_start in
+        let all : List (Written J) = j.entries ++ k.entries in
+        let last : desk_after j.start all ≡ desk_after d k.entries = both.1 ∙ ap (λ (e : Desk J). desk_after e k.entries) (sym j.desk_is) in
+        let grows_more = extent_grows d k.entries k.written in
+        let size = ap length k.texts in
+        let o = j.opened in
+        record {
+          kept = kept;
+          desk = desk_after j.start all;
+          kept_is = ap (λ (l : LineState (Desk J)). l.kept) served.line_is ∙ line.1 ∙ ap (λ (o : Option (List ℕ)). append_known o more) there;
+          journal = record {
+            front = front;
+            start = j.start;
+            entries = all;
+            front_is = front_stays j.start.rules bytes more front j.front_is;
+            opened = record {
+              judge_is = o.judge_is;
+              rules_are = o.rules_are;
+              rules_text_is = o.rules_text_is;
+              no_entry = o.no_entry;
+              extent = o.extent;
+              durable = o.durable;
+              chain = o.chain ∙ ap sha_digits (sym first_bytes);
+            };
+            written = both.0;
+            bytes_are = take-length kept ∙ ap (λ (l : List ℕ). l ++ more) (sym (take-length bytes) ∙ j.bytes_are)
+                ∙ append_assoc (take front.len bytes) (texts_of j.entries) more
+                ∙ ap (λ (l : List ℕ). take front.len bytes ++ (texts_of j.entries ++ l)) (sym k.texts)
+                ∙ ap (λ (l : List ℕ). take front.len bytes ++ l) (sym (texts_join j.entries k.entries))
+                ∙ ap (λ (l : List ℕ). l ++ texts_of all) (sym first_bytes);
+            within = omega arith;
+            extent = ap (λ (e : Desk J). e.extent) last ∙ grows_more ∙ omega (arith, before, size, length-append bytes more);
+            desk_is = refl;
+          };
+          alike = subst (λ (e : Desk J). AreAlike e now.state) (sym last) (subst (λ (l : LineState (Desk J)). AreAlike (desk_after d k.entries) l.state) (sym served.line_is) k.alike);
+        }

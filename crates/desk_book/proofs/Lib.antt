@@ -1,5 +1,6 @@
 mod Copies
 mod Extending
+mod FrontStays
 mod Kept
 mod Names
 mod Parts

@@ -163,7 +163,7 @@ module _ {J : Type 0} where
       follow x.next y.next xs ys rest tail next ws.1 vs.1 (rest_same n z y (texts_of xs ++ rest) (texts_of ys ++ tail) is vs.0 split)
 
   -- what entries add
-  extent_grows : (m : Desk J) (zs : List (Written J)) → AreWritten m zs → (desk_after m zs).extent ≡ m.extent + length (texts_of zs)
+  pub extent_grows : (m : Desk J) (zs : List (Written J)) → AreWritten m zs → (desk_after m zs).extent ≡ m.extent + length (texts_of zs)
   extent_grows m [] ws = omega arith
   extent_grows m (z ∷ zs) ws =
       let first = ws.0.recorded.extent in

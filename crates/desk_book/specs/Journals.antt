@@ -10,6 +10,7 @@ use Rattle.auction_terms.specs.declared.rules_text.RulesFault.{RulesFault}
 use Rattle.auction_terms.specs.declared.rules_text.RulesFault.TheVariants as rules_fault
 use Rattle.bid_book.specs.History.{is_closed}
 use Rattle.bid_book.specs.declared.records.Entry.{Entry}
+use Rattle.desk_line.specs.Served.{LineState}
 use Rattle.desk_book.specs.Answers.{all_durable}
 use Rattle.desk_book.specs.Calls.{bidder_called, digest_named}
 use Rattle.desk_book.specs.Digests.{sha_digits}
@@ -150,3 +151,11 @@ IsReadBeyond m end (Err (read_fault.Front why)) = ⊥
 IsReadBeyond m end (Err (read_fault.Rules why)) = ⊥
 IsReadBeyond m end (Err (read_fault.Damaged at)) = end ≤ at
 IsReadBeyond m end (Err read_fault.OutOfMemory) = ⊤
+
+-- what is kept on a line is a journal, and the state of the line is that of the desk that has written it
+pub record KeepsJournal {J : Type 0} (judge : J) (line : LineState (Desk J)) : Type 0 where
+  pub kept : List ℕ
+  pub desk : Desk J
+  pub kept_is : line.kept ≡ Some kept
+  pub journal : IsJournal judge kept (length kept) desk
+  pub alike : AreAlike desk line.state

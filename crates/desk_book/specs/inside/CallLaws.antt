@@ -120,7 +120,7 @@ module _ (rules : Terms) where
   ended bytes call n is = ended-at bytes (line_end bytes) call n refl is
 
   -- the head line stands where the bytes behind the call are others
-  line-stays : (bytes more : List ℕ) (n end : ℕ) → line_end bytes ≡ Some end → end < HEAD_LIMIT → end < n → n ≤ length bytes
+  pub line-stays : (bytes more : List ℕ) (n end : ℕ) → line_end bytes ≡ Some end → end < HEAD_LIMIT → end < n → n ≤ length bytes
       → line_end (take n bytes ++ more) ≡ Some end
   line-stays bytes more n end at limit inside room =
       let other : List ℕ = take n bytes ++ more in
