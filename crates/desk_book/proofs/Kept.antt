@@ -13,7 +13,7 @@ use Rattle.desk_book.specs.Fronts.{JournalFront}
 use Rattle.desk_book.proofs.FrontStays.{front_stays}
 use Rattle.std.proofs.Math.Seq.{take-length}
 use Rattle.std.proofs.lemmas.List.{take-append-le}
-use Rattle.desk_book.specs.Journals.{AreAlike, AreWritten, IsJournal, IsWritten, KeepsJournal, Written, desk_after, texts_of}
+use Rattle.desk_book.specs.Journals.{AreDesksAlike, AreWritten, IsJournal, IsWritten, KeepsJournal, Written, desk_after, texts_of}
 use Rattle.desk_book.specs.Judging.{judged, judged_open, over_for}
 use Rattle.desk_book.specs.Recording.{answer_due, asked_by, has_room, most_with}
 use Rattle.desk_book.specs.declared.answer.Answer.{Answer}
@@ -68,7 +68,7 @@ module _ {J : Type 0} where
     pub entries : List (Written J)
     pub written : AreWritten d entries
     pub texts : texts_of entries ≡ kept
-    pub alike : AreAlike (desk_after d entries) m
+    pub alike : AreDesksAlike (desk_after d entries) m
     pub few : m.durable ≤ m.extent
 
   texts_join : (xs ys : List (Written J)) → texts_of (xs ++ ys) ≡ texts_of xs ++ texts_of ys
@@ -81,7 +81,7 @@ module _ {J : Type 0} where
   joined d (x ∷ xs) ys ws vs = let rest = joined x.next xs ys ws.1 vs in ((ws.0, rest.0), rest.1)
 
   module _ (faults : J → List ℕ → List ℕ → List ℕ) where
-    steps_kept : (d m : Desk J) (steps : List (Step (Desk J))) → AreAlike d m → m.durable ≤ m.extent
+    steps_kept : (d m : Desk J) (steps : List (Step (Desk J))) → AreDesksAlike d m → m.durable ≤ m.extent
         → AreSteps (λ m bytes f. IsDeskFront m bytes f) (λ m call reply entry n. IsDeskAnswer faults m call reply entry n) m steps
         → IsKept d (state_after m steps) (entries_in steps)
     steps_kept d m [] a few are = record { entries = []; written = tt; texts = refl; alike = a; few = few }
@@ -89,7 +89,7 @@ module _ {J : Type 0} where
       | inl untold ↦
           let same : s.next ≡ m = untold.1.same in
           let rest : IsKept d (state_after s.next steps) (entries_in steps) =
-          steps_kept d s.next steps (subst (λ (n : Desk J). AreAlike d n) (sym same) a) (subst (λ (n : Desk J). n.durable ≤ n.extent) (sym same) few) are.2 in
+          steps_kept d s.next steps (subst (λ (n : Desk J). AreDesksAlike d n) (sym same) a) (subst (λ (n : Desk J). n.durable ≤ n.extent) (sym same) few) are.2 in
           record {
             entries = rest.entries;
             written = rest.written;
@@ -100,9 +100,9 @@ module _ {J : Type 0} where
       | inr told ↦
           let e : Written J = taken_entry m s.next are.1.call s.reply s.entry told in
           let is : IsWritten m e = taken_written m s.next are.1.call s.reply s.entry told few in
-          let back : AreAlike m d = alike_back d m a in
+          let back : AreDesksAlike m d = alike_back d m a in
           let z : Written J = there m d back e in
-          let next : AreAlike z.next s.next = alike_back s.next z.next (next_alike m d back e is) in
+          let next : AreDesksAlike z.next s.next = alike_back s.next z.next (next_alike m d back e is) in
           let grows = told.recorded.extent in
           let stays = told.recorded.durable in
           let rest : IsKept z.next (state_after s.next steps) (entries_in steps) = steps_kept z.next s.next steps next (omega (arith, grows, stays, few)) are.2 in
@@ -134,14 +134,14 @@ module _ {J : Type 0} where
           entries = k.entries ++ l.entries;
           written = both.0;
           texts = texts_join k.entries l.entries ∙ ap (λ (t : List ℕ). t ++ texts_of l.entries) k.texts ∙ ap (λ (t : List ℕ). xs ++ t) l.texts;
-          alike = subst (λ (e : Desk J). AreAlike e n) (sym both.1) l.alike;
+          alike = subst (λ (e : Desk J). AreDesksAlike e n) (sym both.1) l.alike;
           few = l.few;
         }
 
     -- the lines after one batch more
-    one_batch : (d : Desk J) (line : LineState (Desk J)) (steps : List (Step (Desk J))) (is_kept : Bool) (end : LineState (Desk J)) → AreAlike d (all_durable line.state)
+    one_batch : (d : Desk J) (line : LineState (Desk J)) (steps : List (Step (Desk J))) (is_kept : Bool) (end : LineState (Desk J)) → AreDesksAlike d (all_durable line.state)
         → IsKept d (state_after (all_durable line.state) steps) (entries_in steps)
-        → ((e : Desk J) → AreAlike e (line_with all_durable line (record { steps = steps; is_kept = is_kept })).state
+        → ((e : Desk J) → AreDesksAlike e (line_with all_durable line (record { steps = steps; is_kept = is_kept })).state
         → (line_with all_durable line (record { steps = steps; is_kept = is_kept })).state.durable ≤ (line_with all_durable line (record { steps = steps; is_kept = is_kept })).state.extent
         → IsLineKept e (line_with all_durable line (record { steps = steps; is_kept = is_kept })) end)
         → IsLineKept d line end
@@ -150,20 +150,20 @@ module _ {J : Type 0} where
         (entries_in steps ++ rest.0, rest.1 ∙ append_twice line.kept (entries_in steps) rest.0, kept_then d (state_after (all_durable line.state) steps) end.state (entries_in steps) rest.0 first rest.2)
     one_batch d line steps false end a first more = more d a (omega arith)
 
-    lines_kept : (d : Desk J) (line : LineState (Desk J)) (batches : List (Batch (Desk J))) → AreAlike d line.state → line.state.durable ≤ line.state.extent
+    lines_kept : (d : Desk J) (line : LineState (Desk J)) (batches : List (Batch (Desk J))) → AreDesksAlike d line.state → line.state.durable ≤ line.state.extent
         → AreBatches (λ m bytes f. IsDeskFront m bytes f) (λ m call reply entry n. IsDeskAnswer faults m call reply entry n) all_durable line batches
         → IsLineKept d line (line_after all_durable line batches)
     lines_kept d line [] a few are = ([], append_none line.kept, record { entries = []; written = tt; texts = refl; alike = a; few = few })
     lines_kept d line (batch ∷ batches) a few are =
         let begun : Desk J = all_durable line.state in
-        let begun_alike : AreAlike d begun = record { judge = a.judge; rules = a.rules; rules_text = a.rules_text; book = a.book; extent = a.extent; chain = a.chain } in
+        let begun_alike : AreDesksAlike d begun = record { judge = a.judge; rules = a.rules; rules_text = a.rules_text; book = a.book; extent = a.extent; chain = a.chain } in
         let first : IsKept d (state_after begun batch.steps) (entries_in batch.steps) = steps_kept d begun batch.steps begun_alike (omega arith) are.0 in
         one_batch d line batch.steps batch.is_kept (line_after all_durable (line_with all_durable line batch) batches) begun_alike first
         (λ d' a' few'. lines_kept d' (line_with all_durable line batch) batches a' few' are.1)
 
     -- what a line keeps behind a journal is one with it
     pub journal_kept : (judge : J) (bytes : List ℕ) (d : Desk J) (first now : LineState (Desk J)) (batches : List (Batch (Desk J)))
-        → IsJournal judge bytes (length bytes) d → AreAlike d first.state → first.state.durable ≤ first.state.extent → first.kept ≡ Some bytes
+        → IsJournal judge bytes (length bytes) d → AreDesksAlike d first.state → first.state.durable ≤ first.state.extent → first.kept ≡ Some bytes
         → IsServed (λ m bytes f. IsDeskFront m bytes f) (λ m call reply entry n. IsDeskAnswer faults m call reply entry n) all_durable (λ m. m.extent) first now batches
         → KeepsJournal judge now
     journal_kept judge bytes d first now batches j a few there served =
@@ -213,5 +213,5 @@ module _ {J : Type 0} where
             extent = ap (λ (e : Desk J). e.extent) last ∙ grows_more ∙ omega (arith, before, size, length-append bytes more);
             desk_is = refl;
           };
-          alike = subst (λ (e : Desk J). AreAlike e now.state) (sym last) (subst (λ (l : LineState (Desk J)). AreAlike (desk_after d k.entries) l.state) (sym served.line_is) k.alike);
+          alike = subst (λ (e : Desk J). AreDesksAlike e now.state) (sym last) (subst (λ (l : LineState (Desk J)). AreDesksAlike (desk_after d k.entries) l.state) (sym served.line_is) k.alike);
         }

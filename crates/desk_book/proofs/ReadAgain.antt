@@ -14,7 +14,7 @@ use Rattle.desk_book.specs.declared.desk.Desk.{Desk}
 use Rattle.desk_book.specs.declared.recording.Recorded.{Recorded}
 use Rattle.desk_book.specs.declared.replaying.ReadFault.{ReadFault}
 use Rattle.desk_book.specs.declared.replaying.ReadFault.TheVariants as fault
-use Rattle.desk_book.specs.inside.Reading.{AreRead, IsNextEntry, IsReadTo}
+use Rattle.desk_book.specs.inside.Reading.{AreEntriesRead, IsNextEntry, IsReadTo}
 
 -- what holds of what is there, and what holds where nothing is
 pub match_some : {R : Type 0} (o : Option R) (r : R) (P : Type 0) (Q : R → Type 0) → MatchOption o P Q → o ≡ Some r → Q r
@@ -105,7 +105,7 @@ module _ {J : Type 0} where
 module _ {J : Type 0} (start : Desk J) (bytes : List ℕ) (from at : ℕ) (m n : Desk J) (rest : List ℕ) (was : IsReadTo start bytes from at m)
     (left : rest ≡ drop at bytes) where
   -- where it ends, nothing that was told is lost
-  pub ended : n ≡ m → ¬ (IsLinked m rest) → ¬ (SaysBeyond rest at) → AreRead start bytes from (Ok at) n
+  pub ended : n ≡ m → ¬ (IsLinked m rest) → ¬ (SaysBeyond rest at) → AreEntriesRead start bytes from (Ok at) n
   ended same none untold =
       let torn : IsTorn m rest = record { no_entry = none; not_told = subst (λ (k : ℕ). ¬ (SaysBeyond rest k)) (sym was.extent) untold } in (
         subst (λ (d : Desk J). IsReadTo start bytes from at d) (sym same) was,
@@ -113,13 +113,13 @@ module _ {J : Type 0} (start : Desk J) (bytes : List ℕ) (from at : ℕ) (m n :
       )
 
   -- what was told is lost
-  pub lost : ¬ (IsLinked m rest) → SaysBeyond rest at → AreRead start bytes from (Err (fault.Damaged at)) n
+  pub lost : ¬ (IsLinked m rest) → SaysBeyond rest at → AreEntriesRead start bytes from (Err (fault.Damaged at)) n
   lost none told =
       let here : SaysBeyond rest m.extent = subst (λ (k : ℕ). SaysBeyond rest k) (sym was.extent) told in
       (m, was, subst (λ (l : List ℕ). IsDamaged m l) left (inl (none, here)))
 
   -- an entry is another one
-  pub changed : IsLinked m rest → HasNoEntry m rest → AreRead start bytes from (Err (fault.Damaged at)) n
+  pub changed : IsLinked m rest → HasNoEntry m rest → AreEntriesRead start bytes from (Err (fault.Damaged at)) n
   changed linked none = (m, was, subst (λ (l : List ℕ). IsDamaged m l) left (inr (linked, none)))
 
 module _ {J : Type 0} (judge : J) (bytes : List ℕ) (front : JournalFront) (start : Desk J) (there : front_at bytes ≡ Ok front)
@@ -140,7 +140,7 @@ module _ {J : Type 0} (judge : J) (bytes : List ℕ) (front : JournalFront) (sta
   }
 
   -- and what was read before a fault
-  pub fault_read : (why : ReadFault) (n : Desk J) → AreRead start bytes front.len (Err why) n → IsReadAs judge bytes (Err why)
+  pub fault_read : (why : ReadFault) (n : Desk J) → AreEntriesRead start bytes front.len (Err why) n → IsReadAs judge bytes (Err why)
   fault_read (fault.Damaged at) n was = (was.0, journal_read at was.0 was.1, was.2)
   fault_read fault.OutOfMemory n was = tt
   fault_read (fault.Front why) n was = absurd was

@@ -7,7 +7,7 @@ use Rattle.auction_terms.specs.Terms.{Terms}
 use Rattle.desk_book.specs.Answers.{all_durable}
 use Rattle.desk_book.specs.Fronts.{JournalFront, front_at}
 use Rattle.desk_book.specs.Entries.{chain_after, sealed_of}
-use Rattle.desk_book.specs.Journals.{AreAlike, AreWritten, HasNoEntry, IsDamaged, IsJournal, IsLinked, IsOpened, IsReadAs, IsReadBack, IsReadBeyond, IsTorn, IsWritten, Written, desk_after, rules_read, texts_of}
+use Rattle.desk_book.specs.Journals.{AreDesksAlike, AreWritten, HasNoEntry, IsDamaged, IsJournal, IsLinked, IsOpened, IsReadAs, IsReadBack, IsReadBeyond, IsTorn, IsWritten, Written, desk_after, rules_read, texts_of}
 use Rattle.desk_book.specs.ReadEntries.{EntryParts, HeadParts, entry_at, head_at}
 use Rattle.desk_book.specs.Recording.{IsRecordedAs}
 use Rattle.desk_book.specs.declared.asked.Asked.{Asked}
@@ -19,17 +19,17 @@ use Rattle.desk_book.specs.declared.front.FrontFault.{FrontFault}
 use Rattle.desk_book.specs.declared.replaying.ReadFault.{ReadFault}
 use Rattle.desk_book.specs.declared.replaying.ReadFault.TheVariants as fault
 use Rattle.desk_book.specs.declared.replaying.Replayed.{Replayed}
-use Rattle.desk_book.specs.inside.Asking.{asked_of, head_parts, plain}
+use Rattle.desk_book.specs.inside.Asking.{call_of_entry, head_parts, plain}
 use Rattle.desk_book.proofs.SameEntry.{asked_read, durable_read, entry_of, front_of_entry, linked_if, next_same, parts_written, written_stands}
 
 module _ {J : Type 0} where
-  pub alike_self : (m : Desk J) → AreAlike m m
+  pub alike_self : (m : Desk J) → AreDesksAlike m m
   alike_self m = record { judge = refl; rules = refl; rules_text = refl; book = refl; extent = refl; chain = refl }
 
-  pub alike_back : (m n : Desk J) → AreAlike m n → AreAlike n m
+  pub alike_back : (m n : Desk J) → AreDesksAlike m n → AreDesksAlike n m
   alike_back m n a = record { judge = sym a.judge; rules = sym a.rules; rules_text = sym a.rules_text; book = sym a.book; extent = sym a.extent; chain = sym a.chain }
 
-  pub alike_both : (m n o : Desk J) → AreAlike m n → AreAlike n o → AreAlike m o
+  pub alike_both : (m n o : Desk J) → AreDesksAlike m n → AreDesksAlike n o → AreDesksAlike m o
   alike_both m n o a b = record {
     judge = a.judge ∙ b.judge;
     rules = a.rules ∙ b.rules;
@@ -39,7 +39,7 @@ module _ {J : Type 0} where
     chain = a.chain ∙ b.chain;
   }
 
-  module _ (m n : Desk J) (alike : AreAlike m n) where
+  module _ (m n : Desk J) (alike : AreDesksAlike m n) where
     abbrev pub moved : Desk J
     moved = record m { rules_text = n.rules_text; durable = n.durable }
 
@@ -84,7 +84,7 @@ module _ {J : Type 0} where
     pub written_there : (e : Written J) → IsWritten m e → IsWritten n (there e)
     written_there e is = subst (λ (d : Desk J). IsWritten d (there e)) moved_is (written_moved e is)
 
-    pub next_alike : (e : Written J) → IsWritten m e → AreAlike e.next (there e).next
+    pub next_alike : (e : Written J) → IsWritten m e → AreDesksAlike e.next (there e).next
     next_alike e is =
         record { judge = refl; rules = refl; rules_text = ap (λ v. v.items) is.recorded.rules_text ∙ alike.rules_text; book = refl; extent = refl; chain = refl }
 
@@ -110,9 +110,9 @@ module _ {J : Type 0} where
     calls_same : plain x.call ≡ plain y.call
     calls_same =
         let head : HeadParts = head_parts n.rules (length n.book + 1) y.call y.durable in
-        let first : asked_of n.rules head (sealed_of y.call) ≡ Some (plain x.call) =
+        let first : call_of_entry n.rules head (sealed_of y.call) ≡ Some (plain x.call) =
         asked_read n x is head (sealed_of y.call) (sym (ap (λ (p : EntryParts). p.head) parts_same)) (sym (ap (λ (p : EntryParts). p.sealed) parts_same)) in
-        let second : asked_of n.rules head (sealed_of y.call) ≡ Some (plain y.call) = asked_read n y is' head (sealed_of y.call) refl refl in
+        let second : call_of_entry n.rules head (sealed_of y.call) ≡ Some (plain y.call) = asked_read n y is' head (sealed_of y.call) refl refl in
         let both : Some (plain x.call) ≡ Some (plain y.call) = sym first ∙ second in
         cc
 
@@ -125,7 +125,7 @@ module _ {J : Type 0} where
         let both : Some x.durable ≡ Some y.durable = sym first ∙ second in
         cc
 
-    nexts_alike : AreAlike x.next y.next
+    nexts_alike : AreDesksAlike x.next y.next
     nexts_alike =
         let s : Desk J = record n { durable = y.durable } in
         let moved_there : IsRecordedAs s x.call x.told x.text x.next =
@@ -136,7 +136,7 @@ module _ {J : Type 0} where
   record IsBeyond (m last : Desk J) (rest tail : List ℕ) : Type 0 where
     zs : List (Written J)
     at : Desk J
-    alike : AreAlike m at
+    alike : AreDesksAlike m at
     written : AreWritten at zs
     left : rest ≡ texts_of zs ++ tail
     last_is : last ≡ desk_after at zs
@@ -148,7 +148,7 @@ module _ {J : Type 0} where
     is : IsWritten last x
     left : tail ≡ x.text ++ more
 
-  follow : (m n : Desk J) (xs ys : List (Written J)) (rest tail : List ℕ) → AreAlike m n → AreWritten m xs → AreWritten n ys
+  follow : (m n : Desk J) (xs ys : List (Written J)) (rest tail : List ℕ) → AreDesksAlike m n → AreWritten m xs → AreWritten n ys
       → texts_of xs ++ rest ≡ texts_of ys ++ tail → IsBeyond (desk_after m xs) (desk_after n ys) rest tail ⊎ IsBefore (desk_after n ys) tail
   follow m n [] ys rest tail a ws vs same = inl (record { zs = ys; at = n; alike = a; written = vs; left = same; last_is = refl })
   follow m n (x ∷ xs) [] rest tail a ws vs same =
@@ -158,7 +158,7 @@ module _ {J : Type 0} where
       let is : IsWritten n z = written_there m n a x ws.0 in
       let split : z.text ++ (texts_of xs ++ rest) ≡ y.text ++ (texts_of ys ++ tail) =
       sym (append_assoc x.text (texts_of xs) rest) ∙ same ∙ append_assoc y.text (texts_of ys) tail in
-      let next : AreAlike x.next y.next =
+      let next : AreDesksAlike x.next y.next =
       alike_both x.next z.next y.next (next_alike m n a x ws.0) (nexts_alike n z y (texts_of xs ++ rest) (texts_of ys ++ tail) is vs.0 split) in
       follow x.next y.next xs ys rest tail next ws.1 vs.1 (rest_same n z y (texts_of xs ++ rest) (texts_of ys ++ tail) is vs.0 split)
 
@@ -197,7 +197,7 @@ module _ {J : Type 0} (judge : J) (bytes : List ℕ) (end : ℕ) (m : Desk J) (j
   front_same : (f : JournalFront) → front_at bytes ≡ Ok f → j.front ≡ f
   front_same f at = let here = j.front_is in cc
 
-  opened_alike : (f : JournalFront) (n : Desk J) → front_at bytes ≡ Ok f → IsOpened judge bytes f n → AreAlike j.start n
+  opened_alike : (f : JournalFront) (n : Desk J) → front_at bytes ≡ Ok f → IsOpened judge bytes f n → AreDesksAlike j.start n
   opened_alike f n at o =
       let o1 : IsOpened judge bytes f j.start = subst (λ (g : JournalFront). IsOpened judge bytes g j.start) (front_same f at) j.opened in
       let both : Ok j.start.rules ≡ Ok n.rules = sym o1.rules_are ∙ o.rules_are in
@@ -293,7 +293,7 @@ module _ {J : Type 0} (judge : J) (bytes : List ℕ) (m : Desk J) (j : IsJournal
       let none : b.zs ≡ [] = none_left b.at b.zs b.written (omega (arith, longer, most)) in
       let last : is.0 ≡ b.at = b.last_is ∙ ap (desk_after b.at) none in
       let same : r.desk ≡ all_durable b.at = is.3 ∙ ap (λ (d : Desk J). all_durable d) last in
-      let alike : AreAlike m (all_durable b.at) = record {
+      let alike : AreDesksAlike m (all_durable b.at) = record {
         judge = b.alike.judge;
         rules = b.alike.rules;
         rules_text = b.alike.rules_text;
@@ -301,7 +301,7 @@ module _ {J : Type 0} (judge : J) (bytes : List ℕ) (m : Desk J) (j : IsJournal
         extent = b.alike.extent;
         chain = b.alike.chain;
       } in
-      (omega (arith, longer, most), subst (λ (d : Desk J). AreAlike m d) (sym same) alike, ap (λ (d : Desk J). d.durable) same ∙ sym b.alike.extent ∙ j.extent)
+      (omega (arith, longer, most), subst (λ (d : Desk J). AreDesksAlike m d) (sym same) alike, ap (λ (d : Desk J). d.durable) same ∙ sym b.alike.extent ∙ j.extent)
   read_back (Err (fault.Damaged at)) is =
       let b = beyond judge bytes (length bytes) m j at is.0 is.1 (undamaged judge bytes (length bytes) m j at is.0 is.2) in
       let longer = not_shorter judge bytes (length bytes) m j at is.0 is.1 b in

@@ -12,7 +12,7 @@ use Rattle.desk_book.specs.declared.commitment.Commitment.{Commitment}
 use Rattle.desk_book.specs.Calls.{change_named, over_named}
 use Rattle.desk_book.specs.Entries.{chain_after, entry_front, name_word, sealed_of, with_chain}
 use Rattle.desk_book.specs.Asking.{IsHandedIn, IsMaker, IsOver, MayBeAsked}
-use Rattle.desk_book.specs.Journals.{AreAlike, HasNoEntry, IsLinked, IsWritten, Written}
+use Rattle.desk_book.specs.Journals.{AreDesksAlike, HasNoEntry, IsLinked, IsWritten, Written}
 use Rattle.desk_book.specs.ReadEntries.{EntryParts, HeadParts, entry_at}
 use Rattle.desk_book.specs.Recording.{IsRecordedAs, answer_due, book_call, made_by, reply_owed}
 use Rattle.desk_book.specs.Words.{number_or}
@@ -21,7 +21,7 @@ use Rattle.desk_book.specs.declared.asked.Asked.{Asked}
 use Rattle.desk_book.specs.declared.asked.Asked.TheVariants as asked
 use Rattle.desk_book.specs.declared.calls.Who.{Who}
 use Rattle.desk_book.specs.declared.desk.Desk.{Desk}
-use Rattle.desk_book.specs.inside.Asking.{asked_of, close_of, head_parts, parts_with, plain, show_of, submission_of, who_of, withdrawal_of}
+use Rattle.desk_book.specs.inside.Asking.{call_of_entry, close_of, head_parts, parts_with, plain, show_of, submission_of, who_of, withdrawal_of}
 use Rattle.desk_book.proofs.Printed.{number_back, number_up_to_back}
 use Rattle.desk_book.proofs.PrintedEntries.{IsPrinted, entry_back, tail_parts}
 use Rattle.desk_book.specs.inside.Reading.{IsOtherEntry}
@@ -50,8 +50,8 @@ over_back None h = refl
 over_back (Some n) h = over_some n (bytes_eq (decimal n) (codes "-")) refl h
 
 asked_back : (rules : Terms) (n : ℕ) (a : Asked) (durable : ℕ) → MayBeAsked rules a
-    → asked_of rules (head_parts rules n a durable) (sealed_of a) ≡ Some (plain a)
-unfolding asked_of submission_of withdrawal_of show_of close_of
+    → call_of_entry rules (head_parts rules n a durable) (sealed_of a) ≡ Some (plain a)
+unfolding call_of_entry submission_of withdrawal_of show_of close_of
 asked_back rules n (asked.Submit who over commit bids sealed) durable may =
     let form_is : IsHandedIn over commit bids sealed.now = may.1 in
     let few = form_is.few_bids in
@@ -115,7 +115,7 @@ module _ {J : Type 0} (s : Desk J) (a b : Asked) (same : plain a ≡ plain b) wh
   entry_same = sym (plain_entry s a) ∙ ap (entry_of s) same ∙ plain_entry s b
 
   pub next_same : (told told' : Answer) (text text' : List ℕ) (n n' : Desk J) → IsRecordedAs s a told text n → IsRecordedAs s b told' text' n'
-      → text ≡ text' → AreAlike n n'
+      → text ≡ text' → AreDesksAlike n n'
   next_same told told' text text' n n' is is' texts = record {
     judge = is.judge ∙ sym is'.judge;
     rules = is.rules ∙ sym is'.rules;
@@ -146,10 +146,10 @@ module _ {J : Type 0} (m : Desk J) (e : Written J) (is : IsWritten m e) where
     durable_read =
         ap (λ (h : HeadParts). number_of h.durable) head_is ∙ ap number_of (durable_is m.rules (length m.book + 1) e.call e.durable) ∙ number_back e.durable is.number
 
-    pub asked_read : asked_of m.rules head sealed ≡ Some (plain e.call)
+    pub asked_read : call_of_entry m.rules head sealed ≡ Some (plain e.call)
     asked_read =
-        ap (λ (h : HeadParts). asked_of m.rules h sealed) head_is
-        ∙ ap (asked_of m.rules (head_parts m.rules (length m.book + 1) e.call e.durable)) sealed_is
+        ap (λ (h : HeadParts). call_of_entry m.rules h sealed) head_is
+        ∙ ap (call_of_entry m.rules (head_parts m.rules (length m.book + 1) e.call e.durable)) sealed_is
         ∙ asked_back m.rules (length m.book + 1) e.call e.durable is.recorded.may
 
     pub not_unread : number_of head.durable ≡ None → ⊥
@@ -161,11 +161,11 @@ module _ {J : Type 0} (m : Desk J) (e : Written J) (is : IsWritten m e) where
     pub not_beyond : (d : ℕ) → number_of head.durable ≡ Some d → m.extent < d → ⊥
     not_beyond d at more = let same = same_durable d at in let most = is.durable in absurd (omega arith)
 
-    pub not_unasked : (o : Option Asked) → o ≡ asked_of m.rules head sealed → o ≡ None → ⊥
+    pub not_unasked : (o : Option Asked) → o ≡ call_of_entry m.rules head sealed → o ≡ None → ⊥
     not_unasked o at none = let some = asked_read in cc
 
     module _ (s : Desk J) (d : ℕ) (a : Asked) (so : s ≡ record m { durable = d }) (at : number_of head.durable ≡ Some d)
-        (asks : Some (plain a) ≡ asked_of m.rules head sealed) where
+        (asks : Some (plain a) ≡ call_of_entry m.rules head sealed) where
       like : plain a ≡ plain e.call
       like = let some = asked_read in cc
 

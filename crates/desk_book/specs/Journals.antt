@@ -127,7 +127,7 @@ IsReadAs judge bytes (Err (read_fault.Damaged at)) = (m : Desk _) × IsJournal j
 IsReadAs judge bytes (Err read_fault.OutOfMemory) = ⊤
 
 -- two desks that tell and record the same from here on
-pub record AreAlike {J : Type 0} (m n : Desk J) : Type 0 where
+pub record AreDesksAlike {J : Type 0} (m n : Desk J) : Type 0 where
   pub judge : m.judge ≡ n.judge
   pub rules : m.rules ≡ n.rules
   pub rules_text : m.rules_text.items ≡ n.rules_text.items
@@ -137,7 +137,7 @@ pub record AreAlike {J : Type 0} (m n : Desk J) : Type 0 where
 
 -- a whole journal is read as the desk that has written it
 abbrev pub IsReadBack : {J : Type 0} → Desk J → ℕ → Result (Replayed J) ReadFault → Type 0
-IsReadBack m end (Ok r) = (r.end ≡ end) × AreAlike m r.desk × (r.desk.durable ≡ end)
+IsReadBack m end (Ok r) = (r.end ≡ end) × AreDesksAlike m r.desk × (r.desk.durable ≡ end)
 IsReadBack m end (Err (read_fault.Front why)) = ⊥
 IsReadBack m end (Err (read_fault.Rules why)) = ⊥
 IsReadBack m end (Err (read_fault.Damaged at)) = ⊥
@@ -158,4 +158,4 @@ pub record KeepsJournal {J : Type 0} (judge : J) (line : LineState (Desk J)) : T
   pub desk : Desk J
   pub kept_is : line.kept ≡ Some kept
   pub journal : IsJournal judge kept (length kept) desk
-  pub alike : AreAlike desk line.state
+  pub alike : AreDesksAlike desk line.state

@@ -7,9 +7,9 @@ ghost use Rattle.desk_book.specs.Journals.{IsReadAs, SaysBeyond, says_beyond};
 ghost use Rattle.desk_book.specs.ReadEntries.{entry_at, entry_read, head_at, head_in, head_read, tail_at, tail_in, tail_read};
 ghost use Rattle.desk_book.specs.declared.limits.TheConstants.{SEALED_LIMIT};
 ghost use Rattle.desk_book.specs.declared.replaying.ReadFault.TheVariants.{OutOfMemory};
-ghost use Rattle.desk_book.specs.inside.Asking.{asked_of, close_of, plain, show_of, submission_of, who_of, withdrawal_of};
+ghost use Rattle.desk_book.specs.inside.Asking.{call_of_entry, close_of, plain, show_of, submission_of, who_of, withdrawal_of};
 ghost use Rattle.desk_book.specs.inside.Fields.{head_left, tail_left};
-ghost use Rattle.desk_book.specs.inside.Reading.{AreRead, IsNextEntry, IsOtherEntry, IsTaken};
+ghost use Rattle.desk_book.specs.inside.Reading.{AreEntriesRead, IsNextEntry, IsOtherEntry, IsEntryTaken};
 
 use crate::asked::Asked;
 use crate::calls::Who;
@@ -277,10 +277,10 @@ impl<J: Judge + Drop> Desk<J> {
     }
 
     // The call of an entry.
-    #[tactic(auto, unfolding(crate::specs::inside::Asking::asked_of))]
+    #[tactic(auto, unfolding(crate::specs::inside::Asking::call_of_entry))]
     fn asked_in<'c>(&self, head: &HeadWords<'_>, sealed: &'c [u8]) -> Option<Asked<'c>>
         requires { length sealed.now ≤ SEALED_LIMIT }
-        ensures asked { option_map plain result ≡ asked_of self.now.rules (head_read head.now) sealed.now }
+        ensures asked { option_map plain result ≡ call_of_entry self.now.rules (head_read head.now) sealed.now }
         ensures may { IfSome result (λ asked. MayBeAsked self.now.rules asked) }
     {
         if head.kind == b"submit".as_slice() {
@@ -329,7 +329,7 @@ impl<J: Judge + Drop> Desk<J> {
 
     // Takes the entry at the front of these bytes again.
     fn take_entry(&mut self, alloc: Global, bytes: &[u8]) -> Result<Taken, AllocError>
-        ensures { IfOk result (λ taken. IsTaken self.old bytes.now taken self.new) }
+        ensures { IfOk result (λ taken. IsEntryTaken self.old bytes.now taken self.new) }
     {
         let Some(text) = find_entry(bytes) else {
             return Ok(Taken::NoEntry);
@@ -396,7 +396,7 @@ fn take_entries<J: Judge + Drop>(
 ) -> Result<usize, ReadFault>
     requires extent { desk.old.extent ≡ front_len }
     requires within { front_len ≤ length bytes.now }
-    ensures { AreRead desk.old bytes.now front_len result desk.new }
+    ensures { AreEntriesRead desk.old bytes.now front_len result desk.new }
 {
     let mut at = front_len;
     'entries: loop {

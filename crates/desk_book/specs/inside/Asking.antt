@@ -55,8 +55,8 @@ module _ (rules : Terms) (h : HeadParts) where
     Some (asked.Close t)
 
   -- the call
-  unfoldable pub asked_of : List ℕ → Option Asked
-  asked_of sealed =
+  unfoldable pub call_of_entry : List ℕ → Option Asked
+  call_of_entry sealed =
       if bytes_eq h.kind (codes "submit") then submission_of sealed
       else if bytes_eq h.kind (codes "withdraw") then withdrawal_of
       else if bytes_eq h.kind (codes "show") then show_of

@@ -20,10 +20,10 @@ IsOtherEntry m head sealed bytes =
     (e : Written _) → IsWritten m e → head ≡ head_parts m.rules (length m.book + 1) e.call e.durable → sealed ≡ sealed_of e.call → e.text ≢ bytes
 
 -- an entry at the front of bytes was taken, if there is one
-abbrev pub IsTaken : {J : Type 0} → Desk J → List ℕ → Taken → Desk J → Type 0
-IsTaken m bytes (taken.Entry len) n = IsNextEntry m (take len bytes) n × (0 < len) × (len ≤ length bytes)
-IsTaken m bytes taken.NoEntry n = (n ≡ m) × ¬ (IsLinked m bytes)
-IsTaken m bytes taken.Other n = IsLinked m bytes × HasNoEntry m bytes
+abbrev pub IsEntryTaken : {J : Type 0} → Desk J → List ℕ → Taken → Desk J → Type 0
+IsEntryTaken m bytes (taken.Entry len) n = IsNextEntry m (take len bytes) n × (0 < len) × (len ≤ length bytes)
+IsEntryTaken m bytes taken.NoEntry n = (n ≡ m) × ¬ (IsLinked m bytes)
+IsEntryTaken m bytes taken.Other n = IsLinked m bytes × HasNoEntry m bytes
 
 -- the bytes between two places are entries, which lead from one desk to another
 pub record IsReadTo {J : Type 0} (start : Desk J) (bytes : List ℕ) (from at : ℕ) (m : Desk J) : Type 0 where
@@ -35,9 +35,9 @@ pub record IsReadTo {J : Type 0} (start : Desk J) (bytes : List ℕ) (from at : 
   pub desk_is : m ≡ desk_after start entries
 
 -- the entries behind a place are read, up to an end, or up to where something is lost
-abbrev pub AreRead : {J : Type 0} → Desk J → List ℕ → ℕ → Result ℕ ReadFault → Desk J → Type 0
-AreRead start bytes from (Ok end) n = IsReadTo start bytes from end n × IsTorn n (drop end bytes)
-AreRead start bytes from (Err (fault.Damaged at)) n = (m : Desk _) × IsReadTo start bytes from at m × IsDamaged m (drop at bytes)
-AreRead start bytes from (Err fault.OutOfMemory) n = ⊤
-AreRead start bytes from (Err (fault.Front why)) n = ⊥
-AreRead start bytes from (Err (fault.Rules why)) n = ⊥
+abbrev pub AreEntriesRead : {J : Type 0} → Desk J → List ℕ → ℕ → Result ℕ ReadFault → Desk J → Type 0
+AreEntriesRead start bytes from (Ok end) n = IsReadTo start bytes from end n × IsTorn n (drop end bytes)
+AreEntriesRead start bytes from (Err (fault.Damaged at)) n = (m : Desk _) × IsReadTo start bytes from at m × IsDamaged m (drop at bytes)
+AreEntriesRead start bytes from (Err fault.OutOfMemory) n = ⊤
+AreEntriesRead start bytes from (Err (fault.Front why)) n = ⊥
+AreEntriesRead start bytes from (Err (fault.Rules why)) n = ⊥
