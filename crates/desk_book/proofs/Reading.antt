@@ -7,8 +7,9 @@ use Rattle.auction_terms.specs.Numbers.{number_of}
 use Rattle.desk_book.specs.declared.limits.TheConstants.{SEALED_LIMIT}
 use Rattle.desk_book.specs.Calls.{close_head, digest_named, number_up_to, show_head, submit_head, withdraw_head}
 use Rattle.desk_book.specs.Fronts.{rules_digest_in, rules_len_in}
+use Rattle.desk_book.specs.Openings.{opening_in}
 use Rattle.desk_book.specs.ReadEntries.{head_in, tail_in}
-use Rattle.desk_book.specs.inside.Fields.{close_left, head_left, tail_left, rules_digest_left, rules_len_left, show_left, submit_left, who_left, withdraw_left}
+use Rattle.desk_book.specs.inside.Fields.{close_left, opening_left, head_left, tail_left, rules_digest_left, rules_len_left, show_left, submit_left, who_left, withdraw_left}
 
 -- nothing is made where nothing is made of whatever is there
 pub none_then : {X Y : Type 0} (o : Option X) → option_and_then {T = X} {U = Y} (λ x. None) o ≡ None
@@ -100,3 +101,11 @@ tail_same (a ∷ b ∷ []) = refl
 tail_same (a ∷ b ∷ c ∷ []) = refl
 tail_same (a ∷ b ∷ c ∷ d ∷ []) = refl
 tail_same (a ∷ b ∷ c ∷ d ∷ e ∷ more) = none_then (digest_named d)
+
+pub opening_same : (fields : List (List ℕ)) → opening_left fields ≡ opening_in fields
+unfolding opening_left
+opening_same [] = refl
+opening_same (a ∷ []) = refl
+opening_same (a ∷ b ∷ []) = none_then (digest_named b)
+opening_same (a ∷ b ∷ c ∷ []) = refl
+opening_same (a ∷ b ∷ c ∷ d ∷ more) = none_both (digest_named b) (number_up_to TEXT_LIMIT c)

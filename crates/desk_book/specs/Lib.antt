@@ -6,6 +6,7 @@ pub mod Entries
 pub mod Fronts
 pub mod Journals
 pub mod Judging
+pub mod Openings
 pub mod ReadEntries
 pub mod Recording
 pub mod Replies

@@ -1,6 +1,10 @@
 //! What opens commitments.
 
-ghost use Rattle.std.specs.Prelude.{◌<◌, ◌≤◌, IfOk, length};
+ghost use Rattle.std.specs.Prelude.{◌≡◌, ◌<◌, ◌≤◌, IfOk, IfSome, None, OnErr, Some, length, option_map};
+ghost use Rattle.auction_terms.specs.declared.limits.TheConstants.{TEXT_LIMIT};
+ghost use Rattle.desk_book.specs.Calls.{head_fields};
+ghost use Rattle.desk_book.specs.Openings.{opening_at, opening_found, opening_in};
+ghost use Rattle.desk_book.specs.inside.Fields.{opening_head, opening_left};
 
 use crate::fields::Fields;
 use crate::heads::{Line, find_line};
@@ -25,23 +29,36 @@ struct OpeningHead {
     text_len: usize,
 }
 
-fn read_head(line: &[u8]) -> Option<OpeningHead> {
-    let mut fields = Fields::of_line(line);
-    if fields.next()? != b"%opening".as_slice() {
-        return None;
-    }
+// The head line of an opening, of its fields.
+#[tactic(auto, unfolding(crate::specs::inside::Fields::opening_left))]
+fn head_of_fields(mut fields: Fields<'_>) -> Option<OpeningHead>
+    ensures head { option_map opening_head result ≡ opening_left fields.entry }
+    ensures few { IfSome result (λ h. h.text_len ≤ TEXT_LIMIT) }
+{
+    let kind = fields.next()?;
     let salt = fields.digest()?;
     let text_len = fields.number_to(TEXT_LIMIT)?;
-    if fields.is_done() {
+    if fields.is_done() && kind == b"%opening".as_slice() {
         Some(OpeningHead { salt, text_len })
     } else {
         None
     }
 }
 
+#[tactic(auto, using(crate::proofs::Reading::opening_same))]
+fn read_head(line: &[u8]) -> Option<OpeningHead>
+    ensures head { option_map opening_head result ≡ opening_in (head_fields line.now) }
+    ensures few { IfSome result (λ h. h.text_len ≤ TEXT_LIMIT) }
+{
+    head_of_fields(Fields::of_line(line))
+}
+
 /// The opening at the front of these bytes.
+#[tactic(auto, unfolding(crate::specs::Openings::opening_at))]
 pub fn find_opening(bytes: &[u8]) -> Result<Opening<'_>, OpeningFault>
-    ensures { IfOk result (λ o. (0 < o.len) × (o.len ≤ length bytes.now)) }
+    ensures found { IfOk result (λ o. opening_at bytes.now ≡ Some (opening_found o)) }
+    ensures none { OnErr result (opening_at bytes.now ≡ None) }
+    ensures within { IfOk result (λ o. (0 < o.len) × (o.len ≤ length bytes.now)) }
 {
     let Line::Whole(end) = find_line(bytes) else {
         return Err(OpeningFault);

@@ -9,6 +9,7 @@ use Rattle.desk_book.specs.Calls.{Head, Alone, OfForm, Withdraw, Show, Close, bi
 use Rattle.desk_book.specs.Fronts.{word_named}
 use Rattle.desk_book.specs.ReadEntries.{HeadParts, TailParts}
 use Rattle.desk_book.specs.declared.calls.Who.{Who}
+use Rattle.desk_book.specs.declared.openings.OpeningHead.{OpeningHead}
 use Rattle.desk_book.specs.declared.limits.TheConstants.{SEALED_LIMIT}
 use Rattle.desk_book.specs.inside.Then.{◌>>=◌}
 
@@ -117,3 +118,15 @@ tail_left fields = do
   chain ← slice_get (drop 1 (drop 1 (drop 1 fields))) 0
   v ← digest_named chain
   if no_field (drop 1 (drop 1 (drop 1 (drop 1 fields)))) && bytes_eq reply (codes "%reply") then Some (record { answer = answer; number = number; chain = chain }) else None
+
+-- the salt, and how many bytes the text has, in what is left of the head line of an opening
+unfoldable pub opening_left : List (List ℕ) → Option (List ℕ × ℕ)
+opening_left fields = do
+  kind ← slice_get fields 0
+  s ← first digest_named (drop 1 fields)
+  n ← first (number_up_to TEXT_LIMIT) (drop 1 (drop 1 fields))
+  if no_field (behind_who fields) && bytes_eq kind (codes "%opening") then Some (s, n) else None
+
+-- a head line that was read
+abbrev pub opening_head : OpeningHead → List ℕ × ℕ
+opening_head h = (h.salt, h.text_len)
