@@ -108,7 +108,7 @@ says_beyond at bytes =
 abbrev pub SaysBeyond : List ℕ → ℕ → Type 0
 SaysBeyond bytes at = (place : ℕ) × (place < length bytes) × (says_beyond at (drop place bytes) ≡ true)
 
--- bytes that may be lost: none of them is part of an entry with the right chain, and none says that more was on the disk
+-- bytes that may be cut off: no entry with the right chain stands at their front, and no head line in them says that more was on the disk
 pub record IsTorn {J : Type 0} (m : Desk J) (bytes : List ℕ) : Type 0 where
   pub no_entry : ¬ (IsLinked m bytes)
   pub not_told : ¬ (SaysBeyond bytes m.extent)
