@@ -1,12 +1,12 @@
 -- What a desk keeps of calls are entries that it may write.
-use Rattle.std.proofs.Common.{◌≡◌, ◌≤◌, ◌<◌, ◌+◌, ◌-◌, ◌^◌, ◌++◌, ◌∙◌, ◌⊎◌, inl, inr, ℕ, Bool, true, false, List, [], ◌∷◌, Option, Some, None, Result, Ok, Err, append-nil, append_assoc, ap, arith, length, length-append, refl, subst, sym, take}
+use Rattle.std.proofs.Common.{◌≡◌, ◌≤◌, ◌<◌, ◌+◌, ◌^◌, ◌++◌, ◌∙◌, inl, inr, ℕ, Bool, true, false, List, [], ◌∷◌, Option, Some, None, Result, Ok, Err, append-nil, append_assoc, ap, arith, length, length-append, refl, subst, sym, take}
 use Rattle.std.proofs.lemmas.Bool.{leb-true}
 use Rattle.std.specs.Io.KnownBytes.{append_known}
-use Rattle.std.specs.Prelude.{if◌then◌else◌, nat_le}
+use Rattle.std.specs.Prelude.{if◌then◌else◌}
 use Rattle.bid_book.specs.History.{is_closed}
 use Rattle.desk_line.specs.Fronts.{Step, AreSteps, entries_in, state_after}
 use Rattle.desk_line.specs.Served.{AreBatches, Batch, IsServed, LineState, line_after, line_with}
-use Rattle.desk_book.specs.Answers.{IsCallTaken, IsDeskAnswer, IsDeskFront, all_durable, limit_if, no_room, untaken_as, untaken_of}
+use Rattle.desk_book.specs.Answers.{IsCallTaken, IsDeskAnswer, IsDeskFront, all_durable, limit_if, no_room, untaken_as}
 use Rattle.desk_book.specs.Digests.{sha_digits}
 use Rattle.desk_book.specs.Entries.{sealed_of}
 use Rattle.desk_book.specs.Fronts.{JournalFront}
@@ -14,9 +14,8 @@ use Rattle.desk_book.proofs.FrontStays.{front_stays}
 use Rattle.std.proofs.Math.Seq.{take-length}
 use Rattle.std.proofs.lemmas.List.{take-append-le}
 use Rattle.desk_book.specs.Journals.{AreDesksAlike, AreWritten, IsJournal, IsWritten, KeepsJournal, Written, desk_after, texts_of}
-use Rattle.desk_book.specs.Judging.{judged, judged_open, over_for}
+use Rattle.desk_book.specs.Judging.{judged_open, over_for}
 use Rattle.desk_book.specs.Recording.{answer_due, asked_by, has_room, most_with}
-use Rattle.desk_book.specs.declared.answer.Answer.{Answer}
 use Rattle.desk_book.specs.declared.asked.Asked.{Asked}
 use Rattle.desk_book.specs.declared.asked.Asked.TheVariants as asked
 use Rattle.desk_book.specs.declared.calls.Call.{Call}

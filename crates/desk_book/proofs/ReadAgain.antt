@@ -6,7 +6,6 @@ use Rattle.std.specs.Prelude.{MatchOption, not}
 use Rattle.std.specs.Str.{bytes_eq}
 use Rattle.bid_book.specs.History.{is_closed}
 use Rattle.desk_book.specs.Fronts.{JournalFront, front_at}
-use Rattle.desk_book.specs.Asking.{MayBeAsked}
 use Rattle.desk_book.specs.Journals.{AreWritten, HasNoEntry, IsDamaged, IsJournal, IsLinked, IsOpened, IsReadAs, IsTorn, IsWritten, SaysBeyond, Written, desk_after, texts_of}
 use Rattle.desk_book.specs.Recording.{IsRecordedAs, answer_due}
 use Rattle.desk_book.specs.declared.asked.Asked.{Asked}

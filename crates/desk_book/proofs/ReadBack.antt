@@ -1,16 +1,14 @@
 -- A journal is read as it was written.
-use Rattle.std.proofs.Common.{inl, inr, ◌≡◌, ◌≤◌, ◌<◌, ◌+◌, ◌++◌, ◌∙◌, ◌⊎◌, ℕ, List, [], ◌∷◌, Option, Some, None, Result, Ok, Err, append-nil, append_assoc, ap, arith, drop, length, length-append, refl, subst, sym, take}
+use Rattle.std.proofs.Common.{inl, inr, ◌≡◌, ◌≤◌, ◌<◌, ◌+◌, ◌++◌, ◌∙◌, ◌⊎◌, ℕ, List, [], ◌∷◌, Some, None, Result, Ok, Err, append-nil, append_assoc, ap, arith, drop, length, length-append, refl, subst, sym, take}
 use Rattle.std.proofs.Math.Seq.{drop-append_seam, take-append_seam}
 use Rattle.std.proofs.lemmas.List.{drop_all, take-append-drop}
 use Rattle.auction_terms.specs.Numbers.{number_of}
-use Rattle.auction_terms.specs.Terms.{Terms}
 use Rattle.desk_book.specs.Answers.{all_durable}
 use Rattle.desk_book.specs.Fronts.{JournalFront, front_at}
 use Rattle.desk_book.specs.Entries.{chain_after, sealed_of}
-use Rattle.desk_book.specs.Journals.{AreDesksAlike, AreWritten, HasNoEntry, IsDamaged, IsJournal, IsLinked, IsOpened, IsReadAs, IsReadBack, IsReadBeyond, IsTorn, IsWritten, Written, desk_after, rules_read, texts_of}
+use Rattle.desk_book.specs.Journals.{AreDesksAlike, AreWritten, HasNoEntry, IsDamaged, IsJournal, IsLinked, IsOpened, IsReadAs, IsReadBack, IsReadBeyond, IsWritten, Written, desk_after, rules_read, texts_of}
 use Rattle.desk_book.specs.ReadEntries.{EntryParts, HeadParts, entry_at, head_at}
 use Rattle.desk_book.specs.Recording.{IsRecordedAs}
-use Rattle.desk_book.specs.declared.asked.Asked.{Asked}
 use Rattle.auction_terms.specs.declared.rules_text.RulesFault.{RulesFault}
 use Rattle.bid_book.specs.declared.records.Entry.{Entry}
 use Rattle.desk_book.specs.declared.commitment.Commitment.{Commitment}

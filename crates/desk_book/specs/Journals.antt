@@ -1,30 +1,26 @@
 -- Journals: what a desk has written, and what is read of it again.
-use Rattle.std.specs.Prelude.{ℕ, List, [], ◌∷◌, ◌≡◌, ◌≢◌, ◌<◌, ◌≤◌, ◌^◌, ◌==◌, ◌&&◌, ◌⊎◌, ◌++◌, ⊤, Bool, Option, Some, None, Result, Ok, Err, true, false, drop, if◌then◌else◌, length, nat_le, nat_lt, slice_get, take}
+use Rattle.std.specs.Prelude.{ℕ, List, [], ◌∷◌, ◌≡◌, ◌≢◌, ◌<◌, ◌≤◌, ◌^◌, ◌==◌, ◌&&◌, ◌⊎◌, ◌++◌, ⊤, Bool, Some, Result, Ok, Err, true, false, drop, if◌then◌else◌, length, nat_le, nat_lt, slice_get, take}
 use Rattle.std.specs.Option.{option_map_or}
 use Rattle.auction_terms.specs.Numbers.{number_of}
 use Rattle.auction_terms.specs.Records.{records_of}
 use Rattle.auction_terms.specs.RulesText.{rules_of_records}
 use Rattle.auction_terms.specs.Terms.{Terms}
-use Rattle.auction_terms.specs.declared.limits.TheConstants.{MOST_BIDS, MOST_SESSIONS, TEXT_LIMIT}
+use Rattle.auction_terms.specs.declared.limits.TheConstants.{TEXT_LIMIT}
 use Rattle.auction_terms.specs.declared.rules_text.RulesFault.{RulesFault}
 use Rattle.auction_terms.specs.declared.rules_text.RulesFault.TheVariants as rules_fault
 use Rattle.bid_book.specs.History.{is_closed}
 use Rattle.bid_book.specs.declared.records.Entry.{Entry}
 use Rattle.desk_line.specs.Served.{LineState}
 use Rattle.desk_book.specs.Answers.{all_durable}
-use Rattle.desk_book.specs.Calls.{bidder_called, digest_named}
 use Rattle.desk_book.specs.Digests.{sha_digits}
-use Rattle.desk_book.specs.Entries.{chain_after, name_word}
+use Rattle.desk_book.specs.Entries.{chain_after}
 use Rattle.desk_book.specs.Fronts.{JournalFront, front_at}
 use Rattle.desk_book.specs.ReadEntries.{EntryParts, HeadParts, entry_at, head_at}
 use Rattle.desk_book.specs.Recording.{IsRecordedAs}
 use Rattle.desk_book.specs.declared.answer.Answer.{Answer}
 use Rattle.desk_book.specs.declared.asked.Asked.{Asked}
-use Rattle.desk_book.specs.declared.asked.Asked.TheVariants as asked
-use Rattle.desk_book.specs.declared.calls.Who.{Who}
 use Rattle.desk_book.specs.declared.commitment.Commitment.{Commitment}
 use Rattle.desk_book.specs.declared.desk.Desk.{Desk}
-use Rattle.desk_book.specs.declared.limits.TheConstants.{SEALED_LIMIT}
 use Rattle.desk_book.specs.declared.replaying.ReadFault.{ReadFault}
 use Rattle.desk_book.specs.declared.replaying.ReadFault.TheVariants as read_fault
 use Rattle.desk_book.specs.declared.replaying.Replayed.{Replayed}

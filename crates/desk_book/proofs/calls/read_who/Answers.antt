@@ -1,4 +1,4 @@
-use Rattle.std.proofs.Common.{◌≡◌, sym}
+use Rattle.std.proofs.Common.{sym}
 use Rattle.desk_book.proofs.Names.{called_again}
 use Rattle.desk_book.proofs.calls.read_who.Goals as goal
 

@@ -1,4 +1,3 @@
-use Rattle.std.proofs.Common.{length}
 use Rattle.desk_book.proofs.ReadBack.{read_back, read_beyond}
 use Rattle.desk_book.proofs.laws.a_journal_is_read_as_it_was_written.Goals as goal
 
