@@ -147,11 +147,7 @@ fn add_bidders<S: Sink>(
 }
 
 /// Adds what is said of the rules, and of all bidders.
-pub(crate) fn add_forms<S: Sink>(
-    writer: &mut Writer<'_, S>,
-    format: Format,
-    parts: &FormParts<'_>,
-)
+pub(crate) fn add_forms<S: Sink>(writer: &mut Writer<'_, S>, format: Format, parts: &FormParts<'_>)
     ensures { Adds S.state writer.old writer.new (held_as format parts.now) }
 {
     parts.rules.within_limits();
