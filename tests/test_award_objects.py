@@ -318,7 +318,7 @@ def expect(wdp: str, command: str, text: bytes, judge: Judge) -> None:
     assert run(wdp, "forms", text) == done(make_forms(forms))
 
 
-@pytest.fixture(params=range(0, AUCTIONS, BLOCK))
+@pytest.fixture(scope="module", params=range(0, AUCTIONS, BLOCK))
 def block(request: pytest.FixtureRequest) -> range:
     return range(request.param, request.param + BLOCK)
 

@@ -32,9 +32,9 @@ def test_case(wdp, name):
 
 
 def list_audits() -> list[str]:
-    """The cases in which `verify` reads an input."""
+    """The cases in which `verify` reads an input, and prints words of it."""
     words = {name: read_case(name).words() for name in list_cases()}
-    others = {b"--help", b"--forms"}
+    others = {b"--help", b"--forms", b"--json"}
     return [name for name, it in words.items() if it[:1] == [b"verify"] and not others & {*it}]
 
 
