@@ -47,15 +47,20 @@ VALIDATOR = jsonschema.Draft202012Validator(SCHEMA)
 # of so many auctions at least each of this is true
 LEAST = {
     "a pool with a load": 40,
+    "two pools with different loads": 20,
+    "two winners with different reserves": 40,
+    "a winner of lots of several categories": 40,
+    "some lots of a category are sold, and more or fewer aren't": 40,
     "lots that are left are worth something": 40,
     "a reserve binds a price": 40,
     "a group binds a price": 40,
     "a group that was added binds a price": 10,
     "a group of several binds a price": 20,
+    "a group with a winner doesn't bind its price": 40,
     "a winner alone pays its reserve, above its cost": 20,
     "a winner alone pays its cost, which is its reserve": 10,
     "a winner isn't listed alone": 20,
-    "a price is a fraction": 40,
+    "a price is a fraction": 25,
     "the exact sum is whole, and less is rounded up": 3,
     "prices of the rule": 80,
     "other prices": 80,
@@ -71,8 +76,9 @@ LEAST = {
     "unique": 40,
     "no other": 40,
     "and more": 5,
-    "another award, and nothing on further ones": 10,
-    "a group costs more by another award": 20,
+    "another award, and nothing on further ones": 8,
+    "a group costs more by another award": 15,
+    "a group costs less by another award": 20,
     "a negative cost": 40,
     "a step above 1": 80,
 }
@@ -170,7 +176,7 @@ def make_audit(wdp: str, number: int) -> Audit:
     draw = random.Random(f"audit {number}")
     offered = drawn(number)
     asked = package.Auction.from_text(offered.text(), program=wdp)
-    certified = asked.certify(ties=draw.random() < 0.6)
+    certified = asked.certify(ties=draw.random() < 0.8)
     audit = parse_audit(offered, certified.audit)
     kind = draw.choice(PRICES)
     if kind != "none":
@@ -179,7 +185,7 @@ def make_audit(wdp: str, number: int) -> Audit:
             audit = with_other_prices(wdp, draw.choice([audit, priced]), priced, draw)
         else:
             audit = priced if kind == "rule" else priced.without("rule")
-    if audit.texts("tie") and draw.random() < 0.3:
+    if audit.texts("tie") and draw.random() < 0.4:
         audit = audit.without("unique")
     return audit.shuffled(draw)
 
@@ -423,8 +429,18 @@ def list_kinds(audit: Audit, objects: list[Object], reported: list[Object]) -> d
 
 
 def list_lots(objects: list[Object]) -> dict[str, bool]:
+    loads = {each["load"] for each in objects if "load" in each}
+    winners = [each for each in objects if each.get("group") == 1 and "winner" in each]
     return {
-        "a pool with a load": any(each.get("load") for each in objects),
+        "a pool with a load": any(loads),
+        "two pools with different loads": len(loads) > 1,
+        "two winners with different reserves": len({each["reserve"] for each in winners}) > 1,
+        "a winner of lots of several categories": any(len(each["lots"]) > 1 for each in winners),
+        "some lots of a category are sold, and more or fewer aren't": any(
+            each["sold"] and each["unsold"] not in (0, each["sold"])
+            for each in objects
+            if "supply" in each and "category" in each
+        ),
         "lots that are left are worth something": any(each.get("value_left") for each in objects),
         "a bidder without a form": any(each.get("bids", 0) is None for each in objects),
         "a form without a bid": any(each.get("bids") == 0 for each in objects),
@@ -452,6 +468,11 @@ def list_payments(audit: Audit, objects: list[Object]) -> dict[str, bool]:
         ),
         "a group of several binds a price": any(
             len(groups[number]["left_out"]) > 1 for number in bound
+        ),
+        "a group with a winner doesn't bind its price": any(
+            each["price"] in group["left_out"] and number not in each["bound_by"]
+            for each in prices
+            for number, group in groups.items()
         ),
         "a winner alone pays its reserve, above its cost": any(
             each["alone"] == reserves[each["price"]] > costs[each["price"]] for each in alone
@@ -490,11 +511,12 @@ def list_last(objects: list[Object]) -> dict[str, bool]:
     awards = [each for each in objects if "costs" in each]
     costs = [each["cost"] for each in objects if "left_out" in each]
     kinds = {word: word in proved for word in ("unique", "no other", "and more")}
-    rises = (new > old for each in awards for new, old in zip(each["costs"], costs, strict=True))
+    pairs = [pair for each in awards for pair in zip(each["costs"], costs, strict=True)]
     return {
         **kinds,
         "another award, and nothing on further ones": bool(awards) and not any(kinds.values()),
-        "a group costs more by another award": any(rises),
+        "a group costs more by another award": any(new > old for new, old in pairs),
+        "a group costs less by another award": any(new < old for new, old in pairs),
     }
 
 

@@ -14,6 +14,7 @@ BIDDERS = "Alpha Beta sum Gamma total A cost Delta price Epsilon x9 Sixteen16Let
 CATEGORIES = "A B Alpha lots C11 SixteenLetters16 reserve".split()
 POOLS = "A Pool1 load sum".split()
 STEPS = (1, 1, 1, 5, 100)
+MOST = 10**12  # pounds
 
 
 @dataclass(frozen=True)
@@ -44,8 +45,9 @@ class Offered:
 def drawn(number: int) -> Offered:
     """The random auction of this number."""
     draw = random.Random(f"objects {number}")
-    auction = _add_idle_bidder(_draw_auction(draw), draw)
-    step = draw.choice(STEPS)
+    auction = _add_wide_pool(_add_bidders(_draw_auction(draw), draw), draw)
+    amounts = [bid.amount for form in auction.forms for bid in form]
+    step = draw.choice([step for step in STEPS if step * max(amounts, default=0) <= MOST])
     auction = _multiply(auction, step)
     bidders = draw.sample(BIDDERS, len(auction.forms))
     categories = draw.sample(CATEGORIES, len(auction.supply))
@@ -66,7 +68,7 @@ def _draw_auction(draw: random.Random) -> Auction:
     kind = draw.random()
     if kind < 0.04:
         return _draw_alike(draw)
-    if kind < 0.45:
+    if kind < 0.65:
         return tied.with_reserves(tied.random_auction(draw), draw)
     return priced_auctions.random_auction(draw)
 
@@ -84,18 +86,31 @@ def _draw_alike(draw: random.Random) -> Auction:
                 tuple(count + int(place == lot) for place, count in enumerate(wider[-1]))
             )
         forms.append([Bid(amount, package) for package in wider])
-    pools = [Pool(40, (1, 0, 2))] if draw.random() < 0.5 else []
+    pools = [Pool(40, (1, 0, 2)), Pool(90, (0, 3, 0))] if draw.random() < 0.5 else []
     return Auction(
         version=3, supply=(20, 20, 20), values=(0, 0, 0), pools=pools, forms=forms, reserves=(1, 0, 0)
     )
 
 
-def _add_idle_bidder(auction: Auction, draw: random.Random) -> Auction:
-    """The auction, often with one more bidder that has no bid."""
+def _add_bidders(auction: Auction, draw: random.Random) -> Auction:
+    """The auction, often with one more bidder that bids as another one does, or that has no bid."""
     forms = list(auction.forms)
+    if draw.random() < 0.3:
+        forms.insert(draw.randint(0, len(forms)), draw.choice(forms))
     if draw.random() < 0.3:
         forms.insert(draw.randint(0, len(forms)), [])
     return auction._replace(forms=forms, reserves=auction.reserves[: len(auction.supply)])
+
+
+def _add_wide_pool(auction: Auction, draw: random.Random) -> Auction:
+    """The auction, often with one more pool, whose cap all lots together can't exceed."""
+    if auction.version < 3 or draw.random() < 0.6:
+        return auction
+    weights = tuple(draw.randint(0, 3) for _ in auction.supply)
+    cap = tied.weighed(weights, auction.supply) + draw.randint(0, 9)
+    pools = list(auction.pools)
+    pools.insert(draw.randint(0, len(pools)), Pool(cap, weights))
+    return auction._replace(pools=pools)
 
 
 def _multiply(auction: Auction, by: int) -> Auction:
