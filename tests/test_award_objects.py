@@ -15,17 +15,17 @@ from collections import Counter
 from collections.abc import Iterable, Iterator
 from dataclasses import dataclass
 from fractions import Fraction
-from functools import cache
+from functools import cache, partial
 from typing import Any
 
 import jsonschema
 import pytest
 from award_auctions import Offered, drawn
-from award_judge import Judge, Object, Shown, find_reserve, format_objects, list_others
+from award_judge import Judge, Object, Shown, format_objects, has_column, list_others
 from commands import read_text, run_program
 from damage import damage_certificate
 from priced_auctions import feasible
-from tied_auctions import Allocation, Winner, bid_of
+from tied_auctions import Allocation, Auction, Bid, bid_of
 from trials.cases import list_cases, read_case
 from trials.program_runs import Seen, done, row, seen
 
@@ -217,7 +217,9 @@ def with_other_prices(wdp: str, audit: Audit, priced: Audit, draw: random.Random
 def find_amount(audit: Audit, bidder: int) -> int:
     """What a winner bids."""
     first = read_winners(audit.texts("solution")[0])
-    return next(bid_of(audit.offered.auction, winner).amount for winner in first if winner[0] == bidder)
+    return next(
+        bid_of(audit.offered.auction, winner).amount for winner in first if winner[0] == bidder
+    )
 
 
 def find_cover(wdp: str, audit: Audit, prices: dict[int, Fraction], parts: int) -> bytes:
@@ -225,7 +227,8 @@ def find_cover(wdp: str, audit: Audit, prices: dict[int, Fraction], parts: int) 
     compiled = run_program(wdp, "compile", audit.offered.text())
     problem = certify.read_problem(b"* " + compiled.split(b"* program ")[1])
     surplus = {
-        bidder: int(parts * (find_amount(audit, bidder) - price)) for bidder, price in prices.items()
+        bidder: int(parts * (find_amount(audit, bidder) - price))
+        for bidder, price in prices.items()
     }
     raised = problem.raise_costs(surplus, parts)
     return bytes(raised.find_optimum(audit.texts("solution")[0]).certificate)
@@ -353,7 +356,7 @@ def with_any_winners(audit: Audit, number: int) -> Audit:
     """The audit with solutions of which few are the best ones."""
     draw = random.Random(f"any winners {number}")
     auction = audit.offered.auction
-    possible = [award for award in feasible(auction) if all(has_column(audit, it) for it in award)]
+    possible = [award for award in feasible(auction) if are_kept(auction, award)]
     solutions = []
     for group in audit.list_groups():
         others = [award for award in possible if not {bidder for bidder, _ in award} & {*group}]
@@ -361,11 +364,11 @@ def with_any_winners(audit: Audit, number: int) -> Audit:
     return Audit(audit.offered, [*audit.without("solution").parts, *solutions])
 
 
-def has_column(audit: Audit, winner: Winner) -> bool:
-    from award_judge import has_column as is_kept
-
-    auction = audit.offered.auction
-    return is_kept(auction, auction.forms[winner[0] - 1], bid_of(auction, winner))
+def are_kept(auction: Auction, award: Allocation) -> bool:
+    """Whether each bid has a column."""
+    forms = (auction.forms[bidder - 1] for bidder, _ in award)
+    bids = (bid_of(auction, winner) for winner in award)
+    return all(map(partial(has_column, auction), forms, bids))
 
 
 def test_a_refused_audit(wdp: str, block: range) -> None:
@@ -396,9 +399,9 @@ def test_a_refused_audit(wdp: str, block: range) -> None:
 
 @pytest.mark.parametrize("command", ["text", "compile", "map", "check"])
 def test_a_command_without_objects(wdp: str, command: str) -> None:
-    status, output, errors = run(wdp, command, b"", "--json")
+    status, output, error = run(wdp, command, b"", "--json")
     assert (status, output) == (2, b"")
-    assert errors.startswith(b"error: unexpected argument '--json' found\n")
+    assert error.startswith(b"error: unexpected argument '--json' found\n")
 
 
 def test_the_file_of_the_output_has_the_objects(wdp: str, tmp_path: Any) -> None:
@@ -411,6 +414,49 @@ def test_the_file_of_the_output_has_the_objects(wdp: str, tmp_path: Any) -> None
         assert done((tmp_path / "out").read_bytes()) == printed
         assert seen(wdp, words, b"%rules\n", cwd=tmp_path)[:2] == (1, b"")
         assert done((tmp_path / "out").read_bytes()) == printed
+
+
+def test_the_greatest_numbers(wdp: str) -> None:
+    """Sums of exact prices that 64 bits don't hold, and of lots that are worth much."""
+    winners = range(1, 32)
+    price = Fraction(10**18 - 1, 10**6)
+    value = 10**12
+    auction = Auction(
+        version=2,
+        supply=(31, 10_000),
+        values=(0, value),
+        pools=[],
+        forms=[[Bid(10**12, (1, 0))] for _ in winners],
+        reserves=(10**12 - 1, 0),
+    )
+    bidders = [f"B{number}" for number in winners]
+    rules = f"rules,2,1,,,\ncategory,A,31,{10**12 - 1},0,0\ncategory,L,10000,0,0,{value}\n"
+    rules += "".join(f"bidder,{name},0,1,,\n" for name in bidders)
+    forms = [
+        (number, f"{name},A,L\n{10**12},1,0\n".encode()) for number, name in enumerate(bidders, 1)
+    ]
+    offered = Offered(
+        auction=auction,
+        step=1,
+        bidders=bidders,
+        categories=["A", "L"],
+        pools=[],
+        groups=[(), tuple(winners)],
+        rules=rules.encode(),
+        forms=forms,
+    )
+    won = tuple((number, 1) for number in winners)
+    shown = Shown(groups=offered.groups, won=[won, ()], prices=dict.fromkeys(winners, price))
+    solution = "".join(f"X{number}_1 1\n" for number in winners)
+    rows = "".join(f" B{number} {10**12}" for number in winners)
+    in_parts = "".join(f" B{number} {10**18 - 1}" for number in winners)
+    text = offered.text().decode() + f"%solution\n{solution}K 1\n%solution\nK 1\n"
+    text += f"%certificate\nbound 1{rows}\n%certificate\nbound 1\n%cover\nbound 1{in_parts}\n"
+    text += "%prices\n" + "".join(f"{name} {10**18 - 1}/{10**6}\n" for name in bidders)
+    judge = Judge(offered, shown)
+    expect(wdp, "verify", text.encode(), judge)
+    (total,) = (each for each in judge.list_objects() if each.get("sum") == "prices")
+    assert total["exact"] == [31 * (10**18 - 1), 10**6] and total["exact"][0] > 2**64
 
 
 # ---- what is tried, and the schema
@@ -497,7 +543,8 @@ def list_groups(audit: Audit, objects: list[Object]) -> dict[str, bool]:
     names = [each["left_out"] for each in objects if "left_out" in each]
     forms = [number for number, _ in audit.offered.forms]
     return {
-        "a group is listed twice": len({tuple(each) for each in names if each}) < sum(map(bool, names)),
+        "a group is listed twice": len({tuple(each) for each in names if each})
+        < sum(map(bool, names)),
         "a group of nobody that wins": any(each and not first & {*each} for each in names),
         "the empty group comes again": names.count([]) > 1,
         "names of a group in another order": any([*each] != sorted(each) for each in listed),
@@ -603,3 +650,5 @@ def test_case(wdp: str, name: str) -> None:
     command = case.words()[0].decode()
     make = make_forms if command == "forms" else make_words
     assert run(wdp, command, case.stdin) == done(make(objects))
+    if command == "verify":
+        assert run(wdp, command, case.stdin, "--forms", "--json") == done(case.stdout)

@@ -1,5 +1,6 @@
-"""Small random auctions as texts, with all that the objects of an award are about: pools, values of unsold
-lots, reserves, steps, bids that tie, forms that are replaced or missing, and groups that are listed twice.
+"""Small random auctions as texts, with all that the objects of an award are about: pools, values of
+unsold lots, reserves, steps, bids that tie, forms that are replaced or missing, and groups that are
+listed twice.
 """
 import random
 from collections.abc import Iterable, Sequence
@@ -9,7 +10,7 @@ import priced_auctions
 import tied_auctions as tied
 from tied_auctions import Auction, Bid, Group, Pool
 
-# names of each kind, of which some are those of another kind, words of the output, or as long as a name may be
+# names of each kind: some are those of another kind, words of the output, or as long as they may be
 BIDDERS = "Alpha Beta sum Gamma total A cost Delta price Epsilon x9 Sixteen16Letters Zeta group tie Eta prices".split()
 CATEGORIES = "A B Alpha lots C11 SixteenLetters16 reserve".split()
 POOLS = "A Pool1 load sum".split()
@@ -19,8 +20,8 @@ MOST = 10**12  # pounds
 
 @dataclass(frozen=True)
 class Offered:
-    """An auction, its names, the groups as they are listed, and the texts of its rules and forms: each form
-    with the number of its bidder, whose last form counts.
+    """An auction, its names, the groups as they are listed, and the texts of its rules and forms:
+    each form with the number of its bidder, whose last form counts.
     """
 
     auction: Auction
@@ -74,7 +75,7 @@ def _draw_auction(draw: random.Random) -> Auction:
 
 
 def _draw_alike(draw: random.Random) -> Auction:
-    """Three winners, each with bids that are as good as its first one, so that more than 64 awards tie."""
+    """Three winners, each with bids as good as its first one: more than 64 awards tie."""
     lots = range(3)
     forms = []
     for own in lots:
@@ -82,13 +83,16 @@ def _draw_alike(draw: random.Random) -> Auction:
         wider = [tuple(int(lot == own) for lot in lots)]
         while len(wider) < 5:
             lot = draw.choice(lots)
-            wider.append(
-                tuple(count + int(place == lot) for place, count in enumerate(wider[-1]))
-            )
+            wider.append(tuple(count + int(place == lot) for place, count in enumerate(wider[-1])))
         forms.append([Bid(amount, package) for package in wider])
     pools = [Pool(40, (1, 0, 2)), Pool(90, (0, 3, 0))] if draw.random() < 0.5 else []
     return Auction(
-        version=3, supply=(20, 20, 20), values=(0, 0, 0), pools=pools, forms=forms, reserves=(1, 0, 0)
+        version=3,
+        supply=(20, 20, 20),
+        values=(0, 0, 0),
+        pools=pools,
+        forms=forms,
+        reserves=(1, 0, 0),
     )
 
 
@@ -126,7 +130,8 @@ def _draw_groups(draw: random.Random, bidders: int) -> list[Group]:
     """The empty group, and others with names in any order, some of them twice."""
     numbers = range(1, bidders + 1)
     groups: list[Group] = [
-        draw.sample(numbers, draw.randint(1, min(3, bidders))) for _ in range(draw.choice([0, 1, 2, 4]))
+        draw.sample(numbers, draw.randint(1, min(3, bidders)))
+        for _ in range(draw.choice([0, 1, 2, 4]))
     ]
     if groups and draw.random() < 0.5:
         again = list(draw.choice(groups))
@@ -145,7 +150,9 @@ def _format_rules(
     has_values = auction.version > 1
     end = ["", ""] if has_values else [""]
     lots = []
-    for name, supply, reserve, value in zip(categories, auction.supply, auction.reserves, auction.values):
+    for name, supply, reserve, value in zip(
+        categories, auction.supply, auction.reserves, auction.values
+    ):
         lots.append(["category", name, supply, reserve, 1, *([value] if has_values else [])])
     for name, pool in zip(pools, auction.pools):
         lots.append(["pool", name, pool.cap, "", "", ""])
@@ -157,13 +164,17 @@ def _format_rules(
     owners = [["bidder", name, 100, draw.randint(1, 8), *end] for name in bidders]
     blocks = [lots, owners]
     draw.shuffle(blocks)
-    return format_records(draw, [["rules", auction.version, step, "", *end], *blocks[0], *blocks[1]])
+    return format_records(
+        draw, [["rules", auction.version, step, "", *end], *blocks[0], *blocks[1]]
+    )
 
 
 def _draw_forms(
     draw: random.Random, auction: Auction, *, bidders: Sequence[str], categories: Sequence[str]
 ) -> list[tuple[int, bytes]]:
-    """The texts of the forms in any order: a bidder without bids may have none, and one with some more than one."""
+    """The texts of the forms in any order: a bidder without bids may have none, and others may have
+    two.
+    """
     order = [number for number, form in enumerate(auction.forms, 1) if form or draw.random() < 0.3]
     draw.shuffle(order)
     bids = {number: auction.forms[number - 1] for number in order}
@@ -174,14 +185,16 @@ def _draw_forms(
             earlier = draw.choice(list(bids.values()))
             forms.insert(draw.randrange(len(forms)), (number, earlier))
     return [
-        (number, _format_form(draw, bidders[number - 1], categories, form)) for number, form in forms
+        (number, _format_form(draw, bidders[number - 1], categories, form))
+        for number, form in forms
     ]
 
 
 def _format_form(
     draw: random.Random, bidder: str, categories: Sequence[str], form: Sequence[Bid]
 ) -> bytes:
-    rows = [[bidder, *categories], *([bid.amount, *bid.package] for bid in form)]
+    rows: list[Sequence[object]] = [[bidder, *categories]]
+    rows += [[bid.amount, *bid.package] for bid in form]
     return format_records(draw, rows)
 
 
@@ -199,4 +212,3 @@ def format_records(draw: random.Random, rows: Iterable[Sequence[object]]) -> byt
                 texts[place] = f"00{texts[place]}"
         lines.append(",".join(texts) + end)
     return "".join(lines).encode()
-

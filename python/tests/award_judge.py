@@ -1,5 +1,5 @@
-"""What the objects of an award have to say: each figure by its definition in docs/REFERENCE.md alone, in whole
-numbers and exact fractions, the judge of tests. It imports nothing of the package.
+"""What the objects of an award have to say: each figure by its definition in docs/REFERENCE.md
+alone, in whole numbers and exact fractions, the judge of tests. It imports nothing of the package.
 """
 import json
 import math
@@ -19,9 +19,9 @@ MOST_OTHERS = 64
 
 @dataclass(frozen=True)
 class Shown:
-    """What an audit shows of an auction: who wins without each group, in the order of the groups; what each
-    winner of the first one pays in pounds, if there are prices; and other awards. `last` is what is known of
-    further awards.
+    """What an audit shows of an auction: who wins without each group, in the order of the groups;
+    what each winner of the first one pays in pounds, if there are prices; and other awards. `last`
+    is what is known of further awards.
     """
 
     groups: Sequence[Group]
@@ -129,7 +129,7 @@ class Judge:
         return winners
 
     def find_cost(self, award: Allocation, group: Group, without: Allocation) -> int:
-        """What a group costs the others if this award is the first one, by what is won without the group."""
+        """What a group costs the others if this award is the first one, by what is won without it."""
         amounts = [find_bid(self.auction, winner).amount for winner in award if winner[0] in group]
         others = find_total(self.auction, award) - sum(amounts)
         return find_total(self.auction, without) - others
@@ -222,7 +222,7 @@ class Judge:
             sums.append(
                 {
                     "sum": "prices",
-                    "pays": sum(map(math.ceil, self.shown.prices.values())),
+                    "pays": sum(math.ceil(price) for price in self.shown.prices.values()),
                     "exact": [exact.numerator, exact.denominator],
                     "alone": sum_known(map(self.find_alone, self.first)),
                 }
@@ -246,7 +246,9 @@ def list_forms(offered: Offered) -> list[Object]:
     """What `forms` says of the rules, and of the last form of each bidder."""
     last = dict(offered.forms)
     objects: list[Object] = [{"rules": sha256(offered.rules).hexdigest(), "step": offered.step}]
-    for number, (name, bids) in enumerate(zip(offered.bidders, offered.auction.forms, strict=True), 1):
+    for number, (name, bids) in enumerate(
+        zip(offered.bidders, offered.auction.forms, strict=True), 1
+    ):
         text = last.get(number)
         objects.append(
             {
@@ -303,15 +305,15 @@ def sum_known(numbers: Iterable[int | None]) -> int | None:
 
 
 def list_others(auction: Auction, known: Sequence[Allocation]) -> tuple[list[Allocation], str]:
-    """All awards but the first of these, in the order in which they are printed, and the word for what is
-    known of further ones. Those of bids with columns are known.
+    """All awards but the first of these, in the order in which they are printed, and the word for
+    what is known of further ones. Those of bids with columns are known.
     """
     best = find_total(auction, known[0])
     awards = [award for award in feasible(auction) if find_total(auction, award) == best]
 
     def find_place(award: Allocation) -> tuple[object, ...]:
-        """Those that are known come first. Of those that follow from one of them, a winner's bid there comes
-        before those that stand in for it.
+        """Those that are known come first. Of those that follow from one of them, a winner's bid
+        there comes before those that stand in for it.
         """
         kept = tuple((bidder, find_stood_for(auction, bidder, number)) for bidder, number in award)
         digits = [0 if winner == own else winner[1] for winner, own in zip(award, kept)]
@@ -339,7 +341,7 @@ def find_stood_for(auction: Auction, bidder: int, number: int) -> int:
 
 
 def has_column(auction: Auction, form: Sequence[Bid], bid: Bid) -> bool:
-    """Whether a bid fits alone, brings what its lots are worth, and no bid of its form dominates it."""
+    """Whether a bid fits alone, brings what its lots are worth, and isn't dominated."""
     if any(count > supply for count, supply in zip(bid.package, auction.supply, strict=True)):
         return False
     for pool in auction.pools:
