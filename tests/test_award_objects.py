@@ -631,10 +631,31 @@ def test_the_schema_is_one() -> None:
         assert made["additionalProperties"] is False
 
 
+def test_the_reference_lists_each_member() -> None:
+    """In the order of the schema."""
+    section = read_text("docs", "REFERENCE.md").partition("\n## Objects of an award\n")[2]
+    rows = re.findall(r"(?m)^\| (.*?) ?\| (`.*?) \|", section.partition("\n## ")[0])
+    members: list[list[str]] = []
+    for kind, names in rows:
+        members += [[]] if kind else []
+        members[-1] += re.findall(r"`(\w+)`", names)
+    kinds = (place["$ref"].removeprefix("#/$defs/") for place in SCHEMA["oneOf"])
+    assert members == [[*SCHEMA["$defs"][kind]["properties"]] for kind in kinds]
+
+
 def list_object_cases() -> list[str]:
     """The cases that print objects of an award."""
     words = {name: read_case(name).words() for name in list_cases()}
     return [name for name, it in words.items() if b"--json" in it and it[0].decode() in COMMANDS]
+
+
+def test_each_member_of_the_schema_is_in_a_case() -> None:
+    """(That there are more than 64 other awards is said of random auctions.)"""
+    cases = (read_case(name).stdout.splitlines() for name in list_object_cases())
+    members = {
+        member for lines in cases for line in lines for member in list_members(json.loads(line))
+    }
+    assert {*list_schema_members()} - members == {"proved.proved has and more"}
 
 
 @pytest.mark.parametrize("name", list_object_cases())

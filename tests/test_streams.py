@@ -26,6 +26,7 @@ LEAST_STACK = 128 << 10
 
 # Each command with an input and its output; and with the most groups there are, each the empty one: outputs of half a megabyte.
 NAMES = "one_form compile_gamma_and_all check_one_form map_three_winners report_cost_of_beta_by_2".split()
+NAMES += ["forms_json", "report_json", "verify_json"]
 CASES = {name: read_case(name) for name in NAMES}
 COMMANDS = {name: (it.words(), it.stdin, it.stdout) for name, it in CASES.items()}
 TEXT = rules_and(GAMMA)
