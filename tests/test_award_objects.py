@@ -20,8 +20,8 @@ from typing import Any
 
 import jsonschema
 import pytest
-from award_auctions import Offered, drawn
-from award_judge import Judge, Object, Shown, format_objects, has_column, list_others
+from award_auctions import AuctionTexts, draw_auction
+from award_judge import Judge, Object, Outcome, format_objects, has_column, list_others
 from commands import read_text, run_program
 from damage import damage_certificate
 from priced_auctions import feasible
@@ -88,7 +88,7 @@ LEAST = {
 class Audit:
     """An auction, and the parts of an audit of it, each with its kind."""
 
-    offered: Offered
+    source: AuctionTexts
     parts: list[tuple[str, bytes]]
 
     def text(self) -> bytes:
@@ -98,27 +98,27 @@ class Audit:
         return [text for own, text in self.parts if own == kind]
 
     def without(self, *kinds: str) -> Audit:
-        return Audit(self.offered, [part for part in self.parts if part[0] not in kinds])
+        return Audit(self.source, [part for part in self.parts if part[0] not in kinds])
 
     def with_part(self, kind: str, text: bytes) -> Audit:
         """The audit with this part in the place of those of its kind."""
-        return Audit(self.offered, [*self.without(kind).parts, (kind, text)])
+        return Audit(self.source, [*self.without(kind).parts, (kind, text)])
 
-    def shuffled(self, draw: random.Random) -> Audit:
+    def shuffle(self, draw: random.Random) -> Audit:
         """The audit with its kinds of parts in any order, and mixed."""
         kinds = [kind for kind, _ in self.parts]
         draw.shuffle(kinds)
         left = {kind: self.texts(kind) for kind in kinds}
-        return Audit(self.offered, [(kind, left[kind].pop(0)) for kind in kinds])
+        return Audit(self.source, [(kind, left[kind].pop(0)) for kind in kinds])
 
-    def uncertified(self) -> Audit:
+    def keep_report_parts(self) -> Audit:
         """What `report` takes."""
         return self.without("certificate", "tie", "unique", "prices", "cover", "rule")
 
     def list_groups(self) -> list[tuple[int, ...]]:
         """The bidders of each group, as they are listed."""
         (text,) = self.texts("groups")
-        numbers = {name: number for number, name in enumerate(self.offered.bidders, 1)}
+        numbers = {name: number for number, name in enumerate(self.source.bidders, 1)}
         lines = [line.split("+") for line in text.decode().split("\n")[:-1]]
         return [tuple(numbers[name] for name in line if name != "-") for line in lines]
 
@@ -127,18 +127,18 @@ class Audit:
         for text in self.texts("prices"):
             lines = (line.split() for line in text.decode().splitlines())
             prices = {name: Fraction(price) for name, price in lines}
-            names = enumerate(self.offered.bidders, 1)
+            names = enumerate(self.source.bidders, 1)
             return {number: prices[name] for number, name in names if name in prices}
         return None
 
-    def read(self) -> Shown:
+    def read(self) -> Outcome:
         """What `verify` shows."""
         won = [read_winners(text) for text in self.texts("solution")]
         awards = [read_winners(text) for text in self.texts("tie")]
         last = None
         if self.texts("unique"):
-            awards, last = list_others(self.offered.auction, [won[0], *awards])
-        return Shown(
+            awards, last = list_others(self.source.auction, [won[0], *awards])
+        return Outcome(
             groups=self.list_groups(),
             won=won,
             prices=self.list_prices(),
@@ -147,10 +147,10 @@ class Audit:
             last=last,
         )
 
-    def read_unproved(self) -> Shown:
+    def read_report(self) -> Outcome:
         """What `report` says."""
         won = [read_winners(text) for text in self.texts("solution")]
-        return Shown(groups=self.list_groups(), won=won, is_proved=False)
+        return Outcome(groups=self.list_groups(), won=won, is_proved=False)
 
 
 def read_winners(solution: bytes) -> Allocation:
@@ -174,24 +174,24 @@ def make_audit(wdp: str, number: int) -> Audit:
     """The audit of the random auction of this number. Its solutions, certificates and prices are found by the package, and no figure
     is."""
     draw = random.Random(f"audit {number}")
-    offered = drawn(number)
-    asked = package.Auction.from_text(offered.text(), program=wdp)
-    certified = asked.certify(ties=draw.random() < 0.8)
-    audit = parse_audit(offered, certified.audit)
+    source = draw_auction(number)
+    auction = package.Auction.from_text(source.text(), program=wdp)
+    certification = auction.certify(ties=draw.random() < 0.8)
+    audit = parse_audit(source, certification.audit)
     kind = draw.choice(PRICES)
     if kind != "none":
-        priced = parse_audit(offered, asked.prices(certified, "highs").audit)
+        priced = parse_audit(source, auction.prices(certification, "highs").audit)
         if kind == "others":
             audit = with_other_prices(wdp, draw.choice([audit, priced]), priced, draw)
         else:
             audit = priced if kind == "rule" else priced.without("rule")
     if audit.texts("tie") and draw.random() < 0.4:
         audit = audit.without("unique")
-    return audit.shuffled(draw)
+    return audit.shuffle(draw)
 
 
-def parse_audit(offered: Offered, text: bytes) -> Audit:
-    return Audit(offered, [(kind.decode(), text) for kind, text in PART.findall(text)])
+def parse_audit(source: AuctionTexts, text: bytes) -> Audit:
+    return Audit(source, [(kind.decode(), text) for kind, text in PART.findall(text)])
 
 
 def with_other_prices(wdp: str, audit: Audit, priced: Audit, draw: random.Random) -> Audit:
@@ -206,7 +206,7 @@ def with_other_prices(wdp: str, audit: Audit, priced: Audit, draw: random.Random
         times = draw.choice([1, 1, 2])
         over = times * prices[bidder].denominator
         written = f"{times * prices[bidder].numerator}/{over}" if over > 1 else str(prices[bidder])
-        fields.append((audit.offered.bidders[bidder - 1], written, over))
+        fields.append((audit.source.bidders[bidder - 1], written, over))
     parts = math.lcm(*(over for _, _, over in fields))
     draw.shuffle(fields)
     text = "".join(f"{name} {written}\n" for name, written, _ in fields)
@@ -218,13 +218,13 @@ def find_amount(audit: Audit, bidder: int) -> int:
     """What a winner bids."""
     first = read_winners(audit.texts("solution")[0])
     return next(
-        bid_of(audit.offered.auction, winner).amount for winner in first if winner[0] == bidder
+        bid_of(audit.source.auction, winner).amount for winner in first if winner[0] == bidder
     )
 
 
 def find_cover(wdp: str, audit: Audit, prices: dict[int, Fraction], parts: int) -> bytes:
     """A certificate that these prices cover every group."""
-    compiled = run_program(wdp, "compile", audit.offered.text())
+    compiled = run_program(wdp, "compile", audit.source.text())
     problem = certify.read_problem(b"* " + compiled.split(b"* program ")[1])
     surplus = {
         bidder: int(parts * (find_amount(audit, bidder) - price))
@@ -235,7 +235,7 @@ def find_cover(wdp: str, audit: Audit, prices: dict[int, Fraction], parts: int) 
 
 
 @pytest.fixture(scope="module", autouse=True)
-def found_at_once() -> Iterator[None]:
+def quick_solver() -> Iterator[None]:
     """The solver only finds that nobody wins: the search for certificates has to find what is better."""
     with pytest.MonkeyPatch.context() as patch:
         patch.setattr(
@@ -336,7 +336,7 @@ def test_an_audit(wdp: str, block: range) -> None:
     for number in block:
         audit = make_audit(wdp, number)
         with row(f"auction {number}: {audit.text()!r}"):
-            judge = Judge(audit.offered, audit.read())
+            judge = Judge(audit.source, audit.read())
             expect(wdp, "verify", audit.text(), judge)
             wanted = done(format_objects(judge.list_objects()))
             assert run(wdp, "verify", audit.text(), "--forms", "--json") == wanted
@@ -345,23 +345,23 @@ def test_an_audit(wdp: str, block: range) -> None:
 def test_a_report(wdp: str, block: range) -> None:
     """Also of solutions that aren't the best ones."""
     for number in block:
-        audit = make_audit(wdp, number).uncertified()
-        for reported in (audit, with_any_winners(audit, number)):
-            with row(f"auction {number}: {reported.text()!r}"):
-                judge = Judge(reported.offered, reported.read_unproved())
-                expect(wdp, "report", reported.text(), judge)
+        audit = make_audit(wdp, number).keep_report_parts()
+        for report in (audit, with_any_winners(audit, number)):
+            with row(f"auction {number}: {report.text()!r}"):
+                judge = Judge(report.source, report.read_report())
+                expect(wdp, "report", report.text(), judge)
 
 
 def with_any_winners(audit: Audit, number: int) -> Audit:
     """The audit with solutions of which few are the best ones."""
     draw = random.Random(f"any winners {number}")
-    auction = audit.offered.auction
+    auction = audit.source.auction
     possible = [award for award in feasible(auction) if are_kept(auction, award)]
     solutions = []
     for group in audit.list_groups():
         others = [award for award in possible if not {bidder for bidder, _ in award} & {*group}]
         solutions.append(("solution", format_solution(audit, draw.choice(others))))
-    return Audit(audit.offered, [*audit.without("solution").parts, *solutions])
+    return Audit(audit.source, [*audit.without("solution").parts, *solutions])
 
 
 def are_kept(auction: Auction, award: Allocation) -> bool:
@@ -383,7 +383,7 @@ def test_a_refused_audit(wdp: str, block: range) -> None:
             damaged, names = damage_certificate(text, kind, damage)
             parts = [*audit.parts]
             parts[place] = (kind, damaged)
-            data = Audit(audit.offered, parts).text()
+            data = Audit(audit.source, parts).text()
             with row(f"auction {number}, {kind} damaged ({'+'.join(names)}): {data!r}"):
                 said = run(wdp, "verify", data)
                 objects = run(wdp, "verify", data, "--json")
@@ -407,7 +407,7 @@ def test_a_command_without_objects(wdp: str, command: str) -> None:
 def test_the_file_of_the_output_has_the_objects(wdp: str, tmp_path: Any) -> None:
     audit = make_audit(wdp, 0)
     for command in COMMANDS:
-        text = audit.uncertified().text() if command == "report" else audit.text()
+        text = audit.keep_report_parts().text() if command == "report" else audit.text()
         printed = run(wdp, command, text, "--json")
         words = [command, "--json", "-o", "out"]
         assert seen(wdp, words, text, cwd=tmp_path) == (0, b"", b"")
@@ -435,7 +435,7 @@ def test_the_greatest_numbers(wdp: str) -> None:
     forms = [
         (number, f"{name},A,L\n{10**12},1,0\n".encode()) for number, name in enumerate(bidders, 1)
     ]
-    offered = Offered(
+    source = AuctionTexts(
         auction=auction,
         step=1,
         bidders=bidders,
@@ -446,14 +446,14 @@ def test_the_greatest_numbers(wdp: str) -> None:
         forms=forms,
     )
     won = tuple((number, 1) for number in winners)
-    shown = Shown(groups=offered.groups, won=[won, ()], prices=dict.fromkeys(winners, price))
+    outcome = Outcome(groups=source.groups, won=[won, ()], prices=dict.fromkeys(winners, price))
     solution = "".join(f"X{number}_1 1\n" for number in winners)
     rows = "".join(f" B{number} {10**12}" for number in winners)
     in_parts = "".join(f" B{number} {10**18 - 1}" for number in winners)
-    text = offered.text().decode() + f"%solution\n{solution}K 1\n%solution\nK 1\n"
+    text = source.text().decode() + f"%solution\n{solution}K 1\n%solution\nK 1\n"
     text += f"%certificate\nbound 1{rows}\n%certificate\nbound 1\n%cover\nbound 1{in_parts}\n"
     text += "%prices\n" + "".join(f"{name} {10**18 - 1}/{10**6}\n" for name in bidders)
-    judge = Judge(offered, shown)
+    judge = Judge(source, outcome)
     expect(wdp, "verify", text.encode(), judge)
     (total,) = (each for each in judge.list_objects() if each.get("sum") == "prices")
     assert total["exact"] == [31 * (10**18 - 1), 10**6] and total["exact"][0] > 2**64
@@ -462,15 +462,15 @@ def test_the_greatest_numbers(wdp: str) -> None:
 # ---- what is tried, and the schema
 
 
-def list_kinds(audit: Audit, objects: list[Object], reported: list[Object]) -> dict[str, bool]:
+def list_kinds(audit: Audit, objects: list[Object], report: list[Object]) -> dict[str, bool]:
     """What is true of an audit, by the objects of `verify`, and of `report` for other solutions."""
     return {
         **list_lots(objects),
         **list_payments(audit, objects),
         **list_groups(audit, objects),
         **list_last(objects),
-        "a negative cost": any(each.get("cost", 0) < 0 for each in reported),
-        "a step above 1": audit.offered.step > 1,
+        "a negative cost": any(each.get("cost", 0) < 0 for each in report),
+        "a step above 1": audit.source.step > 1,
     }
 
 
@@ -510,7 +510,7 @@ def list_payments(audit: Audit, objects: list[Object]) -> dict[str, bool]:
         "a reserve binds a price": any(each["by_reserve"] for each in prices),
         "a group binds a price": bool(bound),
         "a group that was added binds a price": any(
-            number > len(audit.offered.groups) for number in bound
+            number > len(audit.source.groups) for number in bound
         ),
         "a group of several binds a price": any(
             len(groups[number]["left_out"]) > 1 for number in bound
@@ -541,7 +541,7 @@ def list_groups(audit: Audit, objects: list[Object]) -> dict[str, bool]:
     listed = audit.list_groups()
     first = {each["winner"] for each in objects if each.get("group") == 1 and "winner" in each}
     names = [each["left_out"] for each in objects if "left_out" in each]
-    forms = [number for number, _ in audit.offered.forms]
+    forms = [number for number, _ in audit.source.forms]
     return {
         "a group is listed twice": len({tuple(each) for each in names if each})
         < sum(map(bool, names)),
@@ -567,29 +567,29 @@ def list_last(objects: list[Object]) -> dict[str, bool]:
     }
 
 
-def list_judged(wdp: str, number: int) -> tuple[Audit, list[Object], list[Object]]:
+def judge_audit(wdp: str, number: int) -> tuple[Audit, list[Object], list[Object]]:
     """The audit of a random auction, and the judge's objects of it, and of a report on other solutions."""
     audit = make_audit(wdp, number)
-    reported = with_any_winners(audit.uncertified(), number)
+    report = with_any_winners(audit.keep_report_parts(), number)
     return (
         audit,
-        Judge(audit.offered, audit.read()).list_objects(),
-        Judge(reported.offered, reported.read_unproved()).list_objects(),
+        Judge(audit.source, audit.read()).list_objects(),
+        Judge(report.source, report.read_report()).list_objects(),
     )
 
 
 def test_each_kind_of_audit_and_each_member_of_the_schema_comes_up(wdp: str) -> None:
     counts = Counter[str]()
-    seen_members = Counter[str]()
+    members = Counter[str]()
     for number in range(AUCTIONS):
-        audit, objects, reported = list_judged(wdp, number)
-        counts.update(kind for kind, is_so in list_kinds(audit, objects, reported).items() if is_so)
-        for each in [*objects, *reported]:
+        audit, objects, report = judge_audit(wdp, number)
+        counts.update(kind for kind, is_so in list_kinds(audit, objects, report).items() if is_so)
+        for each in [*objects, *report]:
             VALIDATOR.validate(each)
-            seen_members.update(list_members(each))
+            members.update(list_members(each))
     assert {kind: counts[kind] for kind, least in LEAST.items() if counts[kind] < least} == {}
     assert {*LEAST} == {*counts}
-    assert {*seen_members} == {*list_schema_members()}
+    assert {*members} == {*list_schema_members()}
 
 
 def list_members(said: Object) -> Iterator[str]:

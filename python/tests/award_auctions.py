@@ -11,7 +11,10 @@ import tied_auctions as tied
 from tied_auctions import Auction, Bid, Group, Pool
 
 # names of each kind: some are those of another kind, words of the output, or as long as they may be
-BIDDERS = "Alpha Beta sum Gamma total A cost Delta price Epsilon x9 Sixteen16Letters Zeta group tie Eta prices".split()
+BIDDERS = (
+    "Alpha Beta sum Gamma total A cost Delta price Epsilon x9 Sixteen16Letters Zeta group tie Eta"
+    " prices"
+).split()
 CATEGORIES = "A B Alpha lots C11 SixteenLetters16 reserve".split()
 POOLS = "A Pool1 load sum".split()
 STEPS = (1, 1, 1, 5, 100)
@@ -19,7 +22,7 @@ MOST = 10**12  # pounds
 
 
 @dataclass(frozen=True)
-class Offered:
+class AuctionTexts:
     """An auction, its names, the groups as they are listed, and the texts of its rules and forms:
     each form with the number of its bidder, whose last form counts.
     """
@@ -43,7 +46,7 @@ class Offered:
         return b"%rules\n" + self.rules + forms + b"%groups\n" + groups.encode()
 
 
-def drawn(number: int) -> Offered:
+def draw_auction(number: int) -> AuctionTexts:
     """The random auction of this number."""
     draw = random.Random(f"objects {number}")
     auction = _add_wide_pool(_add_bidders(_draw_auction(draw), draw), draw)
@@ -53,7 +56,7 @@ def drawn(number: int) -> Offered:
     bidders = draw.sample(BIDDERS, len(auction.forms))
     categories = draw.sample(CATEGORIES, len(auction.supply))
     pools = draw.sample(POOLS, len(auction.pools))
-    return Offered(
+    return AuctionTexts(
         auction=auction,
         step=step,
         bidders=bidders,

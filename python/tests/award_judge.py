@@ -9,7 +9,7 @@ from fractions import Fraction
 from hashlib import sha256
 from typing import Any
 
-from award_auctions import Offered
+from award_auctions import AuctionTexts
 from priced_auctions import feasible
 from tied_auctions import Allocation, Auction, Bid, Group, Winner
 
@@ -18,7 +18,7 @@ MOST_OTHERS = 64
 
 
 @dataclass(frozen=True)
-class Shown:
+class Outcome:
     """What an audit shows of an auction: who wins without each group, in the order of the groups;
     what each winner of the first one pays in pounds, if there are prices; and other awards. `last`
     is what is known of further awards.
@@ -37,21 +37,21 @@ class Shown:
 class Judge:
     """Lists the objects of what is shown of an auction."""
 
-    offered: Offered
-    shown: Shown
+    source: AuctionTexts
+    outcome: Outcome
 
     @property
     def auction(self) -> Auction:
-        return self.offered.auction
+        return self.source.auction
 
     @property
     def first(self) -> Allocation:
-        return self.shown.won[0]
+        return self.outcome.won[0]
 
     def list_objects(self) -> list[Object]:
         """All objects, in their order."""
         return [
-            *list_forms(self.offered),
+            *list_forms(self.source),
             *self.list_categories(),
             *self.list_pools(),
             *self.list_groups(),
@@ -66,7 +66,7 @@ class Judge:
     def list_categories(self) -> list[Object]:
         sold = self.count_sold()
         categories = []
-        for place, name in enumerate(self.offered.categories):
+        for place, name in enumerate(self.source.categories):
             unsold = self.auction.supply[place] - sold[place]
             categories.append(
                 {
@@ -84,7 +84,7 @@ class Judge:
     def list_pools(self) -> list[Object]:
         sold = self.count_sold()
         pools = []
-        for name, pool in zip(self.offered.pools, self.auction.pools, strict=True):
+        for name, pool in zip(self.source.pools, self.auction.pools, strict=True):
             load = sum(weight * count for weight, count in zip(pool.weights, sold, strict=True))
             pools.append({"pool": name, "cap": pool.cap, "load": load, "left": pool.cap - load})
         return pools
@@ -97,12 +97,12 @@ class Judge:
     def list_groups(self) -> list[Object]:
         """Each group, followed by its winners."""
         objects: list[Object] = []
-        pairs = zip(self.shown.groups, self.shown.won, strict=True)
+        pairs = zip(self.outcome.groups, self.outcome.won, strict=True)
         for number, (group, allocation) in enumerate(pairs, 1):
             objects.append(
                 {
                     "group": number,
-                    "left_out": [self.offered.bidders[bidder - 1] for bidder in sorted(group)],
+                    "left_out": [self.source.bidders[bidder - 1] for bidder in sorted(group)],
                     "total": find_total(self.auction, allocation),
                     "cost": self.find_cost(self.first, group, allocation),
                     "pays": self.sum_paid(group),
@@ -115,11 +115,11 @@ class Judge:
         winners = []
         for bidder, number in allocation:
             bid = find_bid(self.auction, (bidder, number))
-            pairs = zip(self.offered.categories, bid.package, strict=True)
+            pairs = zip(self.source.categories, bid.package, strict=True)
             winners.append(
                 {
                     **of,
-                    "winner": self.offered.bidders[bidder - 1],
+                    "winner": self.source.bidders[bidder - 1],
                     "bid": number,
                     "amount": bid.amount,
                     "lots": {name: count for name, count in pairs if count},
@@ -129,14 +129,14 @@ class Judge:
         return winners
 
     def find_cost(self, award: Allocation, group: Group, without: Allocation) -> int:
-        """What a group costs the others if this award is the first one, by what is won without it."""
+        """What a group costs if this award is the first one, by what is won without the group."""
         amounts = [find_bid(self.auction, winner).amount for winner in award if winner[0] in group]
         others = find_total(self.auction, award) - sum(amounts)
         return find_total(self.auction, without) - others
 
     def sum_paid(self, group: Group) -> int | None:
         """What the winners of a group pay in whole pounds."""
-        prices = self.shown.prices
+        prices = self.outcome.prices
         if prices is None:
             return None
         return sum(math.ceil(price) for bidder, price in prices.items() if bidder in group)
@@ -144,8 +144,8 @@ class Judge:
     def list_awards(self) -> list[Object]:
         """Each other award, followed by its winners."""
         objects: list[Object] = []
-        for number, award in enumerate(self.shown.awards, 2):
-            pairs = zip(self.shown.groups, self.shown.won, strict=True)
+        for number, award in enumerate(self.outcome.awards, 2):
+            pairs = zip(self.outcome.groups, self.outcome.won, strict=True)
             objects.append(
                 {
                     "award": number,
@@ -159,15 +159,15 @@ class Judge:
     # ---- prices
 
     def list_prices(self) -> list[Object]:
-        if self.shown.prices is None:
+        if self.outcome.prices is None:
             return []
         objects = []
         for winner in self.first:
             bidder, _ = winner
-            exact = self.shown.prices[bidder]
+            exact = self.outcome.prices[bidder]
             objects.append(
                 {
-                    "price": self.offered.bidders[bidder - 1],
+                    "price": self.source.bidders[bidder - 1],
                     "pays": math.ceil(exact),
                     "exact": [exact.numerator, exact.denominator],
                     "alone": self.find_alone(winner),
@@ -182,7 +182,7 @@ class Judge:
 
     def find_alone(self, winner: Winner) -> int | None:
         """The greater of what the winner costs the others and the reserve of its lots."""
-        for group, allocation in zip(self.shown.groups, self.shown.won, strict=True):
+        for group, allocation in zip(self.outcome.groups, self.outcome.won, strict=True):
             if list(group) == [winner[0]]:
                 cost = self.find_cost(self.first, group, allocation)
                 return max(cost, self.find_reserve_of(winner))
@@ -190,9 +190,9 @@ class Judge:
 
     def list_binding(self, bidder: int) -> list[int]:
         """The numbers of the bidder's groups whose exact prices come to just the group's cost."""
-        prices = self.shown.prices or {}
+        prices = self.outcome.prices or {}
         numbers = []
-        pairs = zip(self.shown.groups, self.shown.won, strict=True)
+        pairs = zip(self.outcome.groups, self.outcome.won, strict=True)
         for number, (group, allocation) in enumerate(pairs, 1):
             paid = sum(price for each, price in prices.items() if each in group)
             is_bound = paid == self.find_cost(self.first, group, allocation)
@@ -217,12 +217,12 @@ class Judge:
                 "value_left": sum((supply - count) * value for supply, count, value in left),
             },
         ]
-        if self.shown.prices is not None:
-            exact = sum(self.shown.prices.values(), Fraction(0))
+        if self.outcome.prices is not None:
+            exact = sum(self.outcome.prices.values(), Fraction(0))
             sums.append(
                 {
                     "sum": "prices",
-                    "pays": sum(math.ceil(price) for price in self.shown.prices.values()),
+                    "pays": sum(math.ceil(price) for price in self.outcome.prices.values()),
                     "exact": [exact.numerator, exact.denominator],
                     "alone": sum_known(map(self.find_alone, self.first)),
                 }
@@ -230,24 +230,24 @@ class Judge:
         return sums
 
     def list_proved(self) -> list[str]:
-        if not self.shown.is_proved:
+        if not self.outcome.is_proved:
             return []
         proved = ["totals", "costs"]
-        if self.shown.prices is not None:
+        if self.outcome.prices is not None:
             proved.append("prices")
-        if self.shown.is_by_rule:
+        if self.outcome.is_by_rule:
             proved.append("by the rule")
-        if self.shown.last is not None:
-            proved.append(self.shown.last)
+        if self.outcome.last is not None:
+            proved.append(self.outcome.last)
         return proved
 
 
-def list_forms(offered: Offered) -> list[Object]:
+def list_forms(source: AuctionTexts) -> list[Object]:
     """What `forms` says of the rules, and of the last form of each bidder."""
-    last = dict(offered.forms)
-    objects: list[Object] = [{"rules": sha256(offered.rules).hexdigest(), "step": offered.step}]
+    last = dict(source.forms)
+    objects: list[Object] = [{"rules": sha256(source.rules).hexdigest(), "step": source.step}]
     for number, (name, bids) in enumerate(
-        zip(offered.bidders, offered.auction.forms, strict=True), 1
+        zip(source.bidders, source.auction.forms, strict=True), 1
     ):
         text = last.get(number)
         objects.append(
