@@ -1,6 +1,6 @@
 -- What the stages of an auction give.
 use Rattle.std.proofs.Common.{◌≡◌, ◌≤◌, ◌<◌, ◌+◌, ◌∷◌, ◌∙◌, [], ℕ, Bool, zero, suc, List, Option, None, Some, Result, Ok}
-use Rattle.std.proofs.Common.{Err, ap, ap₂, arith, length, map, refl, sym, inl, inr, ◌≢◌, Vec, codes, Global}
+use Rattle.std.proofs.Common.{Err, ap, ap₂, arith, length, map, refl, sym, inl, inr, Vec, codes, Global}
 use Rattle.std.specs.List.{last_or, range_with_len}
 use Rattle.auction_terms.specs.Allocations.{Book}
 use Rattle.auction_terms.specs.Terms.{Terms, lots_in}

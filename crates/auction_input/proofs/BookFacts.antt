@@ -21,7 +21,6 @@ use Rattle.auction_input.specs.Parts.{Part, has_bytes_before, input_fault, input
 use Rattle.auction_input.specs.Plan.{miscounted, taken_by}
 use Rattle.auction_input.specs.Requests.{target_of}
 use Rattle.auction_input.specs.Submissions.{forms_of}
-use Rattle.auction_input.specs.declared.form_texts.AnotherForm.{AnotherForm}
 use Rattle.auction_input.specs.declared.part_kind.PartKind.{PartKind}
 use Rattle.auction_input.specs.declared.part_kind.PartKind.TheVariants as kind
 use Rattle.auction_input.specs.declared.parts.PartFault.{PartFault}

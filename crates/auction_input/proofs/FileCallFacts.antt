@@ -1,6 +1,6 @@
 -- What files are asked, one call more at a time.
 use Rattle.std.proofs.Common.{◌≡◌, ◌+◌, ◌++◌, ◌∷◌, ◌∙◌, ℕ, Bool, List, [], None, Option, Some, ap, drop, map, sym, take}
-use Rattle.std.specs.Prelude.{String, flat_map}
+use Rattle.std.specs.Prelude.{String}
 use Rattle.std.proofs.lemmas.Grind.{flat_map-append}
 use Rattle.std.proofs.lemmas.List.{append-nil, append_assoc, map-append}
 use Rattle.auction_input.specs.FileCalls.{AreBegun, AreAsked, FileCall, look_at, looks, call_to_open, calls_to_open}

@@ -1,5 +1,5 @@
 -- The last form of each bidder, form by form; and what the stages of reading forms give.
-use Rattle.std.proofs.Common.{◌≡◌, ◌<◌, ◌+◌, ◌++◌, ◌==◌, ◌∷◌, ◌∙◌, [], ℕ, Bool, Option, true, false, List, None, Some, Result, Ok, Err, ap, append-nil}
+use Rattle.std.proofs.Common.{◌≡◌, ◌<◌, ◌++◌, ◌==◌, ◌∷◌, ◌∙◌, [], ℕ, Bool, Option, true, false, List, None, Some, Result, Ok, Err, ap, append-nil}
 use Rattle.std.proofs.Common.{arith, cond, inl, inr, codes, length, length-set, get_or-set_other}
 use Rattle.std.proofs.Common.{get_or-set_same, refl, slice_index_or, slice_set, sym}
 use Rattle.std.proofs.lemmas.Bool.{cases_Bool, eqb-false, eqb-true}

@@ -1,5 +1,5 @@
 -- Inputs with the same texts of rules and last forms are of one sale, by what they describe.
-use Rattle.std.proofs.Common.{◌≡◌, ◌≤◌, ◌+◌, ◌-◌, ◌∙◌, ℕ, List, [], None, Ok, Result, ap, ap₂, arith, codes, length, refl, slice_index_or, subst, sym}
+use Rattle.std.proofs.Common.{◌≡◌, ◌-◌, ◌∙◌, ℕ, List, [], None, Ok, Result, ap, ap₂, arith, codes, length, refl, slice_index_or, subst, sym}
 use Rattle.std.proofs.lemmas.List.FromFn.{get_or-map-range_with_len}
 use Rattle.std.specs.List.{last_or, zip}
 use Rattle.std.specs.Option.{option_map_or}

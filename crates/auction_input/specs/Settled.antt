@@ -1,5 +1,5 @@
 -- What an input leaves: an auction that is settled, or the first refusal.
-use Rattle.std.specs.Prelude.{◌≡◌, ◌≢◌, ◌⊎◌, List, Ok}
+use Rattle.std.specs.Prelude.{◌≡◌, ◌⊎◌, List, Ok}
 use Rattle.auction_input.specs.Auction.{Auction, parsed_auction}
 use Rattle.auction_terms.specs.Lines.{bytes_of}
 use Rattle.auction_input.specs.Described.{HasForms}

@@ -1,4 +1,3 @@
-use Rattle.std.proofs.Common.{◌≡◌, ◌++◌, ap, codes, sym}
 use Rattle.byte_sinks.proofs.AddingFacts.{Adds-then, Adds-to}
 use Rattle.byte_sinks.proofs.ObjectFacts.{parted-map}
 use Rattle.byte_sinks.specs.Objects.{count_seen, count_text, scalar_seen, scalar_text}
