@@ -4,7 +4,7 @@ use Rattle.std.specs.Prelude.{codes, decimal, option_map}
 use Rattle.answers.specs.Answer.{answer}
 use Rattle.answers.specs.Forms.{digest, form_line, form_object}
 use Rattle.answers.specs.inside.Forms.{forms_request, held_as, held_in, rules_as}
-use Rattle.byte_sinks.specs.Objects.{Member, named_number_if, named_text, named_text_if, object_text}
+use Rattle.byte_sinks.specs.Objects.{named_number_if, named_text, named_text_if, object_text}
 use Rattle.byte_sinks.specs.declared.json.Format.{Format}
 use Rattle.byte_sinks.specs.declared.json.Format.TheVariants as format
 use Rattle.auction_input.specs.Input.{Input}

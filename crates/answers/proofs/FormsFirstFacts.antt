@@ -24,7 +24,6 @@ use Rattle.auction_input.proofs.StageFacts.{after-ok, next, refuses-as, stop}
 use Rattle.auction_input.proofs.WithinFacts.{auction-within}
 use Rattle.auction_terms.specs.Stages.{and_then}
 use Rattle.award_objects.specs.Objects.{objects_shown}
-use Rattle.outcome.specs.Outcome.{Outcome}
 use Rattle.answers.proofs.PricedFacts.{auction-sized}
 use Rattle.answers.proofs.VerifiedFacts.{true-objects, verdicts, verified-is-true}
 

@@ -1,5 +1,5 @@
 -- What a run asks of files, by the looks and then by the calls_to_open.
-use Rattle.std.proofs.Common.{◌≡◌, ◌≢◌, ◌⊎◌, ◌++◌, ◌∷◌, ◌∙◌, ◌<◌, [], ℕ, Bool, List, None, Option, Some, Result, Ok, Err, OnErr, ap, arith, false, inl, inr, length, map, refl, suc, subst, sym, zero}
+use Rattle.std.proofs.Common.{◌≡◌, ◌≢◌, ◌⊎◌, ◌∷◌, ◌∙◌, ◌<◌, [], ℕ, Bool, List, None, Option, Some, Result, Ok, Err, OnErr, ap, arith, false, inl, inr, length, map, refl, suc, subst, sym, zero}
 use Rattle.std.specs.Prelude.{String}
 use Rattle.std.specs.Option.{option_map}
 use Rattle.std.proofs.lemmas.List.{append-nil}

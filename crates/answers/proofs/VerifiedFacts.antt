@@ -1,6 +1,6 @@
 -- What certificates show of what groups win.
-use Rattle.std.proofs.Common.{◌≡◌, ◌≤◌, ◌+◌, ◌++◌, ◌==◌, ◌∷◌, ◌∙◌, [], ℕ, true, false, List, Option, None, Result, Ok}
-use Rattle.std.proofs.Common.{Err, IfSome, ap, ap₂, arith, eqb-true, length, map, refl, subst, sym, OnOk, codes}
+use Rattle.std.proofs.Common.{◌≡◌, ◌≤◌, ◌+◌, ◌++◌, ◌==◌, ◌∷◌, ◌∙◌, [], ℕ, true, false, List, None, Result, Ok}
+use Rattle.std.proofs.Common.{Err, IfSome, ap, ap₂, arith, eqb-true, length, map, refl, subst, OnOk, codes}
 use Rattle.std.proofs.Common.{slice_index_or, option_map}
 use Rattle.auction_input.specs.Input.{Input}
 use Rattle.std.specs.List.{AllZip, zip}
@@ -15,7 +15,7 @@ use Rattle.optimality.specs.Laws.{IsBound}
 use Rattle.optimality.specs.Verdict.{certificate_fault}
 use Rattle.program_rows.specs.declared.certificate_fault.CertificateFaultKind.{CertificateFaultKind}
 use Rattle.outcome.proofs.CostFacts.{costs_are_bounded, costs_are_own}
-use Rattle.outcome.specs.Pricing.{Priced, pricing_text}
+use Rattle.outcome.specs.Pricing.{pricing_text}
 use Rattle.outcome.specs.Report.{report_text}
 use Rattle.bid_desk.specs.Sale.{Sale}
 use Rattle.outcome.specs.Others.{Others, others_text}

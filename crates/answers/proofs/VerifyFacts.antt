@@ -4,7 +4,6 @@ use Rattle.auction_terms.specs.declared.bids.Choice.{Choice}
 use Rattle.auction_input.specs.Auction.{Auction}
 use Rattle.answers.specs.Certified.{IsTooWide, bounds_of, certified}
 use Rattle.answers.specs.SolutionWinners.{winners_of_groups}
-use Rattle.answers.specs.Answer.{output_of}
 use Rattle.auction_input.specs.Refused.{Refuses}
 use Rattle.auction_input.specs.declared.refusal.Refusal.{Refusal}
 use Rattle.answers.specs.Claimed.{IsTooWideClaim, parsed_claims}

@@ -11,7 +11,6 @@ use Rattle.auction_input.specs.declared.request.Objects.{Objects}
 use Rattle.auction_input.specs.declared.request.Objects.TheVariants as objects
 use Rattle.auction_input.specs.declared.request.Request.TheVariants as request
 use Rattle.auction_input.specs.declared.request.Request.{Request}
-use Rattle.auction_input.specs.declared.request.Target.TheVariants as target
 use Rattle.auction_input.specs.declared.request.Target.{Target}
 use Rattle.answers.specs.declared.command_line.Command.{Command}
 use Rattle.byte_sinks.specs.declared.json.Format.TheVariants as format

@@ -6,7 +6,7 @@ use Rattle.auction_input.specs.LastForms.{FormParts, last_form}
 use Rattle.auction_terms.specs.declared.rules.Bidder.{Bidder}
 use Rattle.bid_forms.specs.Offers.{Offers}
 use Rattle.auction_terms.specs.Terms.{Terms}
-use Rattle.byte_sinks.specs.Objects.{Member, named_number, named_number_if, named_text, named_text_if, object_text}
+use Rattle.byte_sinks.specs.Objects.{named_number, named_number_if, named_text, named_text_if, object_text}
 use Rattle.outcome.specs.Report.{in_turn}
 
 -- the SHA-256 of bytes, in hexadecimal digits with small letters

@@ -37,7 +37,7 @@ abbrev pub VerifiedObjectsAreTrue : Type 0
 VerifiedObjectsAreTrue = (workers : ℕ) (input : Input) (out : List ℕ) → answer (Objects (objects.Verify workers)) input ≡ Ok out
     → (forms : List ℕ) × (said : List ℕ) × (out ≡ forms ++ said) × AreVerifiedObjects workers input forms said
 
--- objects that are true of the auction that an input describes were written, after those of its forms, and nothing else
+-- objects that are true of the auction that an input describes were written last, and nothing after them; `VerifiedObjectsAreTrue` says what comes before
 abbrev pub WritesTrueObjectsOn : ℕ → Input → Option (List ℕ) → Option (List ℕ) → Type 0
 WritesTrueObjectsOn workers input taken taken' =
     (auction : Auction) × Describes (Verify workers) input auction

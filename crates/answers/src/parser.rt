@@ -55,13 +55,13 @@ const MAP: Page = Page {
 const REPORT: Page = Page {
     name: "report",
     about: "Prints the winners of all groups' solutions, and the groups' opportunity costs",
-    below: "Input: %rules, a %form for each form, %groups, and a %solution for each group\nOutput: for each group its winners, their total, and its opportunity cost\nWrong number of parts: wdp explain --for report prints how many were found and wanted\nExample: sed '/^%certificate/,$d' examples/verified.txt | wdp report",
+    below: "Input: %rules, a %form for each form, %groups, and a %solution for each group\nOutput: for each group its winners, their total, and its opportunity cost; with --json objects, those of forms first\nWrong number of parts: wdp explain --for report prints how many were found and wanted\nExample: sed '/^%certificate/,$d' examples/verified.txt | wdp report",
 };
 
 const VERIFY: Page = Page {
     name: "verify",
     about: "Checks an audit, and prints its report and prices",
-    below: "Input: that of report, and a %certificate for each group; optionally %prices with %cover and %rule, up to 64 %tie, and %unique\nOutput: with --forms first that of forms; that of report, then the prices if given, then each other award after tie, and last unique, no other, or and more\nWrong number of parts: wdp explain --for verify prints how many were found and wanted\nExample: wdp verify examples/prices.txt",
+    below: "Input: that of report, and a %certificate for each group; optionally %prices with %cover and %rule, up to 64 %tie, and %unique\nOutput: with --forms first that of forms; that of report, then the prices if given, then each other award after tie, and last unique, no other, or and more; with --json objects, those of forms first\nWrong number of parts: wdp explain --for verify prints how many were found and wanted\nExample: wdp verify examples/prices.txt",
 };
 
 const EXPLAIN: Page = Page {
@@ -73,7 +73,7 @@ const EXPLAIN: Page = Page {
 const FORMS: Page = Page {
     name: "forms",
     about: "Prints the digests of the rules and of each bidder's last form",
-    below: "Input: %rules, and a %form for each form; other parts are ignored\nOutput: a line %rules DIGEST, and for each bidder %form NAME BIDS DIGEST, or %form NAME - without a form; a digest is the SHA-256 of a part\nExample: wdp forms examples/worked.txt",
+    below: "Input: %rules, and a %form for each form; other parts are ignored\nOutput: a line %rules DIGEST, and for each bidder %form NAME BIDS DIGEST, or %form NAME - without a form; a digest is the SHA-256 of a part; with --json objects\nExample: wdp forms examples/worked.txt",
 };
 
 // The command of a page, without options.

@@ -9,7 +9,7 @@ use Rattle.auction_input.specs.declared.request.Request.TheVariants as request
 use Rattle.auction_input.specs.declared.request.Request.{Request}
 use Rattle.auction_terms.specs.Terms.{Terms}
 use Rattle.auction_terms.specs.declared.rules.Bidder.{Bidder}
-use Rattle.byte_sinks.specs.Objects.{Member, named_number_if, named_text, named_text_if, object_text}
+use Rattle.byte_sinks.specs.Objects.{named_number_if, named_text, named_text_if, object_text}
 use Rattle.byte_sinks.specs.declared.json.Format.{Format}
 use Rattle.byte_sinks.specs.declared.json.Format.TheVariants as format
 use Rattle.outcome.specs.Report.{in_turn}

@@ -1,4 +1,3 @@
-use Rattle.byte_sinks.proofs.AddingFacts.{Adds-to}
 use Rattle.answers.proofs.commands.forms.add_bidder.Goals as goal
 
 pub returns-in-Json-None : goal.returns-in-Json-None

@@ -1,5 +1,5 @@
 use Rattle.std.specs.Prelude.{codes}
-use Rattle.std.proofs.Common.{◌≡◌, ◌∷◌, [], ap, map, None, Some}
+use Rattle.std.proofs.Common.{◌≡◌, ◌∷◌, [], ap, map, Some}
 use Rattle.byte_sinks.proofs.AddingFacts.{Adds-to}
 use Rattle.byte_sinks.specs.Objects.{member_seen, named_number_if, named_text, named_text_if, object_text}
 use Rattle.answers.specs.Forms.{digest}

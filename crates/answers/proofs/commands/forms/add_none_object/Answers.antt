@@ -1,8 +1,7 @@
 use Rattle.std.specs.Prelude.{codes}
-use Rattle.std.proofs.Common.{◌≡◌, ◌∷◌, [], ap, map, None, Some}
+use Rattle.std.proofs.Common.{◌≡◌, ◌∷◌, [], ap, map, None}
 use Rattle.byte_sinks.proofs.AddingFacts.{Adds-to}
 use Rattle.byte_sinks.specs.Objects.{member_seen, named_number_if, named_text, named_text_if, object_text}
-use Rattle.answers.specs.Forms.{digest}
 use Rattle.answers.proofs.commands.forms.add_none_object.Goals as goal
 
 pub returns : goal.returns

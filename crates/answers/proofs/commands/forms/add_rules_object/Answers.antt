@@ -1,5 +1,5 @@
 use Rattle.std.specs.Prelude.{codes}
-use Rattle.std.proofs.Common.{◌≡◌, ◌∷◌, [], ap, map, None, Some}
+use Rattle.std.proofs.Common.{◌≡◌, ◌∷◌, [], ap, map}
 use Rattle.byte_sinks.proofs.AddingFacts.{Adds-to}
 use Rattle.byte_sinks.specs.Objects.{member_seen, named_number, named_text, object_text}
 use Rattle.answers.specs.Forms.{digest}
