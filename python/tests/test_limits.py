@@ -213,9 +213,11 @@ def test_a_run_with_little_memory(
 def test_a_run_tells_how_long_its_steps_took(auction: AuctionFolder) -> None:
     said = auction.read_messages()
     took = next(line for line in said.splitlines() if "it took" in line)
-    assert re.fullmatch(r"auction: it took [\d.]+ s: .*; the longest, group \d: [\d.]+ s", took)
+    # (a group that begins and ends between two looks at those that are at work isn't seen)
+    longest = r"(; the longest, group \d: [\d.]+ s)?"
+    assert re.fullmatch(rf"auction: it took [\d.]+ s: [^;]*{longest}", took)
     for kind in ("programs", "groups", "prices", "report"):
-        assert re.search(rf"[:,] {kind} [\d.]+ s[,;]", took), kind
+        assert re.search(rf"[:,] {kind} [\d.]+ s([,;]|$)", took), kind
     assert "it took" not in auction.read_messages("--quiet")
 
 
